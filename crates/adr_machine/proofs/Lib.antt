@@ -1,0 +1,5 @@
+pub mod MapLemmas
+pub mod DigitLemmas
+pub mod RunLemmas
+pub mod KeyLemmas
+pub mod SameLemmas

@@ -1,0 +1,31 @@
+-- What a role may do and see.
+use Rattle.std.specs.Prelude.{ℕ, Bool, true, false, List, Option, None, Some, option_and_then, option_map, Result, Ok, Err}
+use Rattle.std.specs.Ordering.{nat_cmp}
+use Rattle.adr_text.specs.declared.refusal.Refusal.{Refusal}
+use Rattle.adr_text.specs.declared.refusal.Refusal.TheVariants.{Forbidden}
+use Rattle.adr_machine.specs.declared.base.Base.{Base}
+use Rattle.adr_machine.specs.declared.role.Role.{Role}
+use Rattle.adr_machine.specs.declared.role.Role.TheVariants.{Operator, Ven, Utility}
+use Rattle.adr_machine.specs.declared.sight.Sight.{Sight}
+use Rattle.adr_machine.specs.declared.sight.Sight.TheVariants.{All, Of}
+use Rattle.adr_machine.specs.Digits.{number_of}
+use Rattle.adr_machine.specs.Keys.{at}
+
+abbrev pub is_operator : Role → Bool
+is_operator Operator = true
+is_operator (Ven id) = false
+is_operator Utility = false
+
+-- the number of the ven of an id, where it is enrolled
+abbrev pub enrolled : Base → List ℕ → Option ℕ
+enrolled base id = option_and_then (λ n. option_map (λ v. n) (at nat_cmp n base.vens)) (number_of 118 id)
+
+abbrev pub sight_by : Option ℕ → Result Sight Refusal
+sight_by None = Err Forbidden
+sight_by (Some n) = Ok (Of n)
+
+-- what a role sees: the operator all, an enrolled ven what is its own, and another nothing
+abbrev pub sight_of : Base → Role → Result Sight Refusal
+sight_of base Operator = Ok All
+sight_of base (Ven id) = sight_by (enrolled base id)
+sight_of base Utility = Err Forbidden

@@ -1,0 +1,94 @@
+-- One step of the machine, and its replies to queries.
+use Rattle.std.specs.Prelude.{◌≡◌, ℕ, Bool, true, List, [], length, filter, take, drop, Option, None, Some, option_map, Result, Ok, Err}
+use Rattle.std.specs.List.{filter_map}
+use Rattle.std.specs.Ordering.{nat_cmp}
+use Rattle.std.specs.Option.{option_map_or}
+use Rattle.std.specs.Prelude.{◌==◌, false}
+use Rattle.adr_text.specs.Refusals.{◌>>=◌}
+use Rattle.adr_text.specs.declared.refusal.Refusal.{Refusal}
+use Rattle.adr_text.specs.declared.refusal.Refusal.TheVariants.{OutOfMemory, Store}
+use Rattle.adr_schema.specs.declared.shown.Stamps.{Stamps}
+use Rattle.adr_machine.specs.declared.base.Base.{Base}
+use Rattle.adr_machine.specs.declared.state.State.{State}
+use Rattle.adr_machine.specs.declared.keys.ViewKey.{ViewKey}
+use Rattle.adr_machine.specs.declared.keys.ViewKey.TheVariants as key
+use Rattle.adr_machine.specs.declared.view.Content.{Content}
+use Rattle.adr_machine.specs.declared.view.Content.TheVariants as content
+use Rattle.adr_machine.specs.declared.limits.Settings.{Settings}
+use Rattle.adr_machine.specs.declared.sight.Sight.{Sight}
+use Rattle.adr_machine.specs.declared.sight.Sight.TheVariants.{All, Of}
+use Rattle.adr_machine.specs.declared.command.Command.{Command}
+use Rattle.adr_machine.specs.declared.query.Page.{Page}
+use Rattle.adr_machine.specs.declared.query.Query.{Query}
+use Rattle.adr_machine.specs.declared.query.Query.TheVariants.{Events}
+use Rattle.adr_machine.specs.declared.answer.Object.{Object}
+use Rattle.adr_machine.specs.declared.answer.Object.TheVariants as object
+use Rattle.adr_machine.specs.declared.answer.Answer.{Answer}
+use Rattle.adr_machine.specs.declared.answer.Answer.TheVariants as answer
+use Rattle.adr_machine.specs.Keys.{view_cmp, at}
+use Rattle.adr_machine.specs.Views.{view}
+use Rattle.adr_machine.specs.Changes.{changes, restamped}
+use Rattle.adr_machine.specs.Edits.{edit}
+use Rattle.adr_machine.specs.Roles.{sight_of}
+
+-- the state at first
+abbrev pub empty : State
+empty = record { base = record { mirror = []; vens = []; resources = []; shares = []; serial = 0 }; stamps = [] }
+
+-- ---- steps
+
+-- the answer, or the number of changes where there is none yet
+abbrev pub answer_or_count : Option Answer → ℕ → Answer
+answer_or_count (Some a) count = a
+answer_or_count None count = answer.Changes count
+
+-- the base after an edit, with the stamps after the changes from the view before to the view after
+abbrev pub committed : State → ℕ → Option Answer → Base → Answer × State
+committed s now a base = (
+  answer_or_count a (length (changes (view s.base) (view base))),
+  record { base = base; stamps = restamped s.stamps (view s.base) (view base) now },
+)
+
+-- an edit, and then its commit; a refusal changes nothing
+abbrev pub step : Settings → State → ℕ → Command → Result (Answer × State) Refusal
+step settings s now command = edit settings.limits now s.base command >>= λ e. Ok (committed s now e.0 e.1)
+
+-- ---- replies
+
+-- the ven that owns a resource
+abbrev pub owner_of : Base → ℕ → Option ℕ
+owner_of base resource = option_map (λ r. r.ven) (at nat_cmp resource base.resources)
+
+-- whether what stands at a key is in sight
+abbrev pub sees : Base → Sight → ViewKey → Bool
+sees base All key = true
+sees base (Of ven) (key.Event event resource) = option_map_or (λ owner. owner == ven) (owner_of base resource) false
+
+-- what is shown at a key, with its stamps
+abbrev pub object_of : ViewKey → Content → Stamps → Object
+object_of (key.Event event resource) (content.Event shown) stamps = object.Event (record { resource = resource; event = event; shown = shown; stamps = stamps })
+
+abbrev pub object_at : List (ViewKey × Stamps) → ViewKey × Content → Option Object
+object_at stamps r = option_map (object_of r.0 r.1) (at view_cmp r.0 stamps)
+
+-- what is in sight, in the order of the keys, each with its stamps
+abbrev pub objects_in_sight : State → Sight → List Object
+objects_in_sight s sight = filter_map (object_at s.stamps) (filter (λ r. sees s.base sight r.0) (view s.base))
+
+-- after the first ones, at most so many
+abbrev pub page_of : Page → List Object → List Object
+page_of page objects = take page.limit (drop page.skip objects)
+
+-- the reply to a query
+unfoldable pub reply : State → Query → Result Answer Refusal
+reply s (Events role page) = sight_of s.base role >>= λ sight. Ok (answer.List (page_of page (objects_in_sight s sight)))
+
+-- the answer to who asks for the whole state
+abbrev pub image_of : State → Result State Refusal
+image_of s = Ok s
+
+-- a refusal that may stand in place of a result: want of memory and the store's in place of any
+abbrev pub IsRefusalOf : {A : Type 0} → Refusal → Result A Refusal → Type 0
+IsRefusalOf OutOfMemory r = Unit {0}
+IsRefusalOf Store r = Unit {0}
+IsRefusalOf refusal r = r ≡ Err refusal

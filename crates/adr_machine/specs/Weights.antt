@@ -1,0 +1,14 @@
+-- The weights of shares, and how many resources there may be.
+use Rattle.std.specs.Prelude.{ℕ, nat_le, Bool, ◌&&◌, Option, Some, None, if◌then◌else◌}
+
+abbrev pub most_weight : ℕ
+most_weight = 1_000_000
+
+abbrev pub is_weight : ℕ → Bool
+is_weight n = nat_le 1 n && nat_le n most_weight
+
+abbrev pub weight_of : ℕ → Option ℕ
+weight_of n = if is_weight n then Some n else None
+
+abbrev pub most_resources : ℕ
+most_resources = 10_000

@@ -1,0 +1,21 @@
+//! What the machine answers.
+use adr_schema::{EventObject, ResourceObject, ShareObject, VenObject};
+use adr_text::Rows;
+
+/// An object as it is shown.
+#[derive(Drop)]
+pub enum Object {
+    Event(EventObject),
+    Ven(VenObject),
+    Resource(ResourceObject),
+}
+
+/// An answer to a command or a query.
+#[derive(Drop)]
+pub enum Answer {
+    /// How many keys of the view changed.
+    Changes(u64),
+    Object(Object),
+    List(Rows<Object>),
+    Share(ShareObject),
+}

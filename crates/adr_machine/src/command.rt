@@ -1,0 +1,36 @@
+//! What the machine is told to do.
+use crate::role::Role;
+use adr_schema::{Found, ResourceIn, ShareIn, VenIn};
+use adr_text::{ObjectId, Rows};
+
+/// A command. Each is one step, at a moment.
+#[derive(Drop)]
+pub enum Command {
+    /// Versions of upstream objects were found, in a page that was polled or in a notification.
+    /// Refused where keys would pass their limit.
+    Evidence {
+        found: Rows<Found>,
+        polled: bool,
+    },
+    /// Enrols a ven. Refused for another role than the operator, for a name that a ven has, at the
+    /// limit of vens, and where the serial is used up.
+    VenAdd {
+        role: Role,
+        ven: VenIn,
+    },
+    /// Adds a resource to the ven of that id. Refused as for a ven, and where the ven isn't there.
+    ResourceAdd {
+        role: Role,
+        ven: ObjectId,
+        resource: ResourceIn,
+    },
+    /// Sets the share of the resource of that id in a program; 0 removes it. Refused for another
+    /// role than the operator, where the resource isn't there, for a share above 1,000,000, and at
+    /// the limit of shares.
+    ShareSet {
+        role: Role,
+        program: ObjectId,
+        resource: ObjectId,
+        share: ShareIn,
+    },
+}

@@ -1,0 +1,61 @@
+//! Steps: an edit, and then its commit.
+ghost use Rattle.std.specs.Prelude.{◌≡◌, ◌≢◌, Ok, Err, IfOk, IfErr};
+ghost use Rattle.adr_text.specs.declared.refusal.Refusal.TheVariants.{Store};
+ghost use Rattle.adr_machine.specs.Steps.{answer_or_count, committed, step, IsRefusalOf};
+
+use crate::answer::Answer;
+use crate::base::Base;
+use crate::changes::{changes_of, restamped};
+use crate::command::Command;
+use crate::edits::edited;
+use crate::limits::Settings;
+use crate::state::State;
+use crate::view::view_of;
+use adr_text::{Moment, Refusal};
+use std::alloc::{AllocError, Global};
+
+fn answer_or_count(answer: Option<Answer>, count: usize) -> Answer
+    ensures { result ≡ answer_or_count answer count }
+{
+    match answer {
+        Some(answer) => answer,
+        None => Answer::Changes(count as u64),
+    }
+}
+
+/// The base after an edit, with its stamps, and the answer.
+fn committed(
+    alloc: Global,
+    state: &State,
+    now: Moment,
+    answer: Option<Answer>,
+    base: Base,
+) -> Result<(Answer, State), AllocError>
+    ensures { IfOk result (λ next. next ≡ committed state.now now answer base) }
+{
+    let before = view_of(alloc, &state.base)?;
+    let after = view_of(alloc, &base)?;
+    let changes = changes_of(alloc, &before, &after)?;
+    let stamps = restamped(alloc, &state.stamps, &before, &after, now)?;
+    Ok((
+        answer_or_count(answer, changes.len()),
+        State { base, stamps },
+    ))
+}
+
+/// What a step answers and leaves, aside.
+pub(crate) fn next(
+    alloc: Global,
+    settings: &Settings,
+    state: &State,
+    now: Moment,
+    command: &Command,
+) -> Result<(Answer, State), Refusal>
+    ensures ok { IfOk result (λ next. step settings.now state.now now command.now ≡ Ok next) }
+    ensures refused { IfErr result (λ refusal. IsRefusalOf refusal (step settings.now state.now now command.now)) }
+    ensures no_store { result ≢ Err Store }
+{
+    let mut base = state.base.copy()?;
+    let answer = edited(alloc, &settings.limits, now, &mut base, command)?;
+    Ok(committed(alloc, state, now, answer, base)?)
+}

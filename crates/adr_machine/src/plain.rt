@@ -1,0 +1,84 @@
+//! The plain desk: it works on a copy, and puts that in place when nothing can fail any more.
+ghost use Rattle.std.specs.Prelude.{◌≡◌, ◌≢◌, Ok, Err, IfOk, IfErr, OnErr};
+ghost use Rattle.adr_text.specs.declared.refusal.Refusal.TheVariants.{Store};
+ghost use Rattle.adr_machine.specs.Steps.{empty, step, reply, image_of, IsRefusalOf};
+
+use crate::answer::Answer;
+use crate::command::Command;
+use crate::commit::next;
+use crate::desk::Desk;
+use crate::limits::Settings;
+use crate::query::Query;
+use crate::reply;
+use crate::state::State;
+use adr_text::{Moment, Refusal};
+use std::alloc::Global;
+
+/// A desk over plain maps in memory.
+#[derive(Drop)]
+pub struct PlainDesk {
+    alloc: Global,
+    settings: Settings,
+    state: State,
+}
+
+impl PlainDesk {
+    /// A desk with the state at first.
+    pub fn new(alloc: Global, settings: Settings) -> PlainDesk
+        ensures state { ⟦<PlainDesk as Desk>⟧.state result ≡ empty }
+        ensures settings { ⟦<PlainDesk as Desk>⟧.settings result ≡ settings }
+    {
+        PlainDesk {
+            alloc,
+            settings,
+            state: State::new(alloc),
+        }
+    }
+}
+
+impl Desk for PlainDesk {
+    ghost state = { λ d. d.state };
+
+    ghost settings = { λ d. d.settings };
+
+    ghost is_sound = { λ _. Unit {0} };
+
+    fn apply(&mut self, now: Moment, command: &Command) -> Result<Answer, Refusal>
+        ensures ok { IfOk result (λ answer. Unit {0} → step self.old.settings self.old.state now command.now ≡ Ok (answer, self.new.state)) }
+        ensures refused { IfErr result (λ refusal. Unit {0} → IsRefusalOf refusal (step self.old.settings self.old.state now command.now)) }
+        ensures unchanged { OnErr result (Unit {0} → self.new.state ≡ self.old.state) }
+        ensures was_sound { Unit {0} → Unit {0} }
+        ensures same_settings { self.new.settings ≡ self.old.settings }
+        ensures no_store { result ≢ Err Store }
+    {
+        let (answer, state) = next(self.alloc, &self.settings, &self.state, now, command)?;
+        self.state = state;
+        Ok(answer)
+    }
+
+    fn ask(&mut self, query: &Query) -> Result<Answer, Refusal>
+        ensures ok { IfOk result (λ answer. Unit {0} → reply self.old.state query.now ≡ Ok answer) }
+        ensures refused { IfErr result (λ refusal. Unit {0} → IsRefusalOf refusal (reply self.old.state query.now)) }
+        ensures unchanged { Unit {0} → self.new.state ≡ self.old.state }
+        ensures was_sound { Unit {0} → Unit {0} }
+        ensures same_settings { self.new.settings ≡ self.old.settings }
+        ensures no_store { result ≢ Err Store }
+    {
+        reply::reply(self.alloc, &self.state, query)
+    }
+
+    fn image(&mut self) -> Result<State, Refusal>
+        ensures ok { IfOk result (λ image. Unit {0} → image ≡ self.old.state) }
+        ensures refused { IfErr result (λ refusal. Unit {0} → IsRefusalOf refusal (image_of self.old.state)) }
+        ensures unchanged { Unit {0} → self.new.state ≡ self.old.state }
+        ensures was_sound { Unit {0} → Unit {0} }
+        ensures same_settings { self.new.settings ≡ self.old.settings }
+        ensures no_store { result ≢ Err Store }
+    {
+        Ok(self.state.copy()?)
+    }
+
+    fn settings(&self) -> &Settings {
+        &self.settings
+    }
+}

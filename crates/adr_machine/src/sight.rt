@@ -1,0 +1,68 @@
+//! What a role may do and see.
+ghost use Rattle.std.specs.Prelude.{◌≡◌, ◌≢◌, IfOk, IfErr, Ok, Err, option_map};
+ghost use Rattle.adr_text.specs.declared.refusal.Refusal.TheVariants.{Forbidden};
+ghost use Rattle.adr_machine.specs.Roles.{is_operator, enrolled, sight_of};
+ghost use Rattle.adr_machine.specs.Steps.{sees};
+
+use crate::base::Base;
+use crate::digits::number_of;
+use crate::keys::ViewKey;
+use crate::role::Role;
+use adr_schema::Number;
+use adr_text::{ObjectId, Refusal};
+
+/// What is in sight.
+#[derive(Clone, Copy, Debug, PartialEq, Eq)]
+pub enum Sight {
+    All,
+    /// What belongs to the ven of that number.
+    Of(Number),
+}
+
+pub(crate) fn is_operator(role: &Role) -> bool
+    ensures { result ≡ is_operator role.now }
+{
+    match role {
+        Role::Operator => true,
+        Role::Ven(_) | Role::Utility => false,
+    }
+}
+
+/// The number of the ven of that id, where it is enrolled.
+fn enrolled(base: &Base, id: &ObjectId) -> Option<Number>
+    ensures { result ≡ enrolled base.now id.now }
+{
+    let number = number_of(b'v', id)?;
+    if base.vens.get(&number).is_none() {
+        return None;
+    }
+    Some(number)
+}
+
+/// What the role sees, or `Forbidden`.
+pub(crate) fn sight_of(base: &Base, role: &Role) -> Result<Sight, Refusal>
+    ensures { result ≡ sight_of base.now role.now }
+{
+    match role {
+        Role::Operator => Ok(Sight::All),
+        Role::Ven(id) => match enrolled(base, id) {
+            Some(number) => Ok(Sight::Of(number)),
+            None => Err(Refusal::Forbidden),
+        },
+        Role::Utility => Err(Refusal::Forbidden),
+    }
+}
+
+/// Whether what stands at the key is in sight.
+pub(crate) fn sees(base: &Base, sight: Sight, key: &ViewKey) -> bool
+    ensures { result ≡ sees base.now sight key.now }
+{
+    let Sight::Of(ven) = sight else {
+        return true;
+    };
+    let ViewKey::Event(_, resource) = key;
+    match base.resources.get(*resource) {
+        Some(resource) => resource.ven == ven,
+        None => false,
+    }
+}

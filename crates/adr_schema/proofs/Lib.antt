@@ -1,0 +1,4 @@
+pub mod Plain
+pub mod Told
+pub mod Reading
+pub mod LawLemmas

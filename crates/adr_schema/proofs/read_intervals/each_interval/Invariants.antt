@@ -1,0 +1,14 @@
+use Rattle.std.proofs.Common.{◌≡◌, IsTrue, [], map, drop, vec_len}
+use Rattle.serde_json.specs.View.{view}
+use Rattle.adr_schema.specs.Intervals.{differ}
+use Rattle.adr_schema.specs.Events.{intervals_from}
+use Rattle.adr_schema.proofs.Reading.{with_front}
+use Rattle.adr_schema.proofs.read_intervals.each_interval.Given as goal
+
+-- the intervals so far and those that are left, after those, are all of them
+abbrev pub invariant-loop-v : goal.invariant-loop-v
+invariant-loop-v l = record {
+  len : vec_len l.intervals ≡ l.v-index;
+  apart : IsTrue (differ l.intervals.items);
+  so_far : with_front l.intervals.items (intervals_from l.intervals.items (map view (drop l.v-index l.values))) ≡ intervals_from [] (map view l.values);
+}

@@ -1,0 +1,165 @@
+-- What a JSON value is as the body of an event. The first fault wins, in the order that stands here.
+use Rattle.std.specs.Prelude.{ℕ, ℤ, nat_le, List, [], ◌∷◌, ◌++◌, length, codes, filter, Bool, true, false, Option, Some, None, option_and_then, unwrap_or, Result, Ok, Err, if◌then◌else◌}
+use Rattle.std.specs.List.{list_all, list_any, flat_map}
+use Rattle.std.specs.Str.{bytes_eq}
+use Rattle.serde_json.specs.Data.{Data, null, boolean, number, string, array, object}
+use Rattle.adr_text.specs.Refusals.{◌>>=◌}
+use Rattle.adr_text.specs.Fields.{whole_of, member_of, text_of, items_in, required, optional, each, whole_from, id_in, name_in, i32_in}
+use Rattle.adr_text.specs.declared.fault.Fault.{Fault}
+use Rattle.adr_text.specs.declared.fault.Fault.TheVariants.{NotOne, Repeated, BadShape}
+use Rattle.adr_schema.specs.declared.interval.Period.{Period}
+use Rattle.adr_schema.specs.declared.interval.Interval.{Interval}
+use Rattle.adr_schema.specs.declared.body.EventBody.{EventBody}
+use Rattle.adr_schema.specs.Limits.{text_within, setpoint_at, priority_at, most_intervals, most_names}
+use Rattle.adr_schema.specs.Intervals.{has_id}
+use Rattle.adr_schema.specs.NameSets.{name_set}
+
+abbrev pub is_object : Data → Bool
+is_object null = false
+is_object (boolean b) = false
+is_object (number n) = false
+is_object (string s) = false
+is_object (array ds) = false
+is_object (object ms) = true
+
+-- a list of objects. All of it is looked at before the first of them is read.
+unfoldable pub objects_in : Data → Result (List Data) Fault
+objects_in d = do
+  ds ← items_in d
+  if list_all is_object ds then Ok ds else Err BadShape
+
+unfoldable pub text_in : ℕ → Data → Result (List ℕ) Fault
+text_in most d = text_of d >>= text_within most
+
+unfoldable pub priority_in : Data → Result ℕ Fault
+priority_in d = whole_from (whole_of d) >>= priority_at
+
+unfoldable pub setpoint_in : Data → Result ℤ Fault
+setpoint_in d = whole_from (whole_of d) >>= setpoint_at
+
+unfoldable pub period_in : Data → Result Period Fault
+period_in d = do
+  start ← required (member_of (codes "start") d) (text_in 64)
+  duration ← optional (member_of (codes "duration") d) (text_in 64)
+  randomize_start ← optional (member_of (codes "randomizeStart") d) (text_in 64)
+  Ok (record { start = start; duration = duration; randomize_start = randomize_start })
+
+-- ---- payloads and targets: objects with a type
+
+abbrev pub type_in : Data → Result (List ℕ) Fault
+type_in d = required (member_of (codes "type") d) text_of
+
+-- whether the object's type is that text
+abbrev pub is_of_type : List ℕ → Data → Bool
+is_of_type text d = is_type_in text (type_in d)
+  where
+    is_type_in : List ℕ → Result (List ℕ) Fault → Bool
+    is_type_in text (Ok t) = bytes_eq t text
+    is_type_in text (Err e) = false
+
+-- all of them, where each of these has a type
+abbrev pub typed_as : List Data → List Data → Result (List Data) Fault
+typed_as all ds = each type_in ds >>= λ types. Ok all
+
+-- a list of objects with a type each
+unfoldable pub typed_in : Data → Result (List Data) Fault
+typed_in d = objects_in d >>= λ ds. typed_as ds ds
+
+-- the values of a payload or a target
+abbrev pub values_in : Data → Result (List Data) Fault
+values_in d = required (member_of (codes "values") d) items_in
+
+-- exactly one value
+abbrev pub one_of : List Data → Result Data Fault
+one_of [] = Err NotOne
+one_of (d ∷ []) = Ok d
+one_of (d ∷ e ∷ ds) = Err NotOne
+
+-- none, or exactly one
+abbrev pub only_one : List Data → Result (Option Data) Fault
+only_one [] = Ok None
+only_one (d ∷ []) = Ok (Some d)
+only_one (d ∷ e ∷ ds) = Err NotOne
+
+-- the setpoint that a payload says
+abbrev pub setpoint_of : Data → Result ℤ Fault
+setpoint_of d = values_in d >>= one_of >>= setpoint_in
+
+abbrev pub setpoint_where : Option Data → Result (Option ℤ) Fault
+setpoint_where None = Ok None
+setpoint_where (Some d) = setpoint_of d >>= λ s. Ok (Some s)
+
+unfoldable pub payloads_in : Data → Result (Option ℤ) Fault
+payloads_in d = do
+  payloads ← typed_in d
+  only ← only_one (filter (is_of_type (codes "DISPATCH_SETPOINT")) payloads)
+  setpoint_where only
+
+abbrev pub resource_target : Data → Bool
+resource_target d = is_of_type (codes "RESOURCE_NAME") d
+
+-- the names of one target
+abbrev pub names_of_target : Data → Result (List (List ℕ)) Fault
+names_of_target d = values_in d >>= each name_in
+
+abbrev pub joined : List (List (List ℕ)) → List (List ℕ)
+joined lists = flat_map (λ names. names) lists
+
+-- the names of these targets, in the order listed
+abbrev pub all_names : List Data → Result (List (List ℕ)) Fault
+all_names ds = each names_of_target ds >>= λ lists. Ok (joined lists)
+
+-- at most 10,000 names in all, each counted as often as it is listed
+abbrev pub name_set_of : List (List ℕ) → Result (List (List ℕ)) Fault
+name_set_of names = if nat_le (length names) most_names then Ok (name_set names) else Err BadShape
+
+-- the set of the names that these targets list
+abbrev pub names_of_targets : List Data → Result (Option (List (List ℕ))) Fault
+names_of_targets ds = all_names ds >>= name_set_of >>= λ set. Ok (Some set)
+
+-- the names of the resource targets, where there is such a target
+abbrev pub names_among : List Data → Result (Option (List (List ℕ))) Fault
+names_among targets =
+    if list_any resource_target targets then names_of_targets (filter resource_target targets) else Ok None
+
+unfoldable pub targets_in : Data → Result (Option (List (List ℕ))) Fault
+targets_in d = typed_in d >>= names_among
+
+-- ---- intervals
+
+-- an id that is not used before
+abbrev pub fresh_id : List Interval → Data → Result ℤ Fault
+fresh_id before d = required (member_of (codes "id") d) i32_in >>= λ id. if has_id id before then Err Repeated else Ok id
+
+-- one interval, where those before it are known
+unfoldable pub interval_in : List Interval → Data → Result Interval Fault
+interval_in before d = do
+  id ← fresh_id before d
+  period ← optional (member_of (codes "intervalPeriod") d) period_in
+  payloads ← optional (member_of (codes "payloads") d) payloads_in
+  Ok (record { id = id; period = period; setpoint = option_and_then (λ s. s) payloads })
+
+-- each interval in turn
+abbrev pub intervals_from : List Interval → List Data → Result (List Interval) Fault
+intervals_from before [] = Ok []
+intervals_from before (d ∷ ds) = do
+  i ← interval_in before d
+  is ← intervals_from (before ++ i ∷ []) ds
+  Ok (i ∷ is)
+
+unfoldable pub intervals_in : Data → Result (List Interval) Fault
+intervals_in d = do
+  ds ← objects_in d
+  if nat_le (length ds) most_intervals then intervals_from [] ds else Err BadShape
+
+-- ---- the body
+
+unfoldable pub event_in : Data → Result EventBody Fault
+event_in d = do
+  program ← required (member_of (codes "programID") d) id_in
+  name ← optional (member_of (codes "eventName") d) (text_in 256)
+  priority ← optional (member_of (codes "priority") d) priority_in
+  period ← optional (member_of (codes "intervalPeriod") d) period_in
+  targets ← optional (member_of (codes "targets") d) targets_in
+  intervals ← optional (member_of (codes "intervals") d) intervals_in
+  Ok (record { program = program; name = name; priority = priority; period = period; resource_names = option_and_then (λ t. t) targets; intervals = unwrap_or intervals [] })

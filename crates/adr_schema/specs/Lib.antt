@@ -1,0 +1,12 @@
+pub mod Limits
+pub mod Bytes
+pub mod Ids
+pub mod Intervals
+pub mod NameSets
+pub mod Bodies
+pub mod Events
+pub mod Pages
+pub mod Sites
+pub mod Canonical
+pub mod Objects
+pub mod Laws

@@ -1,0 +1,41 @@
+-- What is read from sites and operators.
+use Rattle.std.specs.Prelude.{ℕ, List, codes, Result, Ok}
+use Rattle.serde_json.specs.Data.{Data}
+use Rattle.adr_text.specs.Refusals.{◌>>=◌}
+use Rattle.adr_text.specs.Faults.{as_refusal}
+use Rattle.adr_text.specs.Fields.{text_of, member_of, required, name_in, u32_in}
+use Rattle.adr_text.specs.declared.fault.Fault.{Fault}
+use Rattle.adr_text.specs.declared.refusal.Refusal.{Refusal}
+use Rattle.adr_schema.specs.declared.site.VenIn.{VenIn}
+use Rattle.adr_schema.specs.declared.site.ResourceIn.{ResourceIn}
+use Rattle.adr_schema.specs.declared.site.ShareIn.{ShareIn}
+use Rattle.adr_schema.specs.Bytes.{bytes_as}
+use Rattle.adr_schema.specs.Limits.{resource_name_of}
+
+unfoldable pub resource_name_in : Data → Result (List ℕ) Fault
+resource_name_in d = text_of d >>= resource_name_of
+
+unfoldable pub ven_in : Data → Result VenIn Fault
+ven_in d = do
+  name ← required (member_of (codes "venName") d) name_in
+  Ok (record { name = name })
+
+unfoldable pub resource_in : Data → Result ResourceIn Fault
+resource_in d = do
+  name ← required (member_of (codes "resourceName") d) resource_name_in
+  Ok (record { name = name })
+
+unfoldable pub share_in : Data → Result ShareIn Fault
+share_in d = do
+  share ← required (member_of (codes "share") d) u32_in
+  Ok (record { share = share })
+
+-- what the bytes are as each of them, or the refusal of who posts them
+unfoldable pub ven_of : List ℕ → Result VenIn Refusal
+ven_of bytes = as_refusal (bytes_as ven_in bytes)
+
+unfoldable pub resource_of : List ℕ → Result ResourceIn Refusal
+resource_of bytes = as_refusal (bytes_as resource_in bytes)
+
+unfoldable pub share_of : List ℕ → Result ShareIn Refusal
+share_of bytes = as_refusal (bytes_as share_in bytes)

@@ -1,0 +1,85 @@
+//! Lists of objects that have a type each, as payloads and targets are.
+ghost use Rattle.std.specs.Prelude.{◌≡◌, Ok, codes, filter, map, option_map};
+ghost use Rattle.std.specs.List.{list_all};
+ghost use Rattle.serde_json.specs.View.{view};
+ghost use Rattle.adr_text.specs.Faults.{Finds};
+ghost use Rattle.adr_schema.specs.Events.{is_object, is_of_type, only_one, objects_in, type_in, typed_as, typed_in};
+
+use adr_text::{Fault, list, member, text};
+use serde_json::Value;
+
+fn all_objects(values: &[Value]) -> bool
+    ensures { result ≡ list_all (λ v. is_object (view v)) values.now }
+{
+    values.iter().all(|v| v.is_object())
+}
+
+// A list of objects. All of it is looked at before the first of them is read.
+#[tactic(auto, using(crate::proofs::Reading::rules_of_lists), unfolding(crate::specs::Events::objects_in))]
+pub(crate) fn objects(value: &Value) -> Result<&[Value], Fault>
+    ensures { Finds (λ vs. map view vs.now) result (objects_in (view value.now)) }
+{
+    let values = list(value)?;
+    if !all_objects(values) {
+        return Err(Fault::BadShape);
+    }
+    Ok(values)
+}
+
+fn type_of(value: &Value) -> Result<&str, Fault>
+    ensures { Finds (λ t. t.now) result (type_in (view value.now)) }
+{
+    match member(value, "type") {
+        Some(found) => text(found),
+        None => Err(Fault::BadShape),
+    }
+}
+
+// The same values, where each has a type.
+fn with_types(values: &[Value]) -> Result<&[Value], Fault>
+    ensures { Finds (λ vs. map view vs.now) result
+        (typed_as (map view values.now) (map view values.now)) }
+{
+    for v in values {
+        type_of(v)?;
+    }
+    Ok(values)
+}
+
+// A list of objects with a type each.
+#[tactic(auto, unfolding(crate::specs::Events::typed_in))]
+pub(crate) fn typed(value: &Value) -> Result<&[Value], Fault>
+    ensures { Finds (λ vs. map view vs.now) result (typed_in (view value.now)) }
+{
+    with_types(objects(value)?)
+}
+
+// Whether the object's type is that text.
+pub(crate) fn is_of_type(value: &Value, text: &str) -> bool
+    ensures { result ≡ is_of_type text.now (view value.now) }
+{
+    match member(value, "type") {
+        Some(found) => match found.as_str() {
+            Some(t) => t == text,
+            None => false,
+        },
+        None => false,
+    }
+}
+
+// The one value of that type, if there is one; `NotOne` where there are more.
+pub(crate) fn only_of_type<'v>(values: &'v [Value], text: &str) -> Result<Option<&'v Value>, Fault>
+    ensures { Finds (option_map (λ v. view v.now)) result
+        (only_one (filter (is_of_type text.now) (map view values.now))) }
+{
+    let mut only = None;
+    for v in values {
+        if is_of_type(v, text) {
+            if only.is_some() {
+                return Err(Fault::NotOne);
+            }
+            only = Some(v);
+        }
+    }
+    Ok(only)
+}

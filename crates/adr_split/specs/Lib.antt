@@ -1,0 +1,6 @@
+pub mod Limits
+pub mod Quotas
+pub mod Claims
+pub mod FairSplit
+pub mod Parts
+pub mod Laws

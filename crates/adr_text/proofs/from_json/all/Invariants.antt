@@ -1,0 +1,12 @@
+use Rattle.std.proofs.Common.{◌≡◌, map, drop, vec_len}
+use Rattle.serde_json.specs.View.{view}
+use Rattle.adr_text.specs.Fields.{each}
+use Rattle.adr_text.proofs.Each.{with_front}
+use Rattle.adr_text.proofs.from_json.all.Given as goal
+
+-- the items so far and those that are left are all of them
+abbrev pub invariant-loop-v : goal.invariant-loop-v
+invariant-loop-v g l = record {
+  len : vec_len l.items ≡ l.v-index;
+  so_far : with_front l.items.items (each g.T.FromJson.of (map view (drop l.v-index l.values))) ≡ each g.T.FromJson.of (map view l.values);
+}
