@@ -3,3 +3,4 @@ pub mod DigitLemmas
 pub mod RunLemmas
 pub mod KeyLemmas
 pub mod SameLemmas
+pub mod LawLemmas

@@ -13,3 +13,4 @@ pub mod Roles
 pub mod Edits
 pub mod Steps
 pub mod Runs
+pub mod Laws

@@ -10,6 +10,7 @@ mod desk;
 mod digits;
 mod edits;
 mod keys;
+pub mod laws;
 mod limits;
 mod lists;
 mod marks;

@@ -1,7 +1,7 @@
 -- What a reading that went well says of what it read.
-use Rattle.std.proofs.Common.{◌≡◌, ℕ, suc, ◌+◌, Bool, true, false, cond, not, ◌&&◌, ◌||◌, ℤ, pos, List, [], ◌∷◌, ◌++◌, length, codes, Option, Some, None, Result, Ok, Err, refl, sym, ap, ◌∙◌, append_assoc, true≢false, arith, IsTrue}
+use Rattle.std.proofs.Common.{◌≡◌, ℕ, suc, ◌+◌, Bool, true, false, cond, ◌||◌, ℤ, List, [], ◌∷◌, ◌++◌, length, codes, Option, Some, None, Result, Ok, Err, refl, sym, ap, ◌∙◌, true≢false, arith, IsTrue}
 use Rattle.std.specs.Prelude.{All, IfSome, option_and_then, unwrap_or, filter, count_by, is_err, nat_le}
-use Rattle.std.specs.List.{AllByRecursion, list_any, filter_map, cons_option}
+use Rattle.std.specs.List.{AllByRecursion, filter_map, cons_option}
 use Rattle.std.specs.Result.{result_ok}
 use Rattle.std.specs.Ordering.{int_eq}
 use Rattle.std.specs.Cmp.{signed_Decides}
@@ -10,7 +10,7 @@ use Rattle.std.proofs.lemmas.List.Folds.{list_any-append}
 use Rattle.std.proofs.lemmas.List.Sums.{sum_by-cons}
 use Rattle.serde_json.specs.Data.{Data}
 use Rattle.adr_text.specs.Refusals.{◌>>=◌}
-use Rattle.adr_text.specs.Fields.{member_of, whole_of, items_in, required, optional, whole_from, id_in, i32_in}
+use Rattle.adr_text.specs.Fields.{member_of, whole_of, required, optional, whole_from, id_in, i32_in}
 use Rattle.adr_text.specs.declared.fault.Fault.{Fault}
 use Rattle.adr_text.specs.declared.fault.Fault.TheVariants.{OutOfRange, Repeated, BadShape}
 use Rattle.adr_schema.specs.declared.kind.Kind.{Kind}
@@ -19,7 +19,7 @@ use Rattle.adr_schema.specs.declared.interval.Period.{Period}
 use Rattle.adr_schema.specs.declared.body.EventBody.{EventBody}
 use Rattle.adr_schema.specs.declared.body.Found.{Found}
 use Rattle.adr_schema.specs.Limits.{is_setpoint, setpoint_at, most_intervals}
-use Rattle.adr_schema.specs.Intervals.{has_id, differ_after, differ}
+use Rattle.adr_schema.specs.Intervals.{has_id, differ_after}
 use Rattle.adr_schema.specs.Events.{is_of_type, objects_in, text_in, priority_in, period_in, setpoint_in, typed_in, values_in, one_of, only_one, setpoint_of, setpoint_where, payloads_in, targets_in, fresh_id, interval_in, intervals_from, intervals_in, event_in}
 use Rattle.adr_schema.specs.Pages.{found_in, founds, skipped}
 use Rattle.adr_schema.specs.Laws.{IsSmall, HaveOwnIds}
@@ -182,9 +182,11 @@ event_read d e h =
     let period = followed (optional (member_of (codes "intervalPeriod") d) period_in) (event_4 d program.first name.first priority.first) e priority.then in
     let targets = followed (optional (member_of (codes "targets") d) targets_in) (event_5 d program.first name.first priority.first period.first) e period.then in
     let intervals = followed (optional (member_of (codes "intervals") d) intervals_in)
-      (λ intervals. Ok (record { program = program.first; name = name.first; priority = priority.first; period = period.first; resource_names = option_and_then (λ t. t) targets.first; intervals = unwrap_or intervals [] })) e targets.then in
-    let same = ap (λ (b : EventBody). b.intervals) (same_ok _ e intervals.then) in
-    rw same at (or_none intervals.first (optional_holds (AreRead []) (member_of (codes "intervals") d) intervals_in intervals.first intervals_read intervals.was))
+    (λ intervals. Ok (record { program = program.first; name = name.first; priority = priority.first; period = period.first; resource_names = option_and_then (λ t. t) targets.first; intervals = unwrap_or intervals [] })) e targets.then in
+    with_intervals _ e intervals.then (or_none intervals.first (optional_holds (AreRead []) (member_of (codes "intervals") d) intervals_in intervals.first intervals_read intervals.was))
+  where
+    with_intervals : (a b : EventBody) → ok a ≡ ok b → AreRead [] a.intervals → AreRead [] b.intervals
+    with_intervals a b e h = rw (← same_ok a b e) h
 
 pub setpoints_small : (d : Data) (e : EventBody) → event_in d ≡ Ok e → All IsSmall e.intervals
 setpoints_small d e h = All-from_recursion IsSmall e.intervals (event_read d e h).small

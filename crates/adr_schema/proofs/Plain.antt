@@ -4,7 +4,7 @@ use Rattle.serde_json.specs.Data.{Data, string}
 use Rattle.serde_json.specs.Written.{has_float}
 use Rattle.adr_text.proofs.ObjectLemmas.{IsPlain, FieldIsPlain, object_of_plain, array_of_plain}
 use Rattle.adr_text.specs.Objects.{array_of, whole_data}
-use Rattle.adr_text.specs.Refusals.{title_of, detail_of, status_of}
+use Rattle.adr_text.specs.Refusals.{status_of}
 use Rattle.adr_text.specs.declared.refusal.Refusal.{Refusal}
 use Rattle.adr_schema.specs.declared.interval.Period.{Period}
 use Rattle.adr_schema.specs.declared.interval.Interval.{Interval}

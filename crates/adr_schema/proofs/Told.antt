@@ -1,6 +1,6 @@
 -- A reading that is told as a refusal.
 use Rattle.std.proofs.Common.{Result, Ok, Err, ap}
-use Rattle.adr_text.specs.Faults.{Finds, Lacks, as_refusal, refusal_of}
+use Rattle.adr_text.specs.Faults.{Finds, as_refusal}
 use Rattle.adr_text.specs.Refusals.{Gives}
 use Rattle.adr_text.specs.declared.fault.Fault.{Fault}
 use Rattle.adr_text.specs.declared.fault.Fault.TheVariants.{OutOfMemory, Fraction, NotOne, Repeated, OutOfRange, BadShape}

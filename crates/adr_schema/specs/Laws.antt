@@ -1,5 +1,5 @@
 -- What every reading of an event and of a page keeps.
-use Rattle.std.specs.Prelude.{◌≡◌, ℤ, ◌+◌, List, ◌∷◌, ◌++◌, length, Float, Ok, Err, Option, Some, All, IfSome, IsTrue}
+use Rattle.std.specs.Prelude.{◌≡◌, ◌+◌, List, ◌∷◌, ◌++◌, length, Float, Ok, Err, All, IfSome, IsTrue}
 use Rattle.serde_json.specs.Data.{Data, number, float}
 use Rattle.adr_text.specs.declared.fault.Fault.TheVariants.{Fraction}
 use Rattle.adr_schema.specs.declared.kind.Kind.{Kind}

@@ -1,7 +1,6 @@
 //! What an upstream object says.
-ghost use Rattle.std.specs.Prelude.{◌≡◌, ◌≤◌, length, IsTrue, IfOk};
+ghost use Rattle.std.specs.Prelude.{◌≡◌, IsTrue, IfOk};
 ghost use Rattle.adr_text.specs.Faults.{Finds};
-ghost use Rattle.adr_text.specs.Ids.{is_id};
 ghost use Rattle.adr_schema.specs.Limits.{is_upstream_id, upstream_id_of};
 
 use crate::interval::{Intervals, Period, same_period};

@@ -1,7 +1,4 @@
 //! The body of an event, read from JSON. The first fault wins.
-ghost use Rattle.std.specs.Prelude.{◌≡◌, map};
-ghost use Rattle.serde_json.specs.View.{view};
-ghost use Rattle.adr_text.specs.Faults.{Finds};
 ghost use Rattle.adr_schema.specs.Events.{text_in, priority_in, period_in, event_in};
 
 use crate::body::EventBody;

@@ -1,5 +1,5 @@
 //! Pages of upstream objects, read from JSON.
-ghost use Rattle.std.specs.Prelude.{◌≡◌, codes, map, Ok};
+ghost use Rattle.std.specs.Prelude.{codes, map, Ok};
 ghost use Rattle.serde_json.specs.View.{view};
 ghost use Rattle.adr_text.specs.Faults.{Finds};
 ghost use Rattle.adr_text.specs.Refusals.{Gives};

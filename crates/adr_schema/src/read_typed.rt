@@ -1,5 +1,5 @@
 //! Lists of objects that have a type each, as payloads and targets are.
-ghost use Rattle.std.specs.Prelude.{◌≡◌, Ok, codes, filter, map, option_map};
+ghost use Rattle.std.specs.Prelude.{◌≡◌, Ok, filter, map, option_map};
 ghost use Rattle.std.specs.List.{list_all};
 ghost use Rattle.serde_json.specs.View.{view};
 ghost use Rattle.adr_text.specs.Faults.{Finds};

@@ -1,5 +1,5 @@
 //! What sites and operators post.
-ghost use Rattle.std.specs.Prelude.{◌≡◌, IsTrue, IfOk};
+ghost use Rattle.std.specs.Prelude.{◌≡◌, IsTrue};
 ghost use Rattle.adr_text.specs.Faults.{Finds};
 ghost use Rattle.adr_schema.specs.Limits.{is_resource_name, resource_name_of};
 

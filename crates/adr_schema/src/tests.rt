@@ -273,6 +273,44 @@ fn lengths_of_texts(rt: HostRuntime) -> Result<(), Fail> {
     Ok(())
 }
 
+// So many intervals, each with an id of its own.
+fn intervals_text(alloc: Global, count: u32) -> Result<String, AllocError> {
+    let mut text = String::new(alloc);
+    for id in 0..count {
+        let separator = if id == 0 { "[" } else { "," };
+        text.push_str(separator)?;
+        text.push_str(format!(in alloc; "{{\"id\":{id}}}")?.as_str())?;
+    }
+    text.push(']')?;
+    Ok(text)
+}
+
+// So many names, all of them one.
+fn targets_text(alloc: Global, count: u32) -> Result<String, AllocError> {
+    let mut text = String::from_str(alloc, "[{\"type\":\"RESOURCE_NAME\",\"values\":")?;
+    for k in 0..count {
+        text.push_str(if k == 0 { "[\"a\"" } else { ",\"a\"" })?;
+    }
+    text.push_str("]}]")?;
+    Ok(text)
+}
+
+// An event has at most 1,000 intervals and lists at most 10,000 names, each as often as it is listed.
+#[test]
+fn lengths_of_lists(rt: HostRuntime) -> Result<(), Fail> {
+    let alloc = rt.alloc();
+    for (count, reason) in [(1, 0), (1000, 0), (1001, 5)] {
+        let intervals = intervals_text(alloc, count)?;
+        assert_eq!(rt; event_of(alloc, intervals.as_str())?, reason, "{count}");
+    }
+    for (count, reason) in [(10000, 0), (10001, 5)] {
+        let targets = targets_text(alloc, count)?;
+        let members = format!(in alloc; "\"targets\":{targets}")?;
+        assert_eq!(rt; event_with(alloc, members.as_str())?, reason, "{count}");
+    }
+    Ok(())
+}
+
 // A program's name has 1 to 128 bytes, whatever else its body has the wrong shape.
 #[test]
 fn programs(rt: HostRuntime) -> Result<(), Fail> {

@@ -1,6 +1,5 @@
 //! Objects, written as JSON.
 ghost use Rattle.std.specs.Prelude.{◌≡◌, ⊤, [], ◌∷◌, IfOk, OnOk, option_map, string_bytes};
-ghost use Rattle.serde_json.specs.Data.{string};
 ghost use Rattle.serde_json.specs.View.{view, members_view};
 ghost use Rattle.adr_text.specs.Objects.{add_all, array_of, whole_data};
 ghost use Rattle.adr_schema.specs.Objects.{values_data, payloads_data, targets_data, shown_interval_data, event_object_head, event_object_tail, event_object_data, ven_object_data, resource_object_data, share_object_data, problem_data, event_text, events_text, ven_text, resource_text, share_text, problem_text};

@@ -1,10 +1,8 @@
 //! The canonical text of a body.
-ghost use Rattle.std.specs.Prelude.{◌≡◌, ⊤, [], ◌∷◌, IfOk, string_bytes};
-ghost use Rattle.serde_json.specs.Data.{string};
+ghost use Rattle.std.specs.Prelude.{◌≡◌, ⊤, [], ◌∷◌, map, IfOk, string_bytes};
 ghost use Rattle.serde_json.specs.View.{view};
-ghost use Rattle.adr_text.specs.Objects.{array_of, object_of, whole_data};
-ghost use Rattle.adr_schema.specs.Canonical.{natural_data, texts_data, interval_data, event_data, body_data, canonical_text};
-ghost use Rattle.std.specs.Prelude.{map};
+ghost use Rattle.adr_text.specs.Objects.{array_of, object_of};
+ghost use Rattle.adr_schema.specs.Canonical.{texts_data, interval_data, event_data, body_data, canonical_text};
 
 use crate::body::{Body, EventBody};
 use crate::interval::{Interval, Intervals};

@@ -1,7 +1,7 @@
 //! Fields of written objects.
-ghost use Rattle.std.specs.Prelude.{◌≡◌, ⊤, ℤ, pos, [], ◌∷◌, IfOk, OnOk, option_map, string_bytes, false};
+ghost use Rattle.std.specs.Prelude.{◌≡◌, ⊤, [], ◌∷◌, IfOk, OnOk, string_bytes, false};
 ghost use Rattle.serde_json.specs.Written.{has_float, compact_text};
-ghost use Rattle.serde_json.specs.Data.{Data, string, put as with_member};
+ghost use Rattle.serde_json.specs.Data.{string, put as with_member};
 ghost use Rattle.serde_json.specs.View.{view, members_view};
 ghost use Rattle.adr_text.specs.Objects.{whole_data};
 ghost use Rattle.adr_schema.specs.Canonical.{natural_data, period_data};

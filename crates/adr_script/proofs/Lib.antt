@@ -1,0 +1,4 @@
+pub mod TurnLemmas
+pub mod ScriptLemmas
+pub mod OutputLemmas
+pub mod TextLemmas

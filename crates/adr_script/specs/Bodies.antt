@@ -1,0 +1,87 @@
+-- What is printed: the texts of answers, and of refusals.
+use Rattle.std.specs.Prelude.{ℕ, List, [], ◌∷◌, ◌++◌, codes, Result, Ok, Err}
+use Rattle.std.specs.List.{flat_map}
+use Rattle.std.specs.Fmt.{decimal}
+use Rattle.adr_text.specs.Refusals.{number_of, title_of, status_of}
+use Rattle.adr_text.specs.declared.refusal.Refusal.{Refusal}
+use Rattle.adr_schema.specs.Objects.{event_text, ven_text, resource_text, share_text, problem_text}
+use Rattle.adr_machine.specs.declared.answer.Object.{Object}
+use Rattle.adr_machine.specs.declared.answer.Object.TheVariants.{Event, Ven, Resource}
+use Rattle.adr_machine.specs.declared.answer.Answer.{Answer}
+use Rattle.adr_machine.specs.declared.answer.Answer.TheVariants as answer
+use Rattle.adr_script.specs.declared.asked.Asked.{Asked}
+use Rattle.adr_script.specs.declared.asked.Asked.TheVariants as asked
+use Rattle.adr_machine.specs.declared.command.Command.{Command}
+use Rattle.adr_machine.specs.declared.command.Command.TheVariants.{Evidence, VenAdd, ResourceAdd, ShareSet}
+
+-- an object
+abbrev pub object_text : Object → List ℕ
+object_text (Event e) = event_text e
+object_text (Ven v) = ven_text v
+object_text (Resource r) = resource_text r
+
+-- the objects behind the first, each behind a comma
+abbrev pub behind_commas : List Object → List ℕ
+behind_commas objects = flat_map (λ o. 44 ∷ object_text o) objects
+
+-- a list of objects, in brackets
+abbrev pub list_text : List Object → List ℕ
+list_text [] = codes "[]"
+list_text (o ∷ objects) = 91 ∷ object_text o ++ behind_commas objects ++ 93 ∷ []
+
+-- the body of an answer; a count of changes is told to nobody
+unfoldable pub answer_text : Answer → List ℕ
+answer_text (answer.Changes n) = codes "{}"
+answer_text (answer.Object o) = object_text o
+answer_text (answer.List objects) = list_text objects
+answer_text (answer.Share s) = share_text s
+
+-- 201 where an object was posted, else 200
+abbrev pub command_status : Command → ℕ
+command_status (Evidence found polled) = 200
+command_status (VenAdd role ven) = 201
+command_status (ResourceAdd role ven resource) = 201
+command_status (ShareSet role program resource share) = 200
+
+abbrev pub status_for : Asked → ℕ
+status_for (asked.Command c) = command_status c
+status_for (asked.Query q) = 200
+
+-- `STATUS BODY`
+abbrev pub reply_line : ℕ → List ℕ → List ℕ
+reply_line status body = decimal status ++ 32 ∷ body ++ 10 ∷ []
+
+-- `changes N skipped M`
+unfoldable pub changes_line : ℕ → ℕ → List ℕ
+changes_line changes skipped = codes "changes " ++ decimal changes ++ codes " skipped " ++ decimal skipped ++ 10 ∷ []
+
+unfoldable pub bad_line : List ℕ
+bad_line = codes "bad line" ++ 10 ∷ []
+
+-- a refused request: its status and the problem
+unfoldable pub problem_line : Refusal → List ℕ
+problem_line r = reply_line (status_of r) (problem_text r)
+
+abbrev pub refused_by : ℕ → List ℕ → List ℕ
+refused_by number title = codes "refused " ++ decimal number ++ 32 ∷ title ++ 10 ∷ []
+
+-- a refused step of the node: `refused N TITLE`
+unfoldable pub refused_line : Refusal → List ℕ
+refused_line r = refused_by (number_of r) (title_of r)
+
+-- how many changes an answer tells
+abbrev pub changes_in : Answer → ℕ
+changes_in (answer.Changes n) = n
+changes_in (answer.Object o) = 0
+changes_in (answer.List objects) = 0
+changes_in (answer.Share s) = 0
+
+-- what a request prints
+abbrev pub request_text : ℕ → Result Answer Refusal → List ℕ
+request_text status (Ok answer) = reply_line status (answer_text answer)
+request_text status (Err refusal) = problem_line refusal
+
+-- what a page prints
+abbrev pub page_text : ℕ → Result Answer Refusal → List ℕ
+page_text skipped (Ok answer) = changes_line (changes_in answer) skipped
+page_text skipped (Err refusal) = refused_line refusal

@@ -1,0 +1,9 @@
+pub mod Cuts
+pub mod Words
+pub mod Queries
+pub mod Paths
+pub mod Requests
+pub mod Bodies
+pub mod Turns
+pub mod Lines
+pub mod Scripts

@@ -1,0 +1,109 @@
+-- One line's turn: what it prints, and the state that it leaves.
+use Rattle.std.specs.Prelude.{◌≡◌, ◌⊎◌, ℕ, true, false, List, [], codes, Option, Some, None, bytes_eq, Result, Ok, Err, if◌then◌else◌}
+use Rattle.adr_text.specs.Refusals.{◌>>=◌}
+use Rattle.adr_text.specs.declared.refusal.Refusal.{Refusal}
+use Rattle.adr_text.specs.declared.refusal.Refusal.TheVariants.{OutOfMemory, Store}
+use Rattle.adr_schema.specs.declared.body.Found.{Found}
+use Rattle.adr_schema.specs.declared.kind.Kind.TheVariants as kind
+use Rattle.adr_schema.specs.Pages.{page_of}
+use Rattle.adr_machine.specs.declared.state.State.{State}
+use Rattle.adr_machine.specs.declared.limits.Settings.{Settings}
+use Rattle.adr_machine.specs.declared.answer.Answer.{Answer}
+use Rattle.adr_machine.specs.declared.command.Command.TheVariants.{Evidence}
+use Rattle.adr_machine.specs.Steps.{step, reply}
+use Rattle.adr_machine.specs.Runs.{told, state_after, stands}
+use Rattle.adr_script.specs.declared.asked.Asked.{Asked}
+use Rattle.adr_script.specs.declared.asked.Asked.TheVariants as asked
+use Rattle.adr_script.specs.Cuts.{cut, behind}
+use Rattle.adr_script.specs.Words.{moment_at}
+use Rattle.adr_script.specs.Requests.{request_of}
+use Rattle.adr_script.specs.Bodies.{status_for, bad_line, problem_line, refused_line, request_text, page_text}
+
+-- what is printed of the machine's answer, and the state after it
+abbrev pub turn_by : (Result Answer Refusal → List ℕ) → State → Result (Answer × State) Refusal → List ℕ × State
+turn_by text s r = (text (told r), state_after s r)
+
+-- ---- requests
+
+-- the machine's answer to what is asked, and the state after it; a query leaves the state
+abbrev pub asked_step : Settings → State → ℕ → Asked → Result (Answer × State) Refusal
+asked_step settings s now (asked.Command c) = step settings s now c
+asked_step settings s now (asked.Query q) = reply s q >>= λ a. Ok (a, s)
+
+-- as the words of the request were read
+abbrev pub request_turn : Settings → State → ℕ → Result (Option Asked) Refusal → List ℕ × State
+request_turn settings s now (Ok None) = (bad_line, s)
+request_turn settings s now (Ok (Some a)) = turn_by (request_text (status_for a)) s (asked_step settings s now a)
+request_turn settings s now (Err refusal) = (problem_line refusal, s)
+
+-- ---- steps of the node
+
+-- a page counts as polled
+abbrev pub page_step : Settings → State → ℕ → List Found → Result (Answer × State) Refusal
+page_step settings s now found = step settings s now (Evidence found true)
+
+-- as the page was read
+abbrev pub page_turn : Settings → State → ℕ → Result (List Found × ℕ) Refusal → List ℕ × State
+page_turn settings s now (Ok (found, skipped)) = turn_by (page_text skipped) s (page_step settings s now found)
+page_turn settings s now (Err refusal) = (refused_line refusal, s)
+
+-- `page events JSON`
+abbrev pub node_turn : Settings → State → ℕ → Option (List ℕ) → List ℕ × State
+node_turn settings s now None = (bad_line, s)
+node_turn settings s now (Some json) = page_turn settings s now (page_of kind.Event json)
+
+-- ---- lines
+
+-- the step of a role, or of the node itself
+unfoldable pub turn_of : Settings → State → ℕ → List ℕ → List ℕ → List ℕ × State
+turn_of settings s now role rest =
+    if bytes_eq role (codes "node") then node_turn settings s now (behind (codes "page events ") rest)
+    else request_turn settings s now (request_of role rest)
+
+abbrev pub turn_at : Settings → State → Option ℕ → List ℕ × Option (List ℕ) → List ℕ × State
+turn_at settings s None role = (bad_line, s)
+turn_at settings s (Some now) (role, None) = (bad_line, s)
+turn_at settings s (Some now) (role, Some rest) = turn_of settings s now role rest
+
+abbrev pub turn_behind : Settings → State → List ℕ × Option (List ℕ) → List ℕ × State
+turn_behind settings s (moment, None) = (bad_line, s)
+turn_behind settings s (moment, Some rest) = turn_at settings s (moment_at moment) (cut 32 rest)
+
+-- what a line that isn't empty prints, and the state that it leaves
+unfoldable pub line_turn : Settings → State → List ℕ → List ℕ × State
+line_turn settings s line = turn_behind settings s (cut 32 line)
+
+-- ---- want of memory
+
+-- what a refused step prints: of the node itself, or of a role
+unfoldable pub want_by : List ℕ → Refusal → List ℕ
+want_by role refusal = if bytes_eq role (codes "node") then refused_line refusal else problem_line refusal
+
+-- the word behind the moment
+abbrev pub role_behind : List ℕ × Option (List ℕ) → List ℕ
+role_behind (moment, None) = []
+role_behind (moment, Some rest) = (cut 32 rest).0
+
+-- what a line prints where its step was refused
+unfoldable pub want_line : List ℕ → Refusal → List ℕ
+want_line line refusal = want_by (role_behind (cut 32 line)) refusal
+
+-- a desk's answer: the machine's; or want of memory or the store's refusal in its place, and no step
+abbrev pub Outcome : State → Result (Answer × State) Refusal → Result Answer Refusal → State → Type 0
+Outcome s r answer t = ((answer ≡ told r) × (t ≡ state_after s r)) ⊎ ((stands answer ≡ false) × (t ≡ s))
+
+-- a turn as it was taken: as it is defined; or want of memory or the store's refusal in its place, and no step;
+-- or want of memory in place of the text of a step that was taken
+abbrev pub Takes : (Refusal → List ℕ) → State → List ℕ × State → List ℕ → State → Type 0
+Takes want s turn out t =
+    ((out ≡ turn.0) × (t ≡ turn.1))
+    ⊎ (((out ≡ want OutOfMemory) ⊎ (out ≡ want Store)) × (t ≡ s))
+    ⊎ ((out ≡ want OutOfMemory) × (t ≡ turn.1))
+
+-- the state behind a turn whose text could not be built: the step was taken, or it wasn't
+abbrev pub Leaves : State → List ℕ × State → State → Type 0
+Leaves s turn t = (t ≡ s) ⊎ (t ≡ turn.1)
+
+-- from s, what a line that isn't empty may print, and the state that it may leave
+unfoldable pub IsTurn : Settings → State → List ℕ → List ℕ → State → Type 0
+IsTurn settings s line out t = Takes (want_line line) s (line_turn settings s line) out t

@@ -1,0 +1,28 @@
+-- The words of a line: moments, ids and roles.
+use Rattle.std.specs.Prelude.{ℕ, List, codes, Option, Some, None, option_map, option_and_then, bytes_eq, if◌then◌else◌}
+use Rattle.std.specs.Result.{result_ok}
+use Rattle.std.specs.Str.{is_utf8}
+use Rattle.adr_text.specs.Ids.{id_of}
+use Rattle.adr_text.specs.Moments.{moment_of}
+use Rattle.adr_machine.specs.declared.role.Role.{Role}
+use Rattle.adr_machine.specs.declared.role.Role.TheVariants.{Operator, Ven, Utility}
+use Rattle.adr_script.specs.Cuts.{behind}
+
+-- the bytes, where they are text
+unfoldable pub text_at : List ℕ → Option (List ℕ)
+text_at bytes = if is_utf8 bytes then Some bytes else None
+
+-- the moment that the bytes say
+unfoldable pub moment_at : List ℕ → Option ℕ
+moment_at bytes = option_and_then (λ text. result_ok (moment_of text)) (text_at bytes)
+
+-- the object id that the bytes are
+unfoldable pub id_at : List ℕ → Option (List ℕ)
+id_at bytes = option_and_then (λ text. result_ok (id_of text)) (text_at bytes)
+
+-- `operator`, `utility` or `ven:` and an id
+unfoldable pub role_at : List ℕ → Option Role
+role_at bytes =
+    if bytes_eq bytes (codes "operator") then Some Operator
+    else (if bytes_eq bytes (codes "utility") then Some Utility
+    else option_map Ven (option_and_then id_at (behind (codes "ven:") bytes)))

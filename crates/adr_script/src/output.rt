@@ -1,0 +1,20 @@
+//! Writes all of some bytes.
+ghost use Rattle.std.specs.Prelude.{◌≡◌, ◌+◌, OnOk, OnErr};
+ghost use Rattle.std.specs.Io.KnownBytes.{Appends};
+ghost use Rattle.adr_script.specs.Scripts.{WritesPart};
+
+use adr_text::{IoFault, Sink};
+
+/// Writes all of the bytes, in as many writes as the sink wants.
+pub(crate) fn write_all<W: Sink>(sink: &mut W, bytes: &[u8]) -> Result<(), IoFault>
+    ensures ok { OnOk result (Appends (W.written sink.old) (W.written sink.new) bytes.now) }
+    ensures err { OnErr result (WritesPart (W.written sink.old) (W.written sink.new) bytes.now) }
+    ensures no_fault { OnOk result (W.failed sink.new ≡ W.failed sink.old) }
+    ensures fault { OnErr result (W.failed sink.new ≡ W.failed sink.old + 1) }
+{
+    let mut at = 0;
+    while at < bytes.len() {
+        at += sink.push(&bytes[at..])?;
+    }
+    Ok(())
+}

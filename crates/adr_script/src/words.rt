@@ -1,0 +1,65 @@
+//! The words of a line: moments, ids and roles.
+ghost use Rattle.std.specs.Prelude.{◌≡◌, IfOk};
+ghost use Rattle.std.specs.Option.{option_copied};
+ghost use Rattle.adr_script.specs.Words.{text_at, moment_at, id_at, role_at};
+
+use crate::cuts::behind;
+use adr_machine::Role;
+use adr_text::{Moment, ObjectId, Refusal};
+use std::alloc::{AllocError, Global};
+use std::str::from_utf8;
+
+/// The bytes, where they are text.
+#[tactic(auto, unfolding(crate::specs::Words::text_at))]
+pub(crate) fn text_at(bytes: &[u8]) -> Option<&str>
+    ensures { option_copied result ≡ text_at bytes.now }
+{
+    match from_utf8(bytes) {
+        Ok(text) => Some(text),
+        Err(_) => None,
+    }
+}
+
+/// The moment that the bytes say.
+#[tactic(auto, unfolding(crate::specs::Words::moment_at))]
+pub(crate) fn moment_at(bytes: &[u8]) -> Option<Moment>
+    ensures { result ≡ moment_at bytes.now }
+{
+    let text = text_at(bytes)?;
+    Moment::read(text).ok()
+}
+
+/// The object id that the bytes are.
+#[tactic(auto, unfolding(crate::specs::Words::id_at))]
+pub(crate) fn id_at(alloc: Global, bytes: &[u8]) -> Result<Option<ObjectId>, AllocError>
+    ensures { IfOk result (λ id. id ≡ id_at bytes.now) }
+{
+    let Some(text) = text_at(bytes) else {
+        return Ok(None);
+    };
+    match ObjectId::new(alloc, text) {
+        Ok(id) => Ok(Some(id)),
+        Err(Refusal::OutOfMemory) => Err(AllocError),
+        Err(_) => Ok(None),
+    }
+}
+
+/// The role that the bytes say: `operator`, `utility`, or `ven:` and an id.
+#[tactic(auto, unfolding(crate::specs::Words::role_at))]
+pub(crate) fn role_at(alloc: Global, bytes: &[u8]) -> Result<Option<Role>, AllocError>
+    ensures { IfOk result (λ role. role ≡ role_at bytes.now) }
+{
+    if bytes == b"operator".as_slice() {
+        return Ok(Some(Role::Operator));
+    }
+    if bytes == b"utility".as_slice() {
+        return Ok(Some(Role::Utility));
+    }
+    let Some(id) = behind(b"ven:", bytes) else {
+        return Ok(None);
+    };
+    match id_at(alloc, id)? {
+        Some(id) => Ok(Some(Role::Ven(id))),
+        None => Ok(None),
+    }
+}
