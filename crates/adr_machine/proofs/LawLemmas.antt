@@ -1,8 +1,9 @@
 -- What the laws need.
-use Rattle.std.proofs.Common.{◌≡◌, ℕ, ℤ, Bool, true, false, cond, ◌&&◌, ◌||◌, inl, inr, List, [], ◌∷◌, ◌++◌, Option, Some, None, refl, sym, ap, subst, ◌∙◌, arith}
-use Rattle.std.specs.Prelude.{nat_lt, ◌==◌, IsSomeAnd}
+use Rattle.std.proofs.Common.{◌≡◌, ℕ, zero, suc, ◌+◌, ◌<◌, ℤ, Bool, true, false, cond, ◌&&◌, ◌||◌, ◌⊎◌, inl, inr, List, [], ◌∷◌, length, Option, Some, None, refl, sym, ap, subst, ◌∙◌, arith}
+use Rattle.std.specs.Prelude.{nat_lt, ◌==◌, slice_index_or, IsSomeAnd}
 use Rattle.std.specs.Bool.{Decides}
-use Rattle.std.specs.Ordering.{nat_cmp, int_eq, is_lt, is_eq, ordering_reverse, match_ordering}
+use Rattle.std.specs.List.{Contains}
+use Rattle.std.specs.Ordering.{nat_cmp, int_eq, is_lt, is_eq, ordering_reverse, ordering_then, match_ordering}
 use Rattle.std.specs.Map.{lookup}
 use Rattle.std.specs.BTreeMap.{insert_entry}
 use Rattle.std.specs.declared.cmp.Ordering.{Ordering}
@@ -31,7 +32,7 @@ use Rattle.adr_machine.specs.declared.view.Content.{Content}
 use Rattle.adr_machine.specs.declared.view.Content.TheVariants.{Event}
 use Rattle.adr_machine.specs.Same.{is_same_option, is_same_list}
 use Rattle.adr_machine.specs.Changes.{is_same_period, is_same_interval, is_same_head, is_same_tail, is_same_event}
-use Rattle.adr_machine.specs.Keys.{kind_cmp, mirror_cmp, at}
+use Rattle.adr_machine.specs.Keys.{kind_cmp, id_cmp, mirror_cmp, at}
 use Rattle.adr_machine.specs.Marks.{is_text_below, is_below}
 use Rattle.adr_machine.specs.Mirror.{raised, joined}
 use Rattle.adr_machine.specs.Views.{split_interval}
@@ -340,13 +341,72 @@ join_only_raises : (mirror evidence : List (MirrorKey × Mark)) (key : MirrorKey
 join_only_raises mirror [] key = stays (at mirror_cmp key mirror)
 join_only_raises mirror (e ∷ es) key = rises_over _ _ _ (raise_only_raises key mirror e) (join_only_raises (raised mirror e) es key)
 
-join_reaches : (mirror before : List (MirrorKey × Mark)) (key : MirrorKey) (m : Mark) (after : List (MirrorKey × Mark))
-    → is_below (at mirror_cmp key (joined mirror (before ++ (key, m) ∷ after))) m ≡ false
-join_reaches mirror [] key m after = not_above _ _ m (join_only_raises (raised mirror (key, m)) after key) (raise_reaches key mirror m)
-join_reaches mirror (e ∷ es) key m after = join_reaches (raised mirror e) es key m after
+reaches_at : (mirror evidence : List (MirrorKey × Mark)) (key : MirrorKey) (m : Mark) (i : ℕ) → i < length evidence → slice_index_or evidence i (key, m) ≡ (key, m)
+    → is_below (at mirror_cmp key (joined mirror evidence)) m ≡ false
+reaches_at mirror [] key m i l is = absurd (omega arith)
+reaches_at mirror (e ∷ es) key m zero l is =
+    subst (λ (x : MirrorKey × Mark). is_below (at mirror_cmp key (joined (raised mirror x) es)) m ≡ false) (sym is)
+    (not_above _ _ m (join_only_raises (raised mirror (key, m)) es key) (raise_reaches key mirror m))
+reaches_at mirror (e ∷ es) key m (suc i) l is = reaches_at (raised mirror e) es key m i (omega arith) is
+
+then_equal : (o p : Ordering) → ordering_then o p ≡ Equal → (o ≡ Equal) × (p ≡ Equal)
+then_equal Less p h = absurd (cc)
+then_equal Equal p h = (refl, h)
+then_equal Greater p h = absurd (cc)
+
+kinds_equal : (x y : Kind) → kind_cmp x y ≡ Equal → x ≡ y
+kinds_equal kind.Program kind.Program h = refl
+kinds_equal kind.Program kind.Event h = absurd (cc)
+kinds_equal kind.Event kind.Program h = absurd (cc)
+kinds_equal kind.Event kind.Event h = refl
+
+ids_equal : (s t : List ℕ) → slice_cmp nat_cmp s t ≡ Equal → s ≡ t
+ids_equal s t h = (bytes_eq-Decides s t).0 (sym (is_eq-slice_cmp s t) ∙ ap is_eq h)
+
+keys_equal : (a b : MirrorKey) → mirror_cmp a b ≡ Equal → a ≡ b
+keys_equal a b h =
+    let parts : (kind_cmp a.kind b.kind ≡ Equal) × (id_cmp a.id b.id ≡ Equal) = then_equal (kind_cmp a.kind b.kind) (id_cmp a.id b.id) h in
+    let kinds : a.kind ≡ b.kind = kinds_equal a.kind b.kind parts.0 in
+    let ids : a.id ≡ b.id = ids_equal a.id b.id parts.1 in
+    λ j. record { kind = kinds j; id = ids j }
+
+put_from : (key : MirrorKey) (mirror : List (MirrorKey × Mark)) (e : MirrorKey × Mark) (m : Mark) (b : Bool) → is_eq (mirror_cmp key e.0) ≡ b
+    → cond b (Some e.1) (at mirror_cmp key mirror) ≡ Some m → (at mirror_cmp key mirror ≡ Some m) ⊎ (e ≡ (key, m))
+put_from key mirror e m true h g =
+    let keys : key ≡ e.0 = keys_equal key e.0 (equal_from_is _ h) in
+    let marks : e.1 ≡ m = some_same e.1 m g in
+    inr (λ j. (sym keys j, marks j))
+put_from key mirror e m false h g = inl g
+
+raised_from : (key : MirrorKey) (mirror : List (MirrorKey × Mark)) (e : MirrorKey × Mark) (m : Mark) (b : Bool)
+    → at mirror_cmp key (cond b (insert_entry mirror_cmp mirror e.0 e.1) mirror) ≡ Some m → (at mirror_cmp key mirror ≡ Some m) ⊎ (e ≡ (key, m))
+raised_from key mirror e m true g = put_from key mirror e m _ refl (sym (at-insert_entry key_order key e.0 e.1 mirror) ∙ g)
+raised_from key mirror e m false g = inl g
+
+later : {A : Type 0} (e : A) (es : List A) (x : A) → Contains es x → Contains (e ∷ es) x
+later e es x h = (suc h.0, omega (arith, h.1), h.2)
+
+first_of : {A : Type 0} (e : A) (es : List A) (x : A) → e ≡ x → Contains (e ∷ es) x
+first_of e es x h = (0, omega arith, h)
+
+from_first : (key : MirrorKey) (mirror : List (MirrorKey × Mark)) (e : MirrorKey × Mark) (es : List (MirrorKey × Mark)) (m : Mark)
+    → (at mirror_cmp key mirror ≡ Some m) ⊎ (e ≡ (key, m)) → (at mirror_cmp key mirror ≡ Some m) ⊎ Contains (e ∷ es) (key, m)
+from_first key mirror e es m (inl g) = inl g
+from_first key mirror e es m (inr g) = inr (first_of e es (key, m) g)
+
+from_rest : (key : MirrorKey) (mirror : List (MirrorKey × Mark)) (e : MirrorKey × Mark) (es : List (MirrorKey × Mark)) (m : Mark)
+    → (at mirror_cmp key (raised mirror e) ≡ Some m) ⊎ Contains es (key, m) → (at mirror_cmp key mirror ≡ Some m) ⊎ Contains (e ∷ es) (key, m)
+from_rest key mirror e es m (inl g) = from_first key mirror e es m (raised_from key mirror e m _ g)
+from_rest key mirror e es m (inr g) = inr (later e es (key, m) g)
+
+join_from : (mirror evidence : List (MirrorKey × Mark)) (key : MirrorKey) (m : Mark) → at mirror_cmp key (joined mirror evidence) ≡ Some m
+    → (at mirror_cmp key mirror ≡ Some m) ⊎ Contains evidence (key, m)
+join_from mirror [] key m h = inl h
+join_from mirror (e ∷ es) key m h = from_rest key mirror e es m (join_from (raised mirror e) es key m h)
 
 pub joins_greatest : JoinsAreGreatest
 joins_greatest mirror evidence = record {
   only_raises = join_only_raises mirror evidence;
-  reaches_each = λ before key m after h. ap (λ es. is_below (at mirror_cmp key (joined mirror es)) m) h ∙ join_reaches mirror before key m after;
+  reaches_each = λ key m h. reaches_at mirror evidence key m h.0 h.1 h.2;
+  is_one_of_them = join_from mirror evidence;
 }

@@ -1,6 +1,7 @@
 -- Laws of the definitions: what they keep, whatever they are given.
-use Rattle.std.specs.Prelude.{◌≡◌, ◌⊎◌, ◌++◌, ◌∷◌, ℕ, ℤ, true, false, List, Option, None, Some, IsSomeAnd}
+use Rattle.std.specs.Prelude.{◌≡◌, ◌⊎◌, ℕ, ℤ, true, false, List, Option, None, Some, IsSomeAnd}
 use Rattle.std.specs.Bool.{Decides}
+use Rattle.std.specs.List.{Contains}
 use Rattle.adr_schema.specs.Canonical.{canonical_text}
 use Rattle.adr_schema.specs.declared.body.Body.{Body}
 use Rattle.adr_schema.specs.declared.interval.Interval.{Interval}
@@ -42,11 +43,11 @@ abbrev pub IsRaised : Option Mark → Option Mark → Type 0
 IsRaised before None = before ≡ None
 IsRaised before (Some after) = (before ≡ Some after) ⊎ (is_below before after ≡ true)
 
--- whatever evidence comes to a mirror: a key keeps what is known of it or comes to know something greater, and no mark that came is above what is then known of its key
+-- whatever evidence comes to a mirror, each key then has the greatest of the mark that it had and those that came for it: it keeps its mark or has one above it, none that came is above it, and it is one of them
 pub record IsJoined (mirror evidence : List (MirrorKey × Mark)) : Type 0 where
   pub only_raises : (key : MirrorKey) → IsRaised (at mirror_cmp key mirror) (at mirror_cmp key (joined mirror evidence))
-  pub reaches_each : (before : List (MirrorKey × Mark)) (key : MirrorKey) (mark : Mark) (after : List (MirrorKey × Mark)) → evidence ≡ before ++ (key, mark) ∷ after
-      → is_below (at mirror_cmp key (joined mirror evidence)) mark ≡ false
+  pub reaches_each : (key : MirrorKey) (mark : Mark) → Contains evidence (key, mark) → is_below (at mirror_cmp key (joined mirror evidence)) mark ≡ false
+  pub is_one_of_them : (key : MirrorKey) (mark : Mark) → at mirror_cmp key (joined mirror evidence) ≡ Some mark → (at mirror_cmp key mirror ≡ Some mark) ⊎ Contains evidence (key, mark)
 
 abbrev pub JoinsAreGreatest : Type 0
 JoinsAreGreatest = (mirror evidence : List (MirrorKey × Mark)) → IsJoined mirror evidence

@@ -1,0 +1,55 @@
+//! The program's arguments.
+ghost use Rattle.std.specs.Prelude.{◌≡◌, ◌<◌, ◌==◌, length, map, IfSome, string_bytes};
+ghost use Rattle.std.specs.List.{position};
+ghost use Rattle.adr_node.specs.Arguments.{number_at, limit_set, limits_after, limits_of};
+
+use adr_machine::{Limits, number_within};
+
+/// The largest number that any limit may have.
+const MOST_NUMBER: u64 = 9_000_000_000_000_000;
+
+/// The number that 1 to 16 digits write.
+fn number_at(digits: &[u8]) -> Option<u64>
+    ensures { result ≡ number_at digits.now }
+{
+    if digits.len() > 16 {
+        return None;
+    }
+    number_within(MOST_NUMBER, digits)
+}
+
+/// The limits with that of one argument, `NAME=NUMBER`, set.
+#[tactic(auto, unfolding(crate::specs::Arguments::limit_set))]
+fn limit_set(mut limits: Limits, argument: &str) -> Option<Limits>
+    ensures { result ≡ limit_set limits argument.now }
+{
+    let (name, digits) = argument.split_once('=')?;
+    let number = number_at(digits.as_bytes())?;
+    if limits.set(name, number) {
+        Some(limits)
+    } else {
+        None
+    }
+}
+
+/// The limits with each argument set in turn.
+fn limits_after(limits: Limits, arguments: &[String]) -> Option<Limits>
+    ensures { result ≡ limits_after limits (map string_bytes arguments.now) }
+{
+    let mut limits = limits;
+    for argument in arguments {
+        limits = limit_set(limits, argument.as_str())?;
+    }
+    Some(limits)
+}
+
+/// The limits that the words behind the program's name set: `script`, and then limits.
+pub fn limits_of(words: &[String]) -> Option<Limits>
+    ensures { result ≡ limits_of (map string_bytes words.now) }
+{
+    let (word, arguments) = words.split_first()?;
+    if word.as_str() != "script" {
+        return None;
+    }
+    limits_after(Limits::largest(), arguments)
+}

@@ -1,0 +1,83 @@
+//! Runs the worked rows: each row file of the folder that it is given, or where it runs, is a script with the lines that it has to print, and is
+//! run on every desk that there is. A row file is `NAME.row`, of these lines:
+//!
+//! - `# TEXT` and an empty line say nothing;
+//! - `row NAME` names the row;
+//! - `set NAME=NUMBER` sets a limit;
+//! - `> LINE` is a line of the script;
+//! - `< LINE` is a line that the script prints.
+#![tactic(auto)]
+
+mod play;
+mod report;
+mod row;
+
+use crate::play::play;
+use crate::report::report;
+use crate::row::{Row, read_row};
+use adr_machine::{PlainDesk, Settings};
+use adr_text::Name;
+use anyhow::{Context, Result};
+use std::alloc::Global;
+use std::process::ExitCode;
+use std::rt::{Env, Files};
+use std::{env, fs};
+
+/// The name under which the desks report.
+const CLIENT: &str = "aggregator";
+
+/// The folder of the row files: the argument, or the one where it runs.
+fn folder<R: Env + AllocGlobal>(rt: &R) -> Result<String> {
+    match env::args(rt)?.nth(1) {
+        Some(folder) => Ok(folder),
+        None => Ok(String::from_str(rt.alloc(), ".")?),
+    }
+}
+
+/// The paths of the row files in the folder, in order.
+fn row_files<R: Files + AllocGlobal + Clone + Drop>(rt: &R, folder: &str) -> Result<Vec<String>> {
+    let mut names = Vec::new(rt.alloc());
+    for entry in fs::read_dir(rt, folder)? {
+        let entry = entry?;
+        let name = entry.file_name();
+        if name.ends_with(".row") {
+            names.push(format!(in rt.alloc(); "{folder}/{name}")?)?;
+        }
+    }
+    names.sort()?;
+    Ok(names)
+}
+
+/// A plain desk for a row.
+fn plain_desk(alloc: Global, row: &Row) -> Result<PlainDesk> {
+    let client = Name::new(alloc, CLIENT)?;
+    let limits = row.limits;
+    Ok(PlainDesk::new(alloc, Settings { client, limits }))
+}
+
+/// Runs a row on each desk, prints how it went, and answers whether it passed on all.
+fn run_row<R: Print + AllocGlobal>(rt: &R, row: &Row) -> Result<bool> {
+    let alloc = rt.alloc();
+    let mut desk = plain_desk(alloc, row)?;
+    let played = play(alloc, &mut desk, row);
+    report(rt, "plain", row, &played)
+}
+
+fn run_all<R: Env + Files + Print + AllocGlobal + Clone + Drop>(rt: &R) -> Result<bool> {
+    let folder = folder(rt)?;
+    let mut passed = true;
+    for file in row_files(rt, folder.as_str())? {
+        let bytes = fs::read(rt, file.as_str())?;
+        let row = read_row(rt.alloc(), &bytes).context(file)?;
+        passed &= run_row(rt, &row)?;
+    }
+    Ok(passed)
+}
+
+fn main(rt: HostRuntime) -> Result<ExitCode> {
+    if run_all(&rt)? {
+        Ok(ExitCode::SUCCESS)
+    } else {
+        Ok(ExitCode::FAILURE)
+    }
+}

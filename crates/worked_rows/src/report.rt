@@ -1,0 +1,30 @@
+//! How a row went, in one line.
+use crate::play::{Played, count_lines};
+use crate::row::Row;
+use anyhow::Result;
+
+/// How many lines two texts begin alike with.
+fn like_lines(given: &[u8], wanted: &[u8]) -> u64 {
+    let most = given.len().min(wanted.len());
+    let mut at = 0;
+    while at < most && given[at] == wanted[at] {
+        at += 1;
+    }
+    count_lines(&given[..at])
+}
+
+/// Prints how a row went on a desk, and answers whether it passed.
+pub fn report<R: Print>(rt: &R, desk: &str, row: &Row, played: &Played) -> Result<bool> {
+    let name = &row.name;
+    if played.passed(row) {
+        println!(rt; "row {name} {desk} passed")?;
+        return Ok(true);
+    }
+    let alike = like_lines(&played.printed, &row.wanted);
+    let given = played.printed.as_slice().escape_ascii();
+    println!(rt; "row {name} {desk} failed after {alike} lines, printed {given}")?;
+    if let Err(fault) = played.ended {
+        println!(rt; "row {name} {desk} ended with {fault}")?;
+    }
+    Ok(false)
+}
