@@ -43,3 +43,6 @@ pub use runs::run;
 pub use sight::Sight;
 pub use state::{Image, State};
 pub use view::{Content, View};
+
+#[cfg(test)]
+mod tests;
