@@ -157,6 +157,7 @@ fn finish<D: Desk, W: Sink>(
 ) -> Result<u64, ScriptFault>
     ensures ok { IfOk result (λ n. D.is_sound desk.new → Runs (D.settings desk.old) (D.state desk.old) (last_line progress.now.line.items) (D.state desk.new) (W.written sink.old) (W.written sink.new) progress.now.printed n) }
     ensures err { OnErr result (D.is_sound desk.new → Stops (D.settings desk.old) (D.state desk.old) (last_line progress.now.line.items) (D.state desk.new) (W.written sink.old) (W.written sink.new)) }
+    ensures no_write_fault { IfOk result (λ _. W.failed sink.new ≡ W.failed sink.old) }
     ensures write_fault { result ≡ Err Write → W.failed sink.new ≡ W.failed sink.old + 1 }
     ensures no_read_fault { result ≢ Err Read }
     ensures no_long_line { result ≢ Err LineTooLong }
@@ -183,6 +184,7 @@ pub fn run_script<D: Desk, S: Source, W: Sink>(
 ) -> Result<u64, ScriptFault>
     ensures all { IfOk result (λ n. IfSome (S.left source.old) (λ text. D.is_sound desk.new → Runs (D.settings desk.old) (D.state desk.old) (lines_of text) (D.state desk.new) (W.written sink.old) (W.written sink.new) 0 n)) }
     ensures some { OnErr result (IfSome (S.left source.old) (λ text. D.is_sound desk.new → Stops (D.settings desk.old) (D.state desk.old) (lines_of text) (D.state desk.new) (W.written sink.old) (W.written sink.new))) }
+    ensures no_fault_is_passed_over { OnOk result ((S.failed source.new ≡ S.failed source.old) × (W.failed sink.new ≡ W.failed sink.old)) }
     ensures read_fault { result ≡ Err Read → (S.failed source.new ≡ S.failed source.old + 1) ⊎ (S.calls source.new ≡ S.calls source.old + MOST_READS) }
     ensures write_fault { result ≡ Err Write → W.failed sink.new ≡ W.failed sink.old + 1 }
     ensures reads { S.calls source.new ≤ S.calls source.old + MOST_READS }
