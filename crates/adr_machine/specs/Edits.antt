@@ -9,13 +9,13 @@ use Rattle.adr_text.specs.declared.refusal.Refusal.{Refusal}
 use Rattle.adr_text.specs.declared.refusal.Refusal.TheVariants.{Exhausted, NotFound, Conflict, Forbidden, BadShare, LimitReached}
 use Rattle.adr_schema.specs.declared.body.Found.{Found}
 use Rattle.adr_schema.specs.declared.shown.Stamps.{Stamps}
-use Rattle.adr_machine.specs.declared.base.Base.{Base}
-use Rattle.adr_machine.specs.declared.base.Ven.{Ven}
-use Rattle.adr_machine.specs.declared.base.Resource.{Resource}
-use Rattle.adr_machine.specs.declared.base.Mark.{Mark}
-use Rattle.adr_machine.specs.declared.keys.MirrorKey.{MirrorKey}
-use Rattle.adr_machine.specs.declared.keys.ShareKey.{ShareKey}
-use Rattle.adr_machine.specs.declared.limits.Limits.{Limits}
+use Rattle.adr_state.specs.declared.base.Base.{Base}
+use Rattle.adr_state.specs.declared.base.Ven.{Ven}
+use Rattle.adr_state.specs.declared.base.Resource.{Resource}
+use Rattle.adr_state.specs.declared.base.Mark.{Mark}
+use Rattle.adr_state.specs.declared.keys.MirrorKey.{MirrorKey}
+use Rattle.adr_state.specs.declared.keys.ShareKey.{ShareKey}
+use Rattle.adr_state.specs.declared.limits.Limits.{Limits}
 use Rattle.adr_machine.specs.declared.role.Role.{Role}
 use Rattle.adr_machine.specs.declared.command.Command.{Command}
 use Rattle.adr_machine.specs.declared.command.Command.TheVariants.{Evidence, VenAdd, ResourceAdd, ShareSet}
@@ -23,10 +23,10 @@ use Rattle.adr_machine.specs.declared.answer.Object.TheVariants as object
 use Rattle.adr_machine.specs.declared.answer.Answer.{Answer}
 use Rattle.adr_machine.specs.declared.answer.Answer.TheVariants as answer
 use Rattle.adr_machine.specs.Digits.{number_of}
-use Rattle.adr_machine.specs.Keys.{share_cmp, at}
-use Rattle.adr_machine.specs.Mirror.{evidence_of, joined}
+use Rattle.adr_state.specs.Keys.{share_cmp, at}
+use Rattle.adr_state.specs.Mirror.{evidence_of, joined}
 use Rattle.adr_machine.specs.Roles.{is_operator}
-use Rattle.adr_machine.specs.Weights.{most_weight}
+use Rattle.adr_state.specs.Weights.{most_weight}
 
 -- both stamps
 abbrev pub fresh : ℕ → Stamps

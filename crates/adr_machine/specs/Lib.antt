@@ -1,16 +1,5 @@
 pub mod Digits
-pub mod Within
-pub mod Limits
-pub mod Keys
-pub mod Weights
-pub mod Same
-pub mod Marks
-pub mod Mirror
-pub mod Participants
-pub mod Views
-pub mod Changes
 pub mod Roles
 pub mod Edits
 pub mod Steps
 pub mod Runs
-pub mod Laws

@@ -3,13 +3,13 @@ use Rattle.std.specs.Prelude.{ℕ, Bool, true, false, List, Option, None, Some, 
 use Rattle.std.specs.Ordering.{nat_cmp}
 use Rattle.adr_text.specs.declared.refusal.Refusal.{Refusal}
 use Rattle.adr_text.specs.declared.refusal.Refusal.TheVariants.{Forbidden}
-use Rattle.adr_machine.specs.declared.base.Base.{Base}
+use Rattle.adr_state.specs.declared.base.Base.{Base}
 use Rattle.adr_machine.specs.declared.role.Role.{Role}
 use Rattle.adr_machine.specs.declared.role.Role.TheVariants.{Operator, Ven, Utility}
 use Rattle.adr_machine.specs.declared.sight.Sight.{Sight}
 use Rattle.adr_machine.specs.declared.sight.Sight.TheVariants.{All, Of}
 use Rattle.adr_machine.specs.Digits.{number_of}
-use Rattle.adr_machine.specs.Keys.{at}
+use Rattle.adr_state.specs.Keys.{at}
 
 abbrev pub is_operator : Role → Bool
 is_operator Operator = true

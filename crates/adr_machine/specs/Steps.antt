@@ -8,13 +8,13 @@ use Rattle.adr_text.specs.Refusals.{◌>>=◌}
 use Rattle.adr_text.specs.declared.refusal.Refusal.{Refusal}
 use Rattle.adr_text.specs.declared.refusal.Refusal.TheVariants.{OutOfMemory, Store}
 use Rattle.adr_schema.specs.declared.shown.Stamps.{Stamps}
-use Rattle.adr_machine.specs.declared.base.Base.{Base}
-use Rattle.adr_machine.specs.declared.state.State.{State}
-use Rattle.adr_machine.specs.declared.keys.ViewKey.{ViewKey}
-use Rattle.adr_machine.specs.declared.keys.ViewKey.TheVariants as key
-use Rattle.adr_machine.specs.declared.view.Content.{Content}
-use Rattle.adr_machine.specs.declared.view.Content.TheVariants as content
-use Rattle.adr_machine.specs.declared.limits.Settings.{Settings}
+use Rattle.adr_state.specs.declared.base.Base.{Base}
+use Rattle.adr_state.specs.declared.state.State.{State}
+use Rattle.adr_state.specs.declared.keys.ViewKey.{ViewKey}
+use Rattle.adr_state.specs.declared.keys.ViewKey.TheVariants as key
+use Rattle.adr_state.specs.declared.view.Content.{Content}
+use Rattle.adr_state.specs.declared.view.Content.TheVariants as content
+use Rattle.adr_state.specs.declared.limits.Settings.{Settings}
 use Rattle.adr_machine.specs.declared.sight.Sight.{Sight}
 use Rattle.adr_machine.specs.declared.sight.Sight.TheVariants.{All, Of}
 use Rattle.adr_machine.specs.declared.command.Command.{Command}
@@ -25,15 +25,11 @@ use Rattle.adr_machine.specs.declared.answer.Object.{Object}
 use Rattle.adr_machine.specs.declared.answer.Object.TheVariants as object
 use Rattle.adr_machine.specs.declared.answer.Answer.{Answer}
 use Rattle.adr_machine.specs.declared.answer.Answer.TheVariants as answer
-use Rattle.adr_machine.specs.Keys.{view_cmp, at}
-use Rattle.adr_machine.specs.Views.{view}
-use Rattle.adr_machine.specs.Changes.{changes, restamped}
+use Rattle.adr_state.specs.Keys.{view_cmp, at}
+use Rattle.adr_state.specs.Views.{view}
+use Rattle.adr_state.specs.Changes.{changes, restamped}
 use Rattle.adr_machine.specs.Edits.{edit}
 use Rattle.adr_machine.specs.Roles.{sight_of}
-
--- the state at first
-abbrev pub empty : State
-empty = record { base = record { mirror = []; vens = []; resources = []; shares = []; serial = 0 }; stamps = [] }
 
 -- ---- steps
 

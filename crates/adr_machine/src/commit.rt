@@ -4,13 +4,9 @@ ghost use Rattle.adr_text.specs.declared.refusal.Refusal.TheVariants.{Store};
 ghost use Rattle.adr_machine.specs.Steps.{answer_or_count, committed, step, IsRefusalOf};
 
 use crate::answer::Answer;
-use crate::base::Base;
-use crate::changes::{changes_of, restamped};
 use crate::command::Command;
 use crate::edits::edited;
-use crate::limits::Settings;
-use crate::state::State;
-use crate::view::view_of;
+use adr_state::{Base, Settings, State, changes_of, restamped, view_of};
 use adr_text::{Moment, Refusal};
 use std::alloc::{AllocError, Global};
 

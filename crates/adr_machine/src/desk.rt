@@ -1,14 +1,13 @@
 //! A desk is whatever keeps the machine's state. Its clauses say that `apply` is the machine's step.
 ghost use Rattle.std.specs.Prelude.{◌≡◌, Ok, IfOk, IfErr, OnErr};
-ghost use Rattle.adr_machine.specs.declared.state.State.{State};
-ghost use Rattle.adr_machine.specs.declared.limits.Settings.{Settings};
+ghost use Rattle.adr_state.specs.declared.state.State.{State};
+ghost use Rattle.adr_state.specs.declared.limits.Settings.{Settings};
 ghost use Rattle.adr_machine.specs.Steps.{step, reply, image_of, IsRefusalOf};
 
 use crate::answer::Answer;
 use crate::command::Command;
-use crate::limits::Settings;
 use crate::query::Query;
-use crate::state::State;
+use adr_state::{Settings, State};
 use adr_text::{Moment, Refusal};
 
 /// Keeps the machine's state, in memory or elsewhere.

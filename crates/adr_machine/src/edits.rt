@@ -1,20 +1,17 @@
 //! What each command makes of the base. After a refusal the base is left anyhow.
 ghost use Rattle.std.specs.Prelude.{◌≡◌, ◌≢◌, Ok, Err, Some, ◌≤◌, IfOk, IfErr};
 ghost use Rattle.adr_text.specs.declared.refusal.Refusal.TheVariants.{Store};
-ghost use Rattle.adr_machine.specs.Weights.{most_weight};
-ghost use Rattle.adr_machine.specs.Edits.{fresh, has_ven, ven_add, has_resource, ven_at, resource_of_ven, resource_add, resource_at, share_put, share_of_resource, share_set, edit};
+ghost use Rattle.adr_state.specs.Weights.{most_weight};
+ghost use Rattle.adr_machine.specs.Edits.{evidence, fresh, has_ven, ven_add, has_resource, ven_at, resource_of_ven, resource_add, resource_at, share_put, share_of_resource, share_set, edit};
 ghost use Rattle.adr_machine.specs.Steps.{IsRefusalOf};
 
 use crate::answer::{Answer, Object};
-use crate::base::{Base, Resource, Resources, Ven, Weight};
 use crate::command::Command;
 use crate::digits::number_of;
-use crate::keys::ShareKey;
-use crate::limits::Limits;
-use crate::mirror::with_evidence;
 use crate::role::Role;
 use crate::sight::is_operator;
-use adr_schema::{Number, ResourceName, ResourceObject, ShareObject, Stamps, VenObject};
+use adr_schema::{Found, Number, ResourceName, ResourceObject, ShareObject, Stamps, VenObject};
+use adr_state::{Base, Limits, Resource, Resources, ShareKey, Ven, Weight, join};
 use adr_text::{Moment, Name, ObjectId, Refusal, Table};
 use std::alloc::Global;
 
@@ -49,6 +46,26 @@ pub(crate) fn edited(
             share,
         } => with_share(limits, base, role, program, resource, share.share),
     }
+}
+
+/// The base after evidence.
+fn with_evidence(
+    alloc: Global,
+    limits: &Limits,
+    base: &mut Base,
+    founds: &[Found],
+) -> Result<Option<Answer>, Refusal>
+    ensures ok { IfOk result (λ answer. evidence limits.now base.old founds.now ≡ Ok (answer, base.new)) }
+    ensures refused { IfErr result (λ refusal. IsRefusalOf refusal (evidence limits.now base.old founds.now)) }
+    ensures no_store { result ≢ Err Store }
+{
+    let before = base.mirror.len();
+    join(alloc, &mut base.mirror, founds)?;
+    let after = base.mirror.len();
+    if before < after && limits.keys.get() < after as u64 {
+        return Err(Refusal::LimitReached);
+    }
+    Ok(None)
 }
 
 fn fresh(now: Moment) -> Stamps

@@ -1,16 +1,16 @@
 //! The plain desk: it works on a copy, and puts that in place when nothing can fail any more.
 ghost use Rattle.std.specs.Prelude.{◌≡◌, ◌≢◌, Ok, Err, IfOk, IfErr, OnErr};
 ghost use Rattle.adr_text.specs.declared.refusal.Refusal.TheVariants.{Store};
-ghost use Rattle.adr_machine.specs.Steps.{empty, step, reply, image_of, IsRefusalOf};
+ghost use Rattle.adr_state.specs.States.{empty};
+ghost use Rattle.adr_machine.specs.Steps.{step, reply, image_of, IsRefusalOf};
 
 use crate::answer::Answer;
 use crate::command::Command;
 use crate::commit::next;
 use crate::desk::Desk;
-use crate::limits::Settings;
 use crate::query::Query;
 use crate::reply;
-use crate::state::State;
+use adr_state::{Settings, State};
 use adr_text::{Moment, Refusal};
 use std::alloc::Global;
 

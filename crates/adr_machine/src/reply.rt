@@ -5,14 +5,10 @@ ghost use Rattle.std.specs.Option.{option_copied};
 ghost use Rattle.adr_machine.specs.Steps.{object_of, object_at, objects_in_sight, page_of, reply, IsRefusalOf};
 
 use crate::answer::{Answer, Object};
-use crate::keys::ViewKey;
-use crate::lists::push_some;
 use crate::query::{Page, Query};
 use crate::sight::{Sight, sees, sight_of};
-use crate::state::State;
-use crate::view::{Content, view_of};
-use crate::view_map::row_at;
 use adr_schema::{EventObject, Stamps};
+use adr_state::{Content, State, ViewKey, push_some, row_at, view_of};
 use adr_text::{Refusal, Rows, Table};
 use std::alloc::{AllocError, Global};
 

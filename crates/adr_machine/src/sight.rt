@@ -4,11 +4,10 @@ ghost use Rattle.adr_text.specs.declared.refusal.Refusal.TheVariants.{Forbidden}
 ghost use Rattle.adr_machine.specs.Roles.{is_operator, enrolled, sight_of};
 ghost use Rattle.adr_machine.specs.Steps.{sees};
 
-use crate::base::Base;
 use crate::digits::number_of;
-use crate::keys::ViewKey;
 use crate::role::Role;
 use adr_schema::Number;
+use adr_state::{Base, ViewKey};
 use adr_text::{ObjectId, Refusal};
 
 /// What is in sight.

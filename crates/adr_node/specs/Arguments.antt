@@ -2,8 +2,8 @@
 use Rattle.std.specs.Prelude.{ℕ, ◌+◌, ◌==◌, nat_le, List, [], ◌∷◌, length, take, drop, codes, bytes_eq, Option, Some, None, option_and_then, if◌then◌else◌}
 use Rattle.std.specs.List.{position}
 use Rattle.adr_machine.specs.Digits.{most_number, number_within}
-use Rattle.adr_machine.specs.Limits.{largest, limits_set}
-use Rattle.adr_machine.specs.declared.limits.Limits.{Limits}
+use Rattle.adr_state.specs.Limits.{largest, limits_set}
+use Rattle.adr_state.specs.declared.limits.Limits.{Limits}
 
 -- a number of at most 16 digits
 abbrev pub number_at : List ℕ → Option ℕ

@@ -3,7 +3,8 @@ ghost use Rattle.std.specs.Prelude.{◌≡◌, ◌<◌, ◌==◌, length, map, I
 ghost use Rattle.std.specs.List.{position};
 ghost use Rattle.adr_node.specs.Arguments.{number_at, limit_set, limits_after, limits_of};
 
-use adr_machine::{Limits, number_within};
+use adr_machine::number_within;
+use adr_state::Limits;
 
 /// The largest number that any limit may have.
 const MOST_NUMBER: u64 = 9_000_000_000_000_000;

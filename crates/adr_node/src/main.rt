@@ -4,7 +4,7 @@
 mod arguments;
 mod script;
 
-use adr_machine::Limits;
+use adr_state::Limits;
 use std::env;
 use std::process::ExitCode;
 use std::rt::Env;

@@ -1,8 +1,9 @@
 //! A script over standard input and output.
 ghost use Rattle.std.specs.Prelude.{◌≡◌, ◌<◌};
 
-use adr_machine::{Limits, PlainDesk, Settings};
+use adr_machine::PlainDesk;
 use adr_script::{ScriptFault, run_script};
+use adr_state::Settings;
 use adr_text::{Name, Reader, Writer};
 use std::alloc::Global;
 use std::io;

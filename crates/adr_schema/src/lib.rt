@@ -38,6 +38,3 @@ pub use site::{ResourceIn, ResourceName, ShareIn, VenIn};
 pub use text::{EventName, PeriodText, Text};
 pub use write::{write_event, write_events, write_problem, write_resource, write_share, write_ven};
 pub use write_body::canonical;
-
-#[cfg(test)]
-mod tests;

@@ -6,8 +6,8 @@ use Rattle.std.proofs.lemmas.List.{take-append-le}
 use Rattle.std.specs.Prelude.{◌==◌, IsErrAnd}
 use Rattle.std.specs.Io.KnownBytes.{Appends}
 use Rattle.std.proofs.KnownBytes.{Appends-trans, Appends-nil}
-use Rattle.adr_machine.specs.declared.state.State.{State}
-use Rattle.adr_machine.specs.declared.limits.Settings.{Settings}
+use Rattle.adr_state.specs.declared.state.State.{State}
+use Rattle.adr_state.specs.declared.limits.Settings.{Settings}
 use Rattle.adr_script.specs.Turns.{IsTurn}
 use Rattle.adr_script.specs.Lines.{ended, unended, last_line, lines_of}
 use Rattle.adr_script.specs.Scripts.{Prints, InTurn, PrintAll, Runs, Stops}

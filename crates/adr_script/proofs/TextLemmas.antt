@@ -2,8 +2,8 @@
 use Rattle.std.proofs.Common.{◌≡◌, ℕ, ◌+◌, List, [], ◌∷◌, ◌++◌, length, length-append, arith, Option, Some, None, IfSome, append-nil, append_assoc, sym, ap, ◌∙◌, subst, take, refl}
 use Rattle.std.specs.Io.KnownBytes.{Appends, Consumes, IsAtEnd}
 use Rattle.std.proofs.KnownBytes.{Consumes-trans}
-use Rattle.adr_machine.specs.declared.state.State.{State}
-use Rattle.adr_machine.specs.declared.limits.Settings.{Settings}
+use Rattle.adr_state.specs.declared.state.State.{State}
+use Rattle.adr_state.specs.declared.limits.Settings.{Settings}
 use Rattle.adr_script.specs.Lines.{ended, unended, last_line, lines_of, HasLongLine, HasManyLines}
 use Rattle.adr_script.specs.Scripts.{Runs, Stops}
 use Rattle.adr_script.proofs.ScriptLemmas.{ended-append, unended-append, Runs-append, Stops-after, Stops-before, Stops-all}

@@ -3,7 +3,7 @@ use Rattle.std.proofs.Common.{◌≡◌, ℕ, List, Bool, true, false, Option, S
 use Rattle.adr_text.specs.Refusals.{Fails, Gives}
 use Rattle.adr_text.specs.declared.refusal.Refusal.{Refusal}
 use Rattle.adr_text.specs.declared.refusal.Refusal.TheVariants.{OutOfMemory, Store}
-use Rattle.adr_machine.specs.declared.state.State.{State}
+use Rattle.adr_state.specs.declared.state.State.{State}
 use Rattle.adr_machine.specs.declared.answer.Answer.{Answer}
 use Rattle.adr_machine.specs.Steps.{IsRefusalOf}
 use Rattle.adr_machine.specs.Runs.{told, state_after, stands}

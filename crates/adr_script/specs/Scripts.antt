@@ -1,8 +1,8 @@
 -- The run of a script: each line in its turn, and what is printed of them.
 use Rattle.std.specs.Prelude.{◌≡◌, ◌≤◌, ◌+◌, ℕ, List, [], ◌∷◌, ◌++◌, length, take, Option}
 use Rattle.std.specs.Io.KnownBytes.{Appends}
-use Rattle.adr_machine.specs.declared.state.State.{State}
-use Rattle.adr_machine.specs.declared.limits.Settings.{Settings}
+use Rattle.adr_state.specs.declared.state.State.{State}
+use Rattle.adr_state.specs.declared.limits.Settings.{Settings}
 use Rattle.adr_script.specs.Turns.{IsTurn}
 
 -- from s, a line prints out, which is n lines, and leaves t: an empty line is passed over

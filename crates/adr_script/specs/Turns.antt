@@ -6,8 +6,8 @@ use Rattle.adr_text.specs.declared.refusal.Refusal.TheVariants.{OutOfMemory, Sto
 use Rattle.adr_schema.specs.declared.body.Found.{Found}
 use Rattle.adr_schema.specs.declared.kind.Kind.TheVariants as kind
 use Rattle.adr_schema.specs.Pages.{page_of}
-use Rattle.adr_machine.specs.declared.state.State.{State}
-use Rattle.adr_machine.specs.declared.limits.Settings.{Settings}
+use Rattle.adr_state.specs.declared.state.State.{State}
+use Rattle.adr_state.specs.declared.limits.Settings.{Settings}
 use Rattle.adr_machine.specs.declared.answer.Answer.{Answer}
 use Rattle.adr_machine.specs.declared.command.Command.TheVariants.{Evidence}
 use Rattle.adr_machine.specs.Steps.{step, reply}

@@ -17,6 +17,3 @@ pub use asked::Asked;
 pub use fault::ScriptFault;
 pub use script::{MOST_BYTES, MOST_LINES, MOST_READS, run_script};
 pub use turn::answer_line;
-
-#[cfg(test)]
-mod tests;

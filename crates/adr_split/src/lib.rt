@@ -9,8 +9,6 @@ ghost use Rattle.adr_split.specs.Parts.{fair_split};
 mod claims;
 pub mod laws;
 mod parts;
-#[cfg(test)]
-mod tests;
 
 use std::alloc::{AllocError, Global};
 

@@ -33,8 +33,3 @@ pub use source::{IoFault, Sink, Source};
 pub use table::Table;
 pub use to_json::{ToJson, array, put, put_maybe};
 pub use wrapped::{Reader, Writer};
-
-#[cfg(test)]
-mod tests;
-#[cfg(test)]
-mod tests_of_calls;

@@ -6,16 +6,29 @@
 //! - `set NAME=NUMBER` sets a limit;
 //! - `> LINE` is a line of the script;
 //! - `< LINE` is a line that the script prints.
+//!
+//! A table of texts is `NAME.texts`, of these lines:
+//!
+//! - `# TEXT` and an empty line say nothing;
+//! - `texts NAME` names the table;
+//! - `read READER` names what reads the texts that follow;
+//! - `around TEXT` is what stands around each text that follows, with `$` in place of the text;
+//! - `> TEXT` is a text;
+//! - `< ANSWER` is what the reader makes of the text before.
 #![tactic(auto)]
 
 mod play;
+mod reader;
 mod report;
 mod row;
+mod texts;
 
 use crate::play::play;
 use crate::report::report;
 use crate::row::{Row, read_row};
-use adr_machine::{PlainDesk, Settings};
+use crate::texts::{read_texts, run_texts};
+use adr_machine::PlainDesk;
+use adr_state::Settings;
 use adr_text::Name;
 use anyhow::{Context, Result};
 use std::alloc::Global;
@@ -34,13 +47,17 @@ fn folder<R: Env + AllocGlobal>(rt: &R) -> Result<String> {
     }
 }
 
-/// The paths of the row files in the folder, in order.
-fn row_files<R: Files + AllocGlobal + Clone + Drop>(rt: &R, folder: &str) -> Result<Vec<String>> {
+/// The paths of the files in the folder whose names end so, in order.
+fn files_of<R: Files + AllocGlobal + Clone + Drop>(
+    rt: &R,
+    folder: &str,
+    ending: &str,
+) -> Result<Vec<String>> {
     let mut names = Vec::new(rt.alloc());
     for entry in fs::read_dir(rt, folder)? {
         let entry = entry?;
         let name = entry.file_name();
-        if name.ends_with(".row") {
+        if name.ends_with(ending) {
             names.push(format!(in rt.alloc(); "{folder}/{name}")?)?;
         }
     }
@@ -63,15 +80,31 @@ fn run_row<R: Print + AllocGlobal>(rt: &R, row: &Row) -> Result<bool> {
     report(rt, "plain", row, &played)
 }
 
-fn run_all<R: Env + Files + Print + AllocGlobal + Clone + Drop>(rt: &R) -> Result<bool> {
-    let folder = folder(rt)?;
+fn run_rows<R: Files + Print + AllocGlobal + Clone + Drop>(rt: &R, folder: &str) -> Result<bool> {
     let mut passed = true;
-    for file in row_files(rt, folder.as_str())? {
+    for file in files_of(rt, folder, ".row")? {
         let bytes = fs::read(rt, file.as_str())?;
         let row = read_row(rt.alloc(), &bytes).context(file)?;
         passed &= run_row(rt, &row)?;
     }
     Ok(passed)
+}
+
+fn run_tables<R: Files + Print + AllocGlobal + Clone + Drop>(rt: &R, folder: &str) -> Result<bool> {
+    let mut passed = true;
+    for file in files_of(rt, folder, ".texts")? {
+        let bytes = fs::read(rt, file.as_str())?;
+        let texts = read_texts(rt.alloc(), &bytes).context(file)?;
+        passed &= run_texts(rt, &texts)?;
+    }
+    Ok(passed)
+}
+
+fn run_all<R: Env + Files + Print + AllocGlobal + Clone + Drop>(rt: &R) -> Result<bool> {
+    let folder = folder(rt)?;
+    let rows = run_rows(rt, folder.as_str())?;
+    let tables = run_tables(rt, folder.as_str())?;
+    Ok(rows && tables)
 }
 
 fn main(rt: HostRuntime) -> Result<ExitCode> {

@@ -1,5 +1,6 @@
 //! A row: a script, and the lines that it has to print.
-use adr_machine::{Limits, number_within};
+use adr_machine::number_within;
+use adr_state::Limits;
 use anyhow::{Context, Result, bail};
 use std::alloc::Global;
 use std::str::from_utf8;

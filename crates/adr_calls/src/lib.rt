@@ -1,0 +1,16 @@
+//! Tests of the crates below, of what no clause says: each public call with ample memory, reads and
+//! writes that fail, and lists at their limits. Tables of texts are data of the program `worked_rows`.
+#![tactic(auto)]
+
+#[cfg(test)]
+mod counted;
+#[cfg(test)]
+mod machine;
+#[cfg(test)]
+mod objects;
+#[cfg(test)]
+mod scripts;
+#[cfg(test)]
+mod splits;
+#[cfg(test)]
+mod texts;

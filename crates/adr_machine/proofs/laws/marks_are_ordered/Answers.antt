@@ -1,5 +1,0 @@
-use Rattle.adr_machine.proofs.LawLemmas.{marks_ordered}
-use Rattle.adr_machine.proofs.laws.marks_are_ordered.Goals as goal
-
-pub returns : goal.returns
-returns c = marks_ordered

@@ -1,0 +1,32 @@
+-- The order of the mirror's keys that the code has is the one of the definitions.
+use Rattle.std.proofs.Common.{◌≡◌, refl, ap}
+use Rattle.std.specs.declared.cmp.Ordering.{Ordering}
+use Rattle.std.specs.Ordering.{ordering_then}
+use Rattle.adr_schema.specs.declared.kind.Kind.{Kind}
+use Rattle.adr_schema.specs.declared.kind.Kind.TheVariants.{Program, Event}
+use Rattle.adr_schema.specs.contracts.kind.KindOrd.TheImpl as kind
+use Rattle.adr_state.specs.contracts.keys.MirrorKeyOrd.TheImpl as key
+use Rattle.adr_state.specs.declared.keys.MirrorKey.{MirrorKey}
+use Rattle.adr_state.specs.contracts.keys.ViewKeyOrd.TheImpl as view
+use Rattle.adr_state.specs.declared.keys.ViewKey.{ViewKey}
+use Rattle.adr_state.specs.declared.keys.ViewKey.TheVariants.{Event as Shown}
+use Rattle.adr_state.specs.Keys.{kind_cmp, id_cmp, mirror_cmp, view_cmp}
+
+kinds_same : (a b : Kind) → kind.cmp-value.it a b ≡ kind_cmp a b
+kinds_same Program Program = refl
+kinds_same Program Event = refl
+kinds_same Event Program = refl
+kinds_same Event Event = refl
+
+keys_same : (a b : MirrorKey) → key.cmp-value.it a b ≡ mirror_cmp a b
+keys_same a b = ap (λ (o : Ordering). ordering_then o (id_cmp a.id b.id)) (kinds_same a.kind b.kind)
+
+pub mirror_order : key.cmp-value.it ≡ mirror_cmp
+mirror_order = λ k. λ a b. keys_same a b k
+
+views_same : (a b : ViewKey) → view.cmp-value.it a b ≡ view_cmp a b
+views_same (Shown a m) (Shown b n) = refl
+
+-- and so is that of the view's keys
+pub view_order : view.cmp-value.it ≡ view_cmp
+view_order = λ k. λ a b. views_same a b k

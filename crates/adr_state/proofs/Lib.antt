@@ -1,0 +1,4 @@
+pub mod MapLemmas
+pub mod KeyLemmas
+pub mod SameLemmas
+pub mod LawLemmas

@@ -1,0 +1,12 @@
+pub mod Within
+pub mod Limits
+pub mod Keys
+pub mod Weights
+pub mod Same
+pub mod Marks
+pub mod Mirror
+pub mod Participants
+pub mod Views
+pub mod Changes
+pub mod States
+pub mod Laws

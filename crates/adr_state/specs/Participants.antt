@@ -1,0 +1,28 @@
+-- Who takes part in an event: the resources with a share in its program, restricted to the names of its resource targets where it has such a target.
+use Rattle.std.specs.Prelude.{ℕ, Bool, true, List, Option, None, Some, option_map, option_and_then, if◌then◌else◌}
+use Rattle.std.specs.List.{filter_map}
+use Rattle.std.specs.Ordering.{nat_cmp}
+use Rattle.adr_schema.specs.NameSets.{has_name}
+use Rattle.adr_schema.specs.declared.body.EventBody.{EventBody}
+use Rattle.adr_state.specs.declared.base.Base.{Base}
+use Rattle.adr_state.specs.declared.base.Resource.{Resource}
+use Rattle.adr_state.specs.declared.participants.Participant.{Participant}
+use Rattle.adr_state.specs.Keys.{share_cmp, at}
+
+-- whether an event with these resource names, if any, is for a resource of that name
+abbrev pub is_for : Option (List (List ℕ)) → List ℕ → Bool
+is_for None name = true
+is_for (Some names) name = has_name names name
+
+-- a resource with its share, where it has one, and its ven's name
+abbrev pub sharing : Base → List ℕ → ℕ × Resource → Option Participant
+sharing base program r =
+    option_and_then (λ weight. option_map (λ ven. record { resource = r.0; weight = weight; name = r.1.name; ven_name = ven.name }) (at nat_cmp r.1.ven base.vens))
+    (at share_cmp (record { program = program; resource = r.0 }) base.shares)
+
+abbrev pub participant_of : Base → EventBody → ℕ × Resource → Option Participant
+participant_of base event r = if is_for event.resource_names r.1.name then sharing base event.program r else None
+
+-- the participants, in the order of their numbers
+abbrev pub participants : Base → EventBody → List Participant
+participants base event = filter_map (participant_of base event) base.resources

@@ -1,0 +1,28 @@
+//! What the node keeps and what it shows, as plain maps: the mirror of the utility's objects, vens,
+//! resources and shares, the view that follows from them, and the changes between two views.
+#![tactic(auto)]
+
+mod base;
+mod changes;
+mod keys;
+pub mod laws;
+mod limits;
+mod lists;
+mod marks;
+mod mirror;
+mod participants;
+mod parts;
+mod state;
+mod view;
+mod view_map;
+
+pub use base::{Base, Mark, Resource, Resources, Ven, Weight};
+pub use changes::{Change, Operation, changes_of, restamped};
+pub use keys::{MirrorKey, ShareKey, ViewKey};
+pub use limits::{Limit, Limits, Settings};
+pub use lists::push_some;
+pub use mirror::join;
+pub use participants::Participant;
+pub use state::{Image, State};
+pub use view::{Content, View, view_of};
+pub use view_map::row_at;

@@ -1,0 +1,89 @@
+//! Evidence, and its join into the mirror.
+ghost use Rattle.std.specs.Prelude.{◌≡◌, OnOk, IfOk};
+ghost use Rattle.std.specs.Option.{option_copied};
+ghost use Rattle.std.specs.BTreeMap.{insert_entry};
+ghost use Rattle.adr_state.specs.Keys.{mirror_cmp, at};
+ghost use Rattle.adr_state.specs.Marks.{is_below};
+ghost use Rattle.adr_state.specs.Mirror.{key_of, mark_of, raised, joined, evidence_of};
+
+use crate::base::Mark;
+use crate::keys::MirrorKey;
+use crate::marks::is_below;
+use adr_schema::Found;
+use adr_text::Table;
+use std::alloc::{AllocError, Global};
+
+fn key_of(found: &Found) -> Result<MirrorKey, AllocError>
+    ensures { IfOk result (λ key. key ≡ key_of found.now) }
+{
+    Ok(MirrorKey {
+        kind: found.kind,
+        id: found.id.as_id().clone()?,
+    })
+}
+
+fn mark_of(found: &Found) -> Result<Mark, AllocError>
+    ensures { IfOk result (λ mark. mark ≡ mark_of found.now) }
+{
+    Ok(Mark::Live(found.moment, found.body.clone()?))
+}
+
+/// What the mirror has at the key.
+fn mark_at<'m>(mirror: &'m Table<MirrorKey, Mark>, key: &MirrorKey) -> Option<&'m Mark>
+    ensures { option_copied result ≡ at mirror_cmp key.now mirror.now }
+{
+    mirror.get(key)
+}
+
+fn put_mark(
+    mirror: &mut Table<MirrorKey, Mark>,
+    key: MirrorKey,
+    mark: Mark,
+) -> Result<(), AllocError>
+    ensures { OnOk result (mirror.new ≡ insert_entry mirror_cmp mirror.old key mark) }
+{
+    mirror.put(key, mark)
+}
+
+/// Whether the mirror has less than the mark at the key.
+fn has_less(
+    alloc: Global,
+    mirror: &Table<MirrorKey, Mark>,
+    key: &MirrorKey,
+    mark: &Mark,
+) -> Result<bool, AllocError>
+    ensures { IfOk result (λ less. less ≡ is_below (at mirror_cmp key.now mirror.now) mark.now) }
+{
+    is_below(alloc, mark_at(mirror, key), mark)
+}
+
+/// Raises the mark of the key of what was found.
+fn raise(
+    alloc: Global,
+    mirror: &mut Table<MirrorKey, Mark>,
+    found: &Found,
+) -> Result<(), AllocError>
+    ensures { OnOk result (mirror.new ≡ raised mirror.old (key_of found.now, mark_of found.now)) }
+{
+    let key = key_of(found)?;
+    let mark = mark_of(found)?;
+    if has_less(alloc, mirror, &key, &mark)? {
+        put_mark(mirror, key, mark)?;
+    }
+    Ok(())
+}
+
+/// Joins the mirror with what was found: each key keeps the greatest of the mark that it had and those
+/// that came for it. Where memory runs out the mirror is left anyhow.
+pub fn join(
+    alloc: Global,
+    mirror: &mut Table<MirrorKey, Mark>,
+    founds: &[Found],
+) -> Result<(), AllocError>
+    ensures { OnOk result (mirror.new ≡ joined mirror.old (evidence_of founds.now)) }
+{
+    for found in founds {
+        raise(alloc, mirror, found)?;
+    }
+    Ok(())
+}

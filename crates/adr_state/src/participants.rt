@@ -1,0 +1,87 @@
+//! Who takes part in an event.
+ghost use Rattle.std.specs.Prelude.{◌≡◌, ◌≤◌, length, IfOk};
+ghost use Rattle.adr_state.specs.Weights.{most_resources};
+ghost use Rattle.adr_state.specs.Participants.{is_for, sharing, participant_of, participants};
+
+use crate::base::{Base, Resource, Weight};
+use crate::keys::ShareKey;
+use crate::lists::push_some;
+use adr_schema::{EventBody, NameSet, Number};
+use adr_text::{Name, ObjectId};
+use std::alloc::{AllocError, Global};
+
+/// A resource with its weight in the event's program.
+#[derive(Debug, Drop)]
+pub struct Participant {
+    pub resource: Number,
+    pub weight: Weight,
+    pub name: Name,
+    pub ven_name: Name,
+}
+
+/// Whether an event with these resource names, if any, is for a resource of that name.
+fn is_for(names: &Option<NameSet>, name: &Name) -> bool
+    ensures { result ≡ is_for names.now name.now }
+{
+    match names {
+        None => true,
+        Some(names) => names.contains(name),
+    }
+}
+
+/// The resource with its share, where it has one.
+fn sharing(
+    base: &Base,
+    program: &ObjectId,
+    number: Number,
+    resource: &Resource,
+) -> Result<Option<Participant>, AllocError>
+    ensures { IfOk result (λ p. p ≡ sharing base.now program.now (number, resource.now)) }
+{
+    let key = ShareKey {
+        program: program.clone()?,
+        resource: number,
+    };
+    let Some(weight) = base.shares.get(&key) else {
+        return Ok(None);
+    };
+    let Some(ven) = base.vens.get(&resource.ven) else {
+        return Ok(None);
+    };
+    Ok(Some(Participant {
+        resource: number,
+        weight: *weight,
+        name: resource.name.as_name().clone()?,
+        ven_name: ven.name.clone()?,
+    }))
+}
+
+fn participant_of(
+    base: &Base,
+    event: &EventBody,
+    number: Number,
+    resource: &Resource,
+) -> Result<Option<Participant>, AllocError>
+    ensures { IfOk result (λ p. p ≡ participant_of base.now event.now (number, resource.now)) }
+{
+    if !is_for(&event.resource_names, resource.name.as_name()) {
+        return Ok(None);
+    }
+    sharing(base, &event.program, number, resource)
+}
+
+/// The participants of an event, in the order of their numbers.
+pub(crate) fn participants(
+    alloc: Global,
+    base: &Base,
+    event: &EventBody,
+) -> Result<Vec<Participant>, AllocError>
+    ensures value { IfOk result (λ all. all.items ≡ participants base.now event.now) }
+    ensures few { IfOk result (λ all. length all.items ≤ most_resources) }
+{
+    let mut all = Vec::new(alloc);
+    for (number, resource) in base.resources.iter() {
+        push_some(&mut all, participant_of(base, event, *number, resource)?)?;
+    }
+    Ok(all)
+}

@@ -1,0 +1,74 @@
+//! The whole state.
+ghost use Rattle.std.specs.Prelude.{◌≡◌, IfOk};
+
+use crate::base::{Base, Mark, Resources};
+use crate::keys::ViewKey;
+use adr_schema::Stamps;
+use adr_text::Table;
+use std::alloc::{AllocError, Global};
+
+/// The base, and the stamps of what is shown.
+#[derive(Drop)]
+pub struct State {
+    pub base: Base,
+    pub stamps: Table<ViewKey, Stamps>,
+}
+
+/// A state that was read from a desk.
+pub type Image = State;
+
+impl Clone for Mark {
+    ghost is_clone = { λ x y. y ≡ x };
+
+    fn clone(&self) -> Result<Mark, AllocError> {
+        match self {
+            Mark::Live(moment, body) => Ok(Mark::Live(*moment, body.clone()?)),
+            Mark::Dead => Ok(Mark::Dead),
+        }
+    }
+}
+
+impl Base {
+    /// The same base again.
+    pub fn copy(&self) -> Result<Base, AllocError>
+        ensures { IfOk result (λ base. base ≡ self.now) }
+    {
+        Ok(Base {
+            mirror: self.mirror.clone()?,
+            vens: self.vens.clone()?,
+            resources: self.resources.clone()?,
+            shares: self.shares.clone()?,
+            serial: self.serial,
+        })
+    }
+}
+
+impl State {
+    ghost use Rattle.adr_state.specs.States.{empty};
+
+    /// The state at first.
+    pub fn new(alloc: Global) -> State
+        ensures { result ≡ empty }
+    {
+        State {
+            base: Base {
+                mirror: Table::new(alloc),
+                vens: Table::new(alloc),
+                resources: Resources::new(alloc),
+                shares: Table::new(alloc),
+                serial: 0,
+            },
+            stamps: Table::new(alloc),
+        }
+    }
+
+    /// The same state again.
+    pub fn copy(&self) -> Result<State, AllocError>
+        ensures { IfOk result (λ state. state ≡ self.now) }
+    {
+        Ok(State {
+            base: self.base.copy()?,
+            stamps: self.stamps.clone()?,
+        })
+    }
+}

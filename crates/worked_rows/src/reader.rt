@@ -1,0 +1,110 @@
+//! The readers of texts, and what each makes of one, as a line.
+use adr_schema::{Kind, canonical, read_page, read_resource, read_share, read_ven};
+use adr_text::{Fault, Moment, Name, ObjectId, Refusal, Whole, read_value, whole};
+use std::alloc::{AllocError, Global};
+use std::str::from_utf8;
+
+/// What reads a text.
+#[derive(Clone, Copy)]
+pub enum Reader {
+    Page(Kind),
+    Ven,
+    Resource,
+    Share,
+    Moment,
+    ObjectId,
+    Name,
+    /// A JSON value, as a whole number.
+    Whole,
+}
+
+impl Reader {
+    /// The reader of that name.
+    pub fn of(name: &str) -> Option<Reader> {
+        match name {
+            "page events" => Some(Reader::Page(Kind::Event)),
+            "page programs" => Some(Reader::Page(Kind::Program)),
+            "ven" => Some(Reader::Ven),
+            "resource" => Some(Reader::Resource),
+            "share" => Some(Reader::Share),
+            "moment" => Some(Reader::Moment),
+            "object id" => Some(Reader::ObjectId),
+            "name" => Some(Reader::Name),
+            "whole number" => Some(Reader::Whole),
+            _ => None,
+        }
+    }
+}
+
+/// How many elements of the page are passed over, and the canonical text of each other one.
+fn page_line(alloc: Global, kind: Kind, text: &[u8]) -> Result<String, Refusal> {
+    let (found, skipped) = read_page(alloc, kind, text)?;
+    let mut line = format!(in alloc; "skipped {skipped}")?;
+    for version in found.as_slice() {
+        line.push_str(" ")?;
+        line.push_str(canonical(alloc, &version.body)?.as_str())?;
+    }
+    Ok(line)
+}
+
+fn ven_line(alloc: Global, text: &[u8]) -> Result<String, Refusal> {
+    let ven = read_ven(alloc, text)?;
+    Ok(String::from_str(alloc, ven.name.as_str())?)
+}
+
+fn resource_line(alloc: Global, text: &[u8]) -> Result<String, Refusal> {
+    let resource = read_resource(alloc, text)?;
+    Ok(String::from_str(alloc, resource.name.as_name().as_str())?)
+}
+
+fn share_line(alloc: Global, text: &[u8]) -> Result<String, Refusal> {
+    let share = read_share(alloc, text)?.share;
+    Ok(format!(in alloc; "{share}")?)
+}
+
+/// The text, where it is UTF-8.
+fn text_of(text: &[u8]) -> Result<&str, Refusal> {
+    from_utf8(text).map_err(|_| Refusal::BadShape)
+}
+
+fn id_line(alloc: Global, text: &[u8]) -> Result<String, Refusal> {
+    let id = ObjectId::new(alloc, text_of(text)?)?;
+    Ok(String::from_str(alloc, id.as_str())?)
+}
+
+fn name_line(alloc: Global, text: &[u8]) -> Result<String, Refusal> {
+    let name = Name::new(alloc, text_of(text)?)?;
+    Ok(String::from_str(alloc, name.as_str())?)
+}
+
+fn whole_line(alloc: Global, text: &[u8]) -> Result<String, Refusal> {
+    let value = read_value(alloc, text).map_err(Fault::refusal)?;
+    let line = match whole(&value) {
+        Whole::In(number) => format!(in alloc; "{number}"),
+        Whole::Beyond => String::from_str(alloc, "beyond"),
+        Whole::Fraction => String::from_str(alloc, "a fraction"),
+        Whole::NoNumber => String::from_str(alloc, "no number"),
+    };
+    Ok(line?)
+}
+
+fn line(alloc: Global, reader: Reader, text: &[u8]) -> Result<String, Refusal> {
+    match reader {
+        Reader::Page(kind) => page_line(alloc, kind, text),
+        Reader::Ven => ven_line(alloc, text),
+        Reader::Resource => resource_line(alloc, text),
+        Reader::Share => share_line(alloc, text),
+        Reader::Moment => Ok(Moment::read(text_of(text)?)?.text(alloc)?),
+        Reader::ObjectId => id_line(alloc, text),
+        Reader::Name => name_line(alloc, text),
+        Reader::Whole => whole_line(alloc, text),
+    }
+}
+
+/// What the reader makes of the text, or its refusal.
+pub fn answer(alloc: Global, reader: Reader, text: &[u8]) -> Result<String, AllocError> {
+    match line(alloc, reader, text) {
+        Ok(line) => Ok(line),
+        Err(refusal) => format!(in alloc; "refused {} {}", refusal.number(), refusal.title()),
+    }
+}
