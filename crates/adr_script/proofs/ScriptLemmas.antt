@@ -1,5 +1,5 @@
 -- Runs of scripts, one after another.
-use Rattle.std.proofs.Common.{◌≡◌, ℕ, ◌+◌, ◌≤◌, Bool, true, false, cond, List, [], ◌∷◌, ◌++◌, length, take, drop, Option, append_assoc, append-nil, length-append, refl, sym, ap, ◌∙◌, subst, true≢false, Result, Ok, Err, OnErr, arith}
+use Rattle.std.proofs.Common.{◌≡◌, ℕ, ◌+◌, ◌≤◌, Bool, true, false, cond, List, [], ◌∷◌, ◌++◌, length, take, drop, Option, append_assoc, append-nil, length-append, refl, sym, ap, ◌∙◌, subst, true≢false, Result, Ok, Err, OnOk, OnErr, arith}
 use Rattle.std.proofs.Math.Seq.{take-append-add, take-length}
 use Rattle.std.proofs.Math.Dec.{eqb-suc-zero}
 use Rattle.std.proofs.lemmas.List.{take-append-le}
@@ -37,6 +37,10 @@ unended-append line (b ∷ bs) ys = unended_at (b == 10) (unended [] bs) (unende
 pub whatever_failed : {X E : Type 0} (r : Result X E) (P : Type 0) → P → OnErr r P
 whatever_failed (Ok x) P h = tt
 whatever_failed (Err e) P h = h
+
+pub whatever_went_well : {X E : Type 0} (r : Result X E) (P : Type 0) → P → OnOk r P
+whatever_went_well (Ok x) P h = h
+whatever_went_well (Err e) P h = tt
 
 -- the fault that is handed on is the one that came
 pub same_fault : {X Y F : Type 0} (r : Result Y F) (f g : F) → IsErrAnd r (λ x. x ≡ f) → r ≡ Err g → ◌≡◌ {A = Result X F} (Err f) (Err g)

@@ -1,19 +1,22 @@
 -- Texts that come piece by piece.
-use Rattle.std.proofs.Common.{◌≡◌, ℕ, ◌+◌, List, [], ◌∷◌, ◌++◌, length, length-append, arith, Option, Some, None, IfSome, append-nil, append_assoc, sym, ap, ◌∙◌, subst, take, refl}
+use Rattle.std.proofs.Common.{◌≡◌, ℕ, ◌+◌, ◌⊎◌, inl, inr, List, [], ◌∷◌, ◌++◌, length, length-append, arith, Option, Some, None, IfSome, append-nil, append_assoc, sym, ap, ◌∙◌, subst, take, refl}
+use Rattle.std.specs.Prelude.{◌≢◌}
 use Rattle.std.specs.Io.KnownBytes.{Appends, Consumes, IsAtEnd}
 use Rattle.std.proofs.KnownBytes.{Consumes-trans}
 use Rattle.adr_state.specs.declared.state.State.{State}
 use Rattle.adr_state.specs.declared.limits.Settings.{Settings}
-use Rattle.adr_script.specs.Lines.{ended, unended, last_line, lines_of, HasLongLine, HasManyLines}
+use Rattle.adr_script.specs.Lines.{ended, unended, last_line, lines_of, most_bytes, most_lines, HasLongLine, HasManyLines}
 use Rattle.adr_script.specs.Scripts.{Runs, Stops}
 use Rattle.adr_script.proofs.ScriptLemmas.{ended-append, unended-append, Runs-append, Stops-after, Stops-before, Stops-all}
 
--- some bytes were taken: the source lost them, and the lines that end in them had their turn
+-- some bytes were taken: the source lost them, they are within the limits, and the lines that end in them had their turn
 pub record HasTaken (left now : Option (List ℕ)) (line : List ℕ) (seen : ℕ) (Done : List (List ℕ) → Type 0) : Type 0 where
   pub bytes : List ℕ
   pub consumed : Consumes left now bytes
   pub line_is : line ≡ unended [] bytes
   pub seen_is : seen ≡ length (ended [] bytes)
+  pub short_lines : ¬ HasLongLine [] bytes
+  pub few_lines : ¬ HasManyLines 0 [] bytes
   pub done : Done (ended [] bytes)
 
 -- what holds however the text goes on holds of the text
@@ -77,6 +80,76 @@ many_lines-behind before start pre line text m count is h =
       is = ap (λ (l : List ℕ). pre ++ l) h.is ∙ sym (append_assoc pre h.front (h.byte ∷ h.rest));
       full = sym (seen_text before start pre line h.front m (m + length (ended line h.front)) count is refl) ∙ h.full;
     }
+
+-- ---- texts within the limits
+
+-- a byte behind a front stands in the first part of a text, or in the second
+in_either : (pre text front rest : List ℕ) (b : ℕ) → pre ++ text ≡ front ++ b ∷ rest
+    → ((others : List ℕ) × (pre ≡ front ++ b ∷ others)) ⊎ ((more : List ℕ) × (front ≡ pre ++ more) × (text ≡ more ++ b ∷ rest))
+in_either [] text front rest b h = inr (front, refl, h)
+in_either (x ∷ pre) text [] rest b h =
+    let same : x ≡ b = cc in
+    inl (pre, ap (λ (y : ℕ). y ∷ pre) same)
+in_either (x ∷ pre) text (y ∷ front) rest b h =
+    let same : x ≡ y = cc in
+    let behind : pre ++ text ≡ front ++ b ∷ rest = cc in
+    elim (in_either pre text front rest b behind) [
+      | inl w ↦ inl (w.0, ap (λ (l : List ℕ). x ∷ l) w.1 ∙ ap (λ (z : ℕ). z ∷ front ++ b ∷ w.0) same)
+      | inr w ↦ inr (w.0, ap (λ (z : ℕ). z ∷ front) (sym same) ∙ ap (λ (l : List ℕ). x ∷ l) w.1, w.2)
+    ]
+
+-- the front of a text of one byte
+one_byte : (front rest : List ℕ) (a b : ℕ) → a ∷ [] ≡ front ++ b ∷ rest → (front ≡ []) × (b ≡ a)
+one_byte [] rest a b h = let same : b ≡ a = cc in (refl, same)
+one_byte (x ∷ front) rest a b h = absurd (omega (arith, simp length-append at (ap length h)))
+
+-- a text of no bytes is within the limits
+pub no_long_line-nothing : (line : List ℕ) → ¬ HasLongLine line []
+no_long_line-nothing line h = absurd (omega (arith, simp length-append at (ap length h.is)))
+
+pub few_lines-nothing : (before : ℕ) (line : List ℕ) → ¬ HasManyLines before line []
+few_lines-nothing before line h = absurd (omega (arith, simp length-append at (ap length h.is)))
+
+-- a byte more, which ends the line or has room in it
+pub no_long_line-byte : (line : List ℕ) (b : ℕ) → (b ≢ 10 → length line ≢ most_bytes) → ¬ HasLongLine line (b ∷ [])
+no_long_line-byte line b room h =
+    let one = one_byte h.front h.rest b h.byte h.is in
+    room (λ e. h.goes_on (one.1 ∙ e)) (ap (λ (l : List ℕ). length (unended line l)) (sym one.0) ∙ h.full)
+
+pub few_lines-byte : (before : ℕ) (line : List ℕ) (b : ℕ) → before ≢ most_lines → ¬ HasManyLines before line (b ∷ [])
+few_lines-byte before line b room h =
+    let one = one_byte h.front h.rest b h.byte h.is in
+    let full : before + length (ended line []) ≡ most_lines = ap (λ (l : List ℕ). before + length (ended line l)) (sym one.0) ∙ h.full in
+    room (omega (arith, full))
+
+-- two parts that are within the limits, one behind the other
+pub no_long_line-append : (start pre line text : List ℕ) → line ≡ unended start pre → ¬ HasLongLine start pre → ¬ HasLongLine line text → ¬ HasLongLine start (pre ++ text)
+no_long_line-append start pre line text is first second h =
+    elim (in_either pre text h.front h.rest h.byte h.is) [
+      | inl w ↦ first (record { front = h.front; byte = h.byte; rest = w.0; is = w.1; full = h.full; goes_on = h.goes_on })
+      | inr w ↦ second (record {
+        front = w.0;
+        byte = h.byte;
+        rest = h.rest;
+        is = w.2;
+        full = ap (λ (l : List ℕ). length (unended l w.0)) is ∙ ap length (sym (unended-append start pre w.0)) ∙ ap (λ (l : List ℕ). length (unended start l)) (sym w.1) ∙ h.full;
+        goes_on = h.goes_on;
+      })
+    ]
+
+pub few_lines-append : (before : ℕ) (start pre line text : List ℕ) (m : ℕ) → m ≡ before + length (ended start pre) → line ≡ unended start pre → ¬ HasManyLines before start pre → ¬ HasManyLines m line text
+    → ¬ HasManyLines before start (pre ++ text)
+few_lines-append before start pre line text m count is first second h =
+    elim (in_either pre text h.front h.rest h.byte h.is) [
+      | inl w ↦ first (record { front = h.front; byte = h.byte; rest = w.0; is = w.1; full = h.full })
+      | inr w ↦ second (record {
+        front = w.0;
+        byte = h.byte;
+        rest = h.rest;
+        is = w.2;
+        full = seen_text before start pre line w.0 m (m + length (ended line w.0)) count is refl ∙ ap (λ (l : List ℕ). before + length (ended start l)) (sym w.1) ∙ h.full;
+      })
+    ]
 
 module _ (settings : Settings) (s : State) (o : Option (List ℕ)) where
   -- lines that were taken, of a text that goes on

@@ -105,6 +105,8 @@ fn take_byte<D: Desk, W: Sink>(
     ensures seen { OnOk result (progress.new.seen ≡ progress.old.seen + length (ended progress.old.line.items (byte ∷ []))) }
     ensures long_line { result ≡ Err LineTooLong → HasLongLine progress.old.line.items (byte ∷ []) }
     ensures long_script { result ≡ Err ScriptTooLong → HasManyLines progress.old.seen progress.old.line.items (byte ∷ []) }
+    ensures short_lines { OnOk result (¬ HasLongLine progress.old.line.items (byte ∷ [])) }
+    ensures few_lines { OnOk result (¬ HasManyLines progress.old.seen progress.old.line.items (byte ∷ [])) }
     ensures was_sound { D.is_sound desk.new → D.is_sound desk.old }
     ensures same_settings { D.settings desk.new ≡ D.settings desk.old }
 {
@@ -139,6 +141,8 @@ fn take_piece<D: Desk, W: Sink>(
     ensures seen { OnOk result (progress.new.seen ≡ progress.old.seen + length (ended progress.old.line.items piece.now)) }
     ensures long_line { result ≡ Err LineTooLong → HasLongLine progress.old.line.items piece.now }
     ensures long_script { result ≡ Err ScriptTooLong → HasManyLines progress.old.seen progress.old.line.items piece.now }
+    ensures short_lines { OnOk result (¬ HasLongLine progress.old.line.items piece.now) }
+    ensures few_lines { OnOk result (¬ HasManyLines progress.old.seen progress.old.line.items piece.now) }
     ensures was_sound { D.is_sound desk.new → D.is_sound desk.old }
     ensures same_settings { D.settings desk.new ≡ D.settings desk.old }
 {
@@ -190,6 +194,8 @@ pub fn run_script<D: Desk, S: Source, W: Sink>(
     ensures reads { S.calls source.new ≤ S.calls source.old + MOST_READS }
     ensures long_line { IfSome (S.left source.old) (λ text. result ≡ Err LineTooLong → HasLongLine [] text) }
     ensures long_script { IfSome (S.left source.old) (λ text. result ≡ Err ScriptTooLong → HasManyLines 0 [] text) }
+    ensures short_lines { OnOk result (IfSome (S.left source.old) (λ text. ¬ HasLongLine [] text)) }
+    ensures few_lines { OnOk result (IfSome (S.left source.old) (λ text. ¬ HasManyLines 0 [] text)) }
     ensures was_sound { D.is_sound desk.new → D.is_sound desk.old }
     ensures same_settings { D.settings desk.new ≡ D.settings desk.old }
 {

@@ -4,8 +4,8 @@ use Rattle.std.proofs.KnownBytes.{Consumes-trans}
 use Rattle.std.proofs.lemmas.Result.{IfOk-weaker, on_err_weaker}
 use Rattle.adr_script.specs.Lines.{lines_of, ended, unended, HasLongLine, HasManyLines}
 use Rattle.adr_script.specs.Scripts.{Runs, Stops}
-use Rattle.adr_script.proofs.ScriptLemmas.{whatever_failed, same_fault, unended-append}
-use Rattle.adr_script.proofs.TextLemmas.{whatever_follows, at_the_end, nothing_more, seen_text, long_line-behind, long_line-append, many_lines-behind, many_lines-append, Stops-read, Stops-piece, Runs-piece, Runs-last, Stops-last}
+use Rattle.adr_script.proofs.ScriptLemmas.{whatever_failed, whatever_went_well, same_fault, unended-append}
+use Rattle.adr_script.proofs.TextLemmas.{whatever_follows, at_the_end, nothing_more, seen_text, long_line-behind, long_line-append, many_lines-behind, many_lines-append, no_long_line-append, few_lines-append, Stops-read, Stops-piece, Runs-piece, Runs-last, Stops-last}
 use Rattle.adr_script.proofs.script.run_script.Goals as goal
 
 -- a read failed: the lines so far are taken
@@ -45,6 +45,21 @@ returns-then-n-eq0-clause-some g c =
     (taken.done (c.finish.ensures.was_sound sound)) taken.line_is (rw same at (h sound))))
     c.finish.ensures.err
 
+-- what was read is within the limits
+pub returns-then-n-eq0-clause-short_lines : goal.returns-then-n-eq0-clause-short_lines
+returns-then-n-eq0-clause-short_lines g c =
+    let taken = c.loop.invariant.taken in
+    let all = nothing_more _ _ _ taken.bytes _ c.in-Ok.n taken.consumed c.in-Ok.ensures.bytes.0 c.if-n-eq0.true in
+    let ended = c.in-Ok.ensures.bytes.1 c.if-n-eq0.true (omega arith) in
+    whatever_went_well c.finish.result _ (at_the_end _ _ taken.bytes _ all ended taken.short_lines)
+
+pub returns-then-n-eq0-clause-few_lines : goal.returns-then-n-eq0-clause-few_lines
+returns-then-n-eq0-clause-few_lines g c =
+    let taken = c.loop.invariant.taken in
+    let all = nothing_more _ _ _ taken.bytes _ c.in-Ok.n taken.consumed c.in-Ok.ensures.bytes.0 c.if-n-eq0.true in
+    let ended = c.in-Ok.ensures.bytes.1 c.if-n-eq0.true (omega arith) in
+    whatever_went_well c.finish.result _ (at_the_end _ _ taken.bytes _ all ended taken.few_lines)
+
 -- a piece stopped
 pub returns-in_err-take_piece-clause-some : goal.returns-in_err-take_piece-clause-some
 returns-in_err-take_piece-clause-some g c =
@@ -76,6 +91,8 @@ loop-preserved g c =
         consumed = Consumes-trans _ _ _ taken.bytes piece taken.consumed c.in-Ok.ensures.bytes.0;
         line_is = c.in_ok-take_piece.ensures.line ∙ ap (λ (l : List ℕ). unended l piece) taken.line_is ∙ sym (unended-append [] taken.bytes piece);
         seen_is = seen_text 0 [] taken.bytes c.loop.progress.line.items piece c.loop.progress.seen c.take_piece.new.progress.seen (omega (arith, taken.seen_is)) taken.line_is c.in_ok-take_piece.ensures.seen ∙ zero-add (length (ended [] (taken.bytes ++ piece)));
+        short_lines = no_long_line-append [] taken.bytes c.loop.progress.line.items piece taken.line_is taken.short_lines c.in_ok-take_piece.ensures.short_lines;
+        few_lines = few_lines-append 0 [] taken.bytes c.loop.progress.line.items piece c.loop.progress.seen (omega (arith, taken.seen_is)) taken.line_is taken.few_lines c.in_ok-take_piece.ensures.few_lines;
         done = λ sound. Runs-piece from s o (g.D.Desk.state c.loop.desk) (g.D.Desk.state c.take_piece.new.desk) (g.W.Sink.written c.loop.sink) (g.W.Sink.written c.take_piece.new.sink) taken.bytes piece c.loop.progress.line.items 0 c.loop.progress.printed c.take_piece.new.progress.printed
             (taken.done (c.in_ok-take_piece.ensures.was_sound sound)) taken.line_is (rw same at (c.in_ok-take_piece.ensures.ok sound));
       };

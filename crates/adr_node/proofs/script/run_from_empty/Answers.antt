@@ -1,0 +1,60 @@
+use Rattle.std.proofs.Common.{◌≡◌, ℕ, List, [], Option, Ok, refl, ap, ◌∙◌, subst}
+use Rattle.std.specs.Prelude.{codes, Result}
+use Rattle.std.proofs.KnownBytes.{Consumes-nil}
+use Rattle.std.proofs.lemmas.Option.{IfSome_then}
+use Rattle.std.proofs.lemmas.Result.{IfOk-weaker, on_err_weaker}
+use Rattle.adr_text.specs.Names.{name_of}
+use Rattle.adr_text.specs.declared.refusal.Refusal.{Refusal}
+use Rattle.adr_state.specs.States.{empty}
+use Rattle.adr_state.specs.declared.state.State.{State}
+use Rattle.adr_state.specs.declared.limits.Limits.{Limits}
+use Rattle.adr_state.specs.declared.limits.Settings.{Settings}
+use Rattle.adr_script.specs.Lines.{lines_of}
+use Rattle.adr_script.specs.Scripts.{Runs, Stops}
+use Rattle.adr_script.proofs.ScriptLemmas.{Stops-at_once}
+use Rattle.adr_script.proofs.TextLemmas.{whatever_follows}
+use Rattle.adr_node.specs.Script.{settings_of, RunsFromEmpty, StopsFromEmpty}
+use Rattle.adr_node.proofs.script.run_from_empty.Goals as goal
+
+abbrev set_as : List ℕ → Limits → Settings
+set_as client limits = record { client = client; limits = limits }
+
+-- the name that was read is the one that was meant
+settings_are : (limits : Limits) (client : List ℕ) (settings : Settings) → name_of (codes "aggregator") ≡ Ok client → settings ≡ set_as client limits → settings ≡ settings_of limits
+settings_are limits client settings named is =
+    let read : ◌≡◌ {A = Result (List ℕ) Refusal} (Ok (codes "aggregator")) (Ok client) = named in
+    let same : client ≡ codes "aggregator" = cc in
+    is ∙ ap (λ (c : List ℕ). set_as c limits) same
+
+module _ (limits : Limits) (settings : Settings) (s : State) (are : settings ≡ settings_of limits) (at : s ≡ empty) (text : List ℕ) (t : State) (old new : Option (List ℕ)) where
+  runs : (n : ℕ) → Runs settings s (lines_of text) t old new 0 n → RunsFromEmpty limits text old new n
+  runs n h =
+      let from : Runs settings empty (lines_of text) t old new 0 n = subst (λ (u : State). Runs settings u (lines_of text) t old new 0 n) at h in
+      (t, subst (λ (x : Settings). Runs x empty (lines_of text) t old new 0 n) are from)
+
+  stops : Stops settings s (lines_of text) t old new → StopsFromEmpty limits text old new
+  stops h =
+      let from : Stops settings empty (lines_of text) t old new = subst (λ (u : State). Stops settings u (lines_of text) t old new) at h in
+      (t, subst (λ (x : Settings). Stops x empty (lines_of text) t old new) are from)
+
+-- no memory for the client's name: no line was taken
+pub returns-in_default-clause-some : goal.returns-in_default-clause-some
+returns-in_default-clause-some g c =
+    let left = g.S.Source.left c.args.source.now in
+    whatever_follows left left [] _ (Consumes-nil left) (λ text. (empty, Stops-at_once (settings_of c.args.limits) empty empty (lines_of text) (g.W.Sink.written c.args.sink.now) refl))
+
+pub returns-clause-all : goal.returns-clause-all
+returns-clause-all g c =
+    let desk = c.new-desk.result in
+    let are : desk.settings ≡ settings_of c.args.limits = settings_are c.args.limits c.in-Ok.client desk.settings c.in-Ok.ensures c.new-desk.ensures.settings in
+    IfOk-weaker c.run_script.result _ _ (λ n h. IfSome_then (g.S.Source.left c.args.source.now) h
+    (λ text ran. runs c.args.limits desk.settings desk.state are c.new-desk.ensures.state text c.run_script.new.desk.state (g.W.Sink.written c.args.sink.now) (g.W.Sink.written c.run_script.new.sink) n (ran tt)))
+    c.run_script.ensures.all
+
+pub returns-clause-some : goal.returns-clause-some
+returns-clause-some g c =
+    let desk = c.new-desk.result in
+    let are : desk.settings ≡ settings_of c.args.limits = settings_are c.args.limits c.in-Ok.client desk.settings c.in-Ok.ensures c.new-desk.ensures.settings in
+    on_err_weaker c.run_script.result (λ h. IfSome_then (g.S.Source.left c.args.source.now) h
+    (λ text ran. stops c.args.limits desk.settings desk.state are c.new-desk.ensures.state text c.run_script.new.desk.state (g.W.Sink.written c.args.sink.now) (g.W.Sink.written c.run_script.new.sink) (ran tt)))
+    c.run_script.ensures.some
