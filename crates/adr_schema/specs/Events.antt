@@ -46,8 +46,12 @@ period_in d = do
 
 -- ---- payloads and targets: objects with a type
 
+-- a member that is a text
+abbrev pub text_at : List ℕ → Data → Result (List ℕ) Fault
+text_at name d = required (member_of name d) text_of
+
 abbrev pub type_in : Data → Result (List ℕ) Fault
-type_in d = required (member_of (codes "type") d) text_of
+type_in d = text_at (codes "type") d
 
 -- whether the object's type is that text
 abbrev pub is_of_type : List ℕ → Data → Bool

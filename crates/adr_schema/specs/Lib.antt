@@ -6,7 +6,10 @@ pub mod NameSets
 pub mod Bodies
 pub mod Events
 pub mod Pages
+pub mod Notices
 pub mod Sites
 pub mod Canonical
+pub mod ReadBack
+pub mod Kept
 pub mod Objects
 pub mod Laws

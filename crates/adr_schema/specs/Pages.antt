@@ -63,3 +63,7 @@ page_in kind d = items_in d >>= λ ds. Ok (founds_and_skipped kind ds)
 -- the page that the bytes are
 unfoldable pub page_of : Kind → List ℕ → Result (List Found × ℕ) Refusal
 page_of kind bytes = as_refusal (bytes_as (page_in kind) bytes)
+
+-- the one version that the bytes are
+unfoldable pub version_of : Kind → List ℕ → Result Found Refusal
+version_of kind bytes = as_refusal (bytes_as (found_in kind) bytes)

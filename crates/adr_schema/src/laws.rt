@@ -1,5 +1,5 @@
-//! Laws over what is read, whatever the bytes are.
-ghost use Rattle.adr_schema.specs.Laws.{SetpointsAreSmall, IntervalsDiffer, FractionsAreRefused, PagesAddUp};
+//! Laws over what is read, whatever the bytes are, and over canonical texts.
+ghost use Rattle.adr_schema.specs.Laws.{SetpointsAreSmall, IntervalsDiffer, FractionsAreRefused, PagesAddUp, CanonicalTextsReadBack, CanonicalTextsDiffer};
 
 /// A setpoint of an event that is read has a magnitude of at most 10^12.
 pub fn setpoints_are_small_when_read()
@@ -19,4 +19,14 @@ pub fn fractions_are_never_setpoints()
 /// Each element of a page is a version or is counted as none.
 pub fn pages_add_up_to_their_length()
     ensures { PagesAddUp }
+{}
+
+/// The canonical text of a body reads back as that body, for every body that the types admit.
+pub fn canonical_texts_read_back()
+    ensures { CanonicalTextsReadBack }
+{}
+
+/// Two bodies with one canonical text are the same.
+pub fn canonical_texts_differ()
+    ensures { CanonicalTextsDiffer }
 {}

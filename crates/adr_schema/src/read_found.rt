@@ -1,4 +1,4 @@
-//! Pages of upstream objects, read from JSON.
+//! Upstream objects, one or a page of them, read from JSON.
 ghost use Rattle.std.specs.Prelude.{codes, map, Ok};
 ghost use Rattle.serde_json.specs.View.{view};
 ghost use Rattle.adr_text.specs.Faults.{Finds};
@@ -6,7 +6,7 @@ ghost use Rattle.adr_text.specs.Refusals.{Gives};
 ghost use Rattle.adr_text.specs.Fields.{member_of, required, name_in};
 ghost use Rattle.adr_schema.specs.Bytes.{bytes_as};
 ghost use Rattle.adr_schema.specs.Events.{event_in};
-ghost use Rattle.adr_schema.specs.Pages.{upstream_id_in, program_body, event_body, body_in, found_in, founds_and_skipped, page_in, page_of};
+ghost use Rattle.adr_schema.specs.Pages.{upstream_id_in, program_body, event_body, body_in, found_in, founds_and_skipped, page_in, page_of, version_of};
 
 use crate::body::{Body, EventBody, Found, Reason, UpstreamId};
 use crate::kind::Kind;
@@ -64,7 +64,7 @@ fn body(alloc: Global, kind: Kind, value: &Value) -> Result<Body, Fault>
 
 // The version that an element is.
 #[tactic(auto, unfolding(crate::specs::Pages::found_in))]
-fn found(alloc: Global, kind: Kind, value: &Value) -> Result<Found, Fault>
+pub(crate) fn found(alloc: Global, kind: Kind, value: &Value) -> Result<Found, Fault>
     ensures { Finds (λ f. f) result (found_in kind (view value.now)) }
 {
     let id = needed(alloc, value, "id")?;
@@ -109,4 +109,20 @@ pub fn read_page(alloc: Global, kind: Kind, bytes: &[u8]) -> Result<(Rows<Found>
     ensures { Gives (λ p. (p.0, p.1)) result (page_of kind bytes.now) }
 {
     told(page(alloc, kind, bytes))
+}
+
+fn one(alloc: Global, kind: Kind, bytes: &[u8]) -> Result<Found, Fault>
+    ensures { Finds (λ f. f) result (bytes_as (found_in kind) bytes.now) }
+{
+    let value = read_value(alloc, bytes)?;
+    found(alloc, kind, &value)
+}
+
+/// The one version that the bytes are, as an object of that kind; `BadShape` where a page would skip it
+/// or the bytes are no JSON.
+#[tactic(auto, using(crate::proofs::Told::told_gives), unfolding(crate::specs::Pages::version_of))]
+pub fn read_one(alloc: Global, kind: Kind, bytes: &[u8]) -> Result<Found, Refusal>
+    ensures { Gives (λ f. f) result (version_of kind bytes.now) }
+{
+    told(one(alloc, kind, bytes))
 }

@@ -77,7 +77,7 @@ impl FromJson for Payloads {
     }
 }
 
-fn has_id(intervals: &[Interval], id: i32) -> bool
+pub(crate) fn has_id(intervals: &[Interval], id: i32) -> bool
     ensures { result ≡ has_id id intervals.now }
 {
     intervals.iter().any(|i| i.id == id)

@@ -69,7 +69,7 @@ fn read_as<T: FromJson>(alloc: Global, bytes: &[u8]) -> Result<T, Fault>
 
 // The same, or the refusal of who posts them.
 #[tactic(auto, using(crate::proofs::Told::told_gives))]
-fn read_posted<T: FromJson>(alloc: Global, bytes: &[u8]) -> Result<T, Refusal>
+pub(crate) fn read_posted<T: FromJson>(alloc: Global, bytes: &[u8]) -> Result<T, Refusal>
     ensures { Gives (λ x. x) result (as_refusal (bytes_as T.of bytes.now)) }
 {
     told(read_as(alloc, bytes))

@@ -63,7 +63,7 @@ fn names_of_targets(alloc: Global, targets: &[Value]) -> Result<Vec<Name>, Fault
 }
 
 // The set of at most 10,000 names in all, each counted as often as it is listed.
-fn name_set(alloc: Global, names: Vec<Name>) -> Result<NameSet, Fault>
+pub(crate) fn name_set(alloc: Global, names: Vec<Name>) -> Result<NameSet, Fault>
     ensures { Finds (λ s. s) result (name_set_of names.items) }
 {
     if names.len() > 10_000 {

@@ -3,7 +3,7 @@ ghost use Rattle.std.specs.Prelude.{◌≡◌, Ok, filter, map, option_map};
 ghost use Rattle.std.specs.List.{list_all};
 ghost use Rattle.serde_json.specs.View.{view};
 ghost use Rattle.adr_text.specs.Faults.{Finds};
-ghost use Rattle.adr_schema.specs.Events.{is_object, is_of_type, only_one, objects_in, type_in, typed_as, typed_in};
+ghost use Rattle.adr_schema.specs.Events.{is_object, is_of_type, only_one, objects_in, text_at, typed_as, typed_in};
 
 use adr_text::{Fault, list, member, text};
 use serde_json::Value;
@@ -26,10 +26,11 @@ pub(crate) fn objects(value: &Value) -> Result<&[Value], Fault>
     Ok(values)
 }
 
-fn type_of(value: &Value) -> Result<&str, Fault>
-    ensures { Finds (λ t. t.now) result (type_in (view value.now)) }
+// A member that is a text.
+pub(crate) fn text_at<'v>(value: &'v Value, name: &str) -> Result<&'v str, Fault>
+    ensures { Finds (λ t. t.now) result (text_at name.now (view value.now)) }
 {
-    match member(value, "type") {
+    match member(value, name) {
         Some(found) => text(found),
         None => Err(Fault::BadShape),
     }
@@ -41,7 +42,7 @@ fn with_types(values: &[Value]) -> Result<&[Value], Fault>
         (typed_as (map view values.now) (map view values.now)) }
 {
     for v in values {
-        type_of(v)?;
+        text_at(v, "type")?;
     }
     Ok(values)
 }

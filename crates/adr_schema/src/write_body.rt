@@ -1,8 +1,10 @@
 //! The canonical text of a body.
-ghost use Rattle.std.specs.Prelude.{◌≡◌, ⊤, [], ◌∷◌, map, IfOk, string_bytes};
+ghost use Rattle.std.specs.Prelude.{◌≡◌, [], ◌∷◌, map, Ok, IfOk, OnOk, string_bytes};
 ghost use Rattle.serde_json.specs.View.{view};
 ghost use Rattle.adr_text.specs.Objects.{array_of, object_of};
 ghost use Rattle.adr_schema.specs.Canonical.{texts_data, interval_data, event_data, body_data, canonical_text};
+ghost use Rattle.adr_schema.specs.Kept.{IsInterval, AreIntervals, AreNames, IsEvent, IsBody};
+ghost use Rattle.adr_schema.specs.ReadBack.{canonical_of};
 
 use crate::body::{Body, EventBody};
 use crate::interval::{Interval, Intervals};
@@ -15,7 +17,7 @@ use std::alloc::{AllocError, Global};
 impl ToJson for NameSet {
     ghost json = { texts_data };
 
-    ghost keeps = { λ _. ⊤ };
+    ghost keeps = { AreNames };
 
     fn to_json(&self, alloc: Global) -> Result<Value, AllocError> {
         let mut texts = Vec::new(alloc);
@@ -29,7 +31,7 @@ impl ToJson for NameSet {
 impl ToJson for Interval {
     ghost json = { interval_data };
 
-    ghost keeps = { λ _. ⊤ };
+    ghost keeps = { IsInterval };
 
     #[tactic(auto, unfolding(crate::specs::Canonical::interval_data))]
     fn to_json(&self, alloc: Global) -> Result<Value, AllocError> {
@@ -44,7 +46,7 @@ impl ToJson for Interval {
 impl ToJson for Intervals {
     ghost json = { λ intervals. array_of (map interval_data intervals) };
 
-    ghost keeps = { λ _. ⊤ };
+    ghost keeps = { AreIntervals };
 
     fn to_json(&self, alloc: Global) -> Result<Value, AllocError> {
         array(alloc, self.as_slice())
@@ -54,7 +56,7 @@ impl ToJson for Intervals {
 impl ToJson for EventBody {
     ghost json = { event_data };
 
-    ghost keeps = { λ _. ⊤ };
+    ghost keeps = { IsEvent };
 
     #[tactic(auto, unfolding(crate::specs::Canonical::event_data))]
     fn to_json(&self, alloc: Global) -> Result<Value, AllocError> {
@@ -81,7 +83,7 @@ fn lone(alloc: Global, name: &str, value: Value) -> Result<Value, AllocError>
 impl ToJson for Body {
     ghost json = { body_data };
 
-    ghost keeps = { λ _. ⊤ };
+    ghost keeps = { IsBody };
 
     #[tactic(auto, unfolding(crate::specs::Canonical::body_data))]
     fn to_json(&self, alloc: Global) -> Result<Value, AllocError> {
@@ -97,10 +99,12 @@ impl ToJson for Body {
 }
 
 /// The text by which two versions of one moment are ordered: its members in byte order, absent ones
-/// left out, names ascending by bytes, no space.
+/// left out, names ascending by bytes, no space. It reads back as the body.
 #[tactic(auto, using(crate::proofs::Plain::body_whole), unfolding(crate::specs::Canonical::canonical_text))]
 pub fn canonical(alloc: Global, body: &Body) -> Result<String, AllocError>
-    ensures { IfOk result (λ s. string_bytes s ≡ canonical_text body.now) }
+    ensures text { IfOk result (λ s. string_bytes s ≡ canonical_text body.now) }
+    ensures reads_back { IfOk result (λ s. canonical_of (string_bytes s) ≡ Ok body.now) }
+    ensures kept { OnOk result (IsBody body.now) }
 {
     compact(alloc, body.to_json(alloc)?)
 }
