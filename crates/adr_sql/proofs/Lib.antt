@@ -8,4 +8,5 @@ pub mod Removals
 pub mod Counts
 pub mod Creations
 pub mod Transactions
+pub mod Commits
 pub mod Maps

@@ -1,10 +1,11 @@
 -- What a call leaves of the transaction that it was lent, and what it does to the tables.
-use Rattle.std.specs.Prelude.{ℕ, List, Result, Ok, IfOk, OnOk, IsTrue}
+use Rattle.std.specs.Prelude.{◌≡◌, ℕ, List, Result, Ok, IfOk, OnOk, OnErr, false, IsTrue}
 use Rattle.sqlite.specs.Order.{Row}
 use Rattle.sqlite.specs.Schema.{Schema}
+use Rattle.sqlite.specs.Tree.{Trees}
 use Rattle.sqlite.specs.Store.{Ghosts}
 use Rattle.sqlite.specs.Held.{Held, state}
-use Rattle.sqlite.specs.State.{HasCleanDisk, KeepsCommit, Survives, Executes, Shown}
+use Rattle.sqlite.specs.State.{State, HasCleanDisk, KeepsCommit, Survives, Executes, Shown}
 use Rattle.adr_sql.specs.Contents.{Contents, Holds}
 
 module _ {S : Type 0} (g : Ghosts S) (old new : Held S) where
@@ -30,3 +31,11 @@ module _ {S : Type 0} (g : Ghosts S) (old new : Held S) where
   -- after Ok, the answer is right for what the tables held, and they hold it still
   abbrev pub Reads : {T E : Type 0} → Schema → (Contents → T → Type 0) → Result T E → Type 0
   Reads schema IsRight result = HasCleanDisk (state g new) → IfOk result (λ x. (all : Contents) → Holds schema all (state g old) → IsRight all x × Holds schema all (state g new))
+
+  -- A whole transaction, begun and then committed or dropped. After Ok the change is there and committed; after an error the last
+  -- commit stands; and a crash on the way leaves what it could before or the change whole, never a part of it.
+  pub record Commits {T E : Type 0} (IsDone : State → Type 0) (IsLeft : Trees → Type 0) (result : Result T E) : Type 0 where
+    pub done : HasCleanDisk (state g new) → OnOk result (IsDone (state g new) × ((state g new).committed ≡ (state g new).now))
+    pub undone : HasCleanDisk (state g new) → IsTrue (state g new).is_open → OnErr result (((state g new).now ≡ (state g old).committed) × ((state g new).committed ≡ (state g old).committed))
+    pub over : new.in_transaction ≡ false
+    pub crash : Survives (state g old) (state g new) IsLeft
