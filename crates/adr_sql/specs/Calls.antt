@@ -28,10 +28,6 @@ module _ {S : Type 0} (g : Ghosts S) (old new : Held S) where
   abbrev pub Changes : {T E : Type 0} → Schema → (Contents → Contents) → Result T E → Type 0
   Changes schema change result = HasCleanDisk (state g new) → OnOk result ((all : Contents) → Holds schema all (state g old) → Holds schema (change all) (state g new))
 
-  -- after Ok, the answer is right for what the tables held, and they hold it still
-  abbrev pub Reads : {T E : Type 0} → Schema → (Contents → T → Type 0) → Result T E → Type 0
-  Reads schema IsRight result = HasCleanDisk (state g new) → IfOk result (λ x. (all : Contents) → Holds schema all (state g old) → IsRight all x × Holds schema all (state g new))
-
   -- A whole transaction, begun and then committed or dropped. After Ok the change is there and committed; after an error the last
   -- commit stands; and a crash on the way leaves what it could before or the change whole, never a part of it.
   pub record Commits {T E : Type 0} (IsDone : State → Type 0) (IsLeft : Trees → Type 0) (result : Result T E) : Type 0 where
