@@ -1,0 +1,24 @@
+-- The texts make the tables.
+use Rattle.std.proofs.Common.{ℕ, List, [], ◌∷◌, codes, refl}
+use Rattle.sqlite.specs.Listing.{understood}
+use Rattle.sqlite_tied.specs.Compute.{everything}
+use Rattle.adr_sql.specs.Schemas.{no_schema}
+use Rattle.adr_sql.specs.Creations.{Makes}
+use Rattle.adr_db.specs.Tables.{tables}
+
+abbrev pub texts : List (List ℕ)
+texts =
+    codes "CREATE TABLE meta (k INT NOT NULL, version INT NOT NULL, serial INT NOT NULL, scan INT NOT NULL, made INT NOT NULL, sent INT NOT NULL, given_up INT NOT NULL, dropped INT NOT NULL, PRIMARY KEY (k)) STRICT"
+    ∷ codes "CREATE TABLE mirror (kind INT NOT NULL, id TEXT NOT NULL, state INT NOT NULL, moment INT NOT NULL, body TEXT NOT NULL, PRIMARY KEY (kind, id)) STRICT"
+    ∷ codes "CREATE TABLE polled (kind INT NOT NULL, id TEXT NOT NULL, PRIMARY KEY (kind, id)) STRICT"
+    ∷ []
+
+pub make_tables : Makes no_schema texts tables
+unfolding understood everything
+make_tables = (
+  record { command = refl; whole = refl; alone = (refl, refl); defined = refl; uncounted = refl },
+  (
+    record { command = refl; whole = refl; alone = (refl, refl); defined = refl; uncounted = refl },
+    (record { command = refl; whole = refl; alone = (refl, refl); defined = refl; uncounted = refl }, refl),
+  ),
+)

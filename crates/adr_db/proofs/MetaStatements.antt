@@ -1,0 +1,75 @@
+-- The statements on the table `meta`.
+use Rattle.std.proofs.Common.{◌≡◌, ℕ, pos, List, [], ◌∷◌, codes, cond, drop, Ok, refl, ap, subst, Ordering}
+use Rattle.std.specs.Ordering.{match_ordering}
+use Rattle.sqlite_value.specs.declared.value.Value.TheVariants.{Null, Int}
+use Rattle.sqlite_value.specs.Order.{Row}
+use Rattle.sqlite_sql.specs.Term.{lit, col}
+use Rattle.sqlite_sql.specs.Query.{end}
+use Rattle.sqlite.specs.State.{State, Executes, Shown}
+use Rattle.sqlite.specs.Given.{IsPlain}
+use Rattle.sqlite.specs.Listing.{understood}
+use Rattle.sqlite_tied.specs.Compute.{everything}
+use Rattle.adr_sql.specs.Keys.{with_row}
+use Rattle.adr_sql.specs.Contents.{Contents, rows_of_table, with_table, Holds}
+use Rattle.adr_sql.proofs.Puts.{IsPutText, AreValues, put_runs}
+use Rattle.adr_sql.proofs.Selections.{IsSelectText, whole_rows}
+use Rattle.adr_sql.proofs.Maps.{number_key, read_all_runs}
+use Rattle.adr_db.specs.declared.meta.Meta.{Meta}
+use Rattle.adr_db.specs.Tables.{schema}
+use Rattle.adr_db.specs.Rows.{number, meta_row}
+use Rattle.adr_db.specs.Kept.{Kept, Keeps, contents_of, with_meta}
+use Rattle.adr_db.proofs.Tables.{meta, meta_is}
+
+abbrev pub put_text : List ℕ
+put_text = codes "INSERT OR REPLACE INTO meta (k, version, serial, scan, made, sent, given_up, dropped) VALUES (1, 1, ?1, ?2, ?3, ?4, ?5, ?6)"
+
+abbrev pub read_text : List ℕ
+read_text = codes "SELECT k, version, serial, scan, made, sent, given_up, dropped FROM meta ORDER BY k"
+
+-- the parameters: all but the key and the version
+abbrev pub numbers : Meta → Row
+numbers m = number m.serial ∷ Int (cond m.scan (pos 1) (pos 0)) ∷ number m.made ∷ number m.sent ∷ number m.given_up ∷ number m.dropped ∷ []
+
+puts : (m : Meta) → IsPutText schema 0 meta put_text (numbers m) (meta_row m)
+unfolding understood everything
+puts m = record { terms = lit Null ∷ lit (number 1) ∷ lit (number 1) ∷ col 0 0 ∷ col 0 1 ∷ col 0 2 ∷ col 0 3 ∷ col 0 4 ∷ col 0 5 ∷ []; command = refl; alone = (refl, refl); given = refl }
+
+values : (m : Meta) → AreValues meta (meta_row m)
+values m = record { mended = refl; fits = refl; full = refl; width = refl }
+
+pub meta_put : (m : Meta) (old new : State) (count : ℕ) (all : Contents) → Executes put_text (numbers m) old new (Ok count) → Holds schema all old → Holds schema (with_table all 0 (with_row 1 (meta_row m) (rows_of_table all 0))) new
+meta_put m = put_runs schema 0 meta meta_is put_text (numbers m) (meta_row m) (puts m) (values m)
+
+-- the new row takes the place of the old one
+one_row : (m n : Meta) → with_row 1 (meta_row m) (meta_row n ∷ []) ≡ meta_row m ∷ []
+one_row m n = ap (λ (o : Ordering). match_ordering o (meta_row n ∷ with_row 1 (meta_row m) []) (meta_row m ∷ []) (meta_row m ∷ meta_row n ∷ [])) (number_key (pos 1) (pos 1) (drop 1 (meta_row n)) (drop 1 (meta_row m)))
+
+pub keeps_meta : (m : Meta) (kept : Kept) (new : State) → Holds schema (with_table (contents_of kept) 0 (with_row 1 (meta_row m) (rows_of_table (contents_of kept) 0))) new → Keeps (with_meta m kept) new
+keeps_meta m kept new h = subst (λ rows. Holds schema (with_table (contents_of kept) 0 rows) new) (one_row m kept.meta) h
+
+reads : IsSelectText schema meta (whole_rows 0 meta) end read_text
+unfolding understood everything
+reads = record {
+  names = codes "k" ∷ codes "version" ∷ codes "serial" ∷ codes "scan" ∷ codes "made" ∷ codes "sent" ∷ codes "given_up" ∷ codes "dropped" ∷ [];
+  command = refl;
+  alone = (refl, refl);
+  unlisted = refl;
+  from = refl;
+  flat = refl;
+  order = refl;
+  ungrouped = refl;
+  undistinct = refl;
+  joins = refl;
+  sorts = refl;
+  shows = refl;
+}
+
+pub read_is_plain : IsPlain (understood schema read_text)
+read_is_plain = reads.alone
+
+pub meta_read : (old new : State) (rows : List Row) (kept : Kept) → Shown read_text [] old new rows → Keeps kept old → rows ≡ meta_row kept.meta ∷ []
+meta_read old new rows kept h was = read_all_runs schema 0 meta meta_is read_text [] reads old new rows (contents_of kept) h was
+
+-- the first row, in empty tables
+pub keeps_first : (m : Meta) (new : State) → Holds schema (with_table ([] ∷ [] ∷ [] ∷ []) 0 (with_row 1 (meta_row m) [])) new → Keeps (record { meta = m; mirror = []; polled = [] }) new
+keeps_first m new h = h

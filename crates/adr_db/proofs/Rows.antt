@@ -1,0 +1,143 @@
+-- Keys and marks as rows, and back.
+use Rattle.std.proofs.Common.{◌≡◌, slice_get, Option, None, Some, ℕ, pos, arith, Bool, true, false, cond, List, [], ◌∷◌, map, refl, ap, ap₂, ◌∙◌, Ordering, Less, Equal, Greater}
+use Rattle.std.specs.Ordering.{int_cmp, ordering_then}
+use Rattle.sqlite_value.specs.declared.value.Value.{Value}
+use Rattle.sqlite_value.specs.declared.value.Value.TheVariants.{Int, Text}
+use Rattle.sqlite_value.specs.Order.{Row}
+use Rattle.adr_schema.specs.declared.kind.Kind.{Kind}
+use Rattle.adr_schema.specs.declared.kind.Kind.TheVariants.{Program, Event}
+use Rattle.adr_state.specs.declared.base.Mark.{Mark}
+use Rattle.adr_state.specs.declared.base.Mark.TheVariants.{Live, Dead}
+use Rattle.adr_state.specs.declared.keys.MirrorKey.{MirrorKey}
+use Rattle.adr_state.specs.Keys.{kind_cmp, id_cmp, mirror_cmp}
+use Rattle.adr_sql.specs.Keys.{key_order}
+use Rattle.std.specs.Option.{option_map}
+use Rattle.adr_sql.specs.Codecs.{IsCodec, entry_at}
+use Rattle.adr_sql.proofs.Maps.{number_text_key, text_same}
+use Rattle.adr_db.specs.declared.meta.Meta.{Meta}
+use Rattle.adr_db.specs.Rows.{number, kind_number, meta_row, key_row, mark_columns, mark_row, key_cells, columns_cells, mirror_cells}
+
+-- ---- keys
+
+kinds_as_numbers : (a b : Kind) → int_cmp (pos (kind_number a)) (pos (kind_number b)) ≡ kind_cmp a b
+kinds_as_numbers Program Program = refl
+kinds_as_numbers Program Event = refl
+kinds_as_numbers Event Program = refl
+kinds_as_numbers Event Event = refl
+
+pub keys_as_rows : (j k : MirrorKey) (a b : Row) → key_order 2 (number (kind_number j.kind) ∷ Text j.id ∷ a) (number (kind_number k.kind) ∷ Text k.id ∷ b) ≡ mirror_cmp j k
+keys_as_rows j k a b = number_text_key (pos (kind_number j.kind)) (pos (kind_number k.kind)) j.id k.id a b ∙ ap (λ o. ordering_then o (id_cmp j.id k.id)) (kinds_as_numbers j.kind k.kind)
+
+kind_same : (a b : Kind) → kind_cmp a b ≡ Equal → a ≡ b
+kind_same Program Program h = refl
+kind_same Program Event h = absurd cc
+kind_same Event Program h = absurd cc
+kind_same Event Event h = refl
+
+both_tie : (o p : Ordering) → ordering_then o p ≡ Equal → (o ≡ Equal) × (p ≡ Equal)
+both_tie Less p h = absurd cc
+both_tie Equal p h = (refl, h)
+both_tie Greater p h = absurd cc
+
+key_same : (j k : MirrorKey) → mirror_cmp k j ≡ Equal → k ≡ j
+key_same j k h =
+    let both = both_tie (kind_cmp k.kind j.kind) (id_cmp k.id j.id) h in
+    ap₂ (λ (kind : Kind) (id : List ℕ). record { kind = kind; id = id }) (kind_same k.kind j.kind both.0) (text_same j.id k.id both.1)
+
+pub mirror_codec : IsCodec 2 mirror_cmp mark_row key_row
+mirror_codec = record {
+  named = λ k e. keys_as_rows k e.0 [] (mark_columns e.1);
+  keyed = λ k v e. keys_as_rows k e.0 (mark_columns v) (mark_columns e.1);
+  same = λ j k v e. ap (λ key. mark_row (key, v)) (key_same j k e);
+}
+
+pub polled_codec : IsCodec {K = MirrorKey} {V = Unit {0}} 2 mirror_cmp (λ e. key_row e.0) key_row
+polled_codec = record {
+  named = λ k e. keys_as_rows k e.0 [] [];
+  keyed = λ k v e. keys_as_rows k e.0 [] [];
+  same = λ j k v e. ap key_row (key_same j k e);
+}
+
+-- ---- a row keeps one value
+
+pub number_kept : (m n : ℕ) → number m ≡ number n → m ≡ n
+number_kept m n h = cc
+
+kind_kept : (a b : Kind) → number (kind_number a) ≡ number (kind_number b) → a ≡ b
+kind_kept Program Program h = refl
+kind_kept Program Event h = absurd (let e : 1 ≡ 2 = number_kept 1 2 h in omega arith)
+kind_kept Event Program h = absurd (let e : 2 ≡ 1 = number_kept 2 1 h in omega arith)
+kind_kept Event Event h = refl
+
+id_kept : (s t : List ℕ) → ◌≡◌ {A = Value} (Text s) (Text t) → s ≡ t
+id_kept s t h = cc
+
+first_same : (u v : Value) (a b : Row) → u ∷ a ≡ v ∷ b → (u ≡ v) × (a ≡ b)
+first_same u v a b h = (cc, cc)
+
+pub key_kept : (j k : MirrorKey) → key_row j ≡ key_row k → j ≡ k
+key_kept j k h =
+    let one = first_same (number (kind_number j.kind)) (number (kind_number k.kind)) (Text j.id ∷ []) (Text k.id ∷ []) h in
+    let two = first_same (Text j.id) (Text k.id) [] [] one.1 in
+    ap₂ (λ (kind : Kind) (id : List ℕ). record { kind = kind; id = id }) (kind_kept j.kind k.kind one.0) (id_kept j.id k.id two.0)
+
+rows_same : (a b : Row) (more others : List Row) → ◌≡◌ {A = List Row} (a ∷ more) (b ∷ others) → (a ≡ b) × (more ≡ others)
+rows_same a b more others h = (cc, cc)
+
+pub keys_kept : (js ks : List MirrorKey) → map key_row js ≡ map key_row ks → js ≡ ks
+keys_kept [] [] h = refl
+keys_kept [] (k ∷ ks) h = absurd cc
+keys_kept (j ∷ js) [] h = absurd cc
+keys_kept (j ∷ js) (k ∷ ks) h =
+    let both = rows_same (key_row j) (key_row k) (map key_row js) (map key_row ks) h in
+    ap₂ ◌∷◌ (key_kept j k both.0) (keys_kept js ks both.1)
+
+flag_kept : (a b : Bool) → Int (cond a (pos 1) (pos 0)) ≡ Int (cond b (pos 1) (pos 0)) → a ≡ b
+flag_kept true true h = refl
+flag_kept true false h = absurd (let e : 1 ≡ 0 = number_kept 1 0 h in omega arith)
+flag_kept false true h = absurd (let e : 0 ≡ 1 = number_kept 0 1 h in omega arith)
+flag_kept false false h = refl
+
+pub meta_kept : (a b : Meta) → meta_row a ≡ meta_row b → a ≡ b
+meta_kept a b h =
+    let one = first_same _ _ _ _ h in
+    let two = first_same _ _ _ _ one.1 in
+    let serial = first_same _ _ _ _ two.1 in
+    let scan = first_same _ _ _ _ serial.1 in
+    let made = first_same _ _ _ _ scan.1 in
+    let sent = first_same _ _ _ _ made.1 in
+    let given_up = first_same _ _ _ _ sent.1 in
+    let dropped = first_same _ _ _ _ given_up.1 in
+    fields (number_kept _ _ serial.0) (flag_kept _ _ scan.0) (number_kept _ _ made.0) (number_kept _ _ sent.0) (number_kept _ _ given_up.0) (number_kept _ _ dropped.0)
+  where
+    fields : a.serial ≡ b.serial → a.scan ≡ b.scan → a.made ≡ b.made → a.sent ≡ b.sent → a.given_up ≡ b.given_up → a.dropped ≡ b.dropped → a ≡ b
+    fields p q r s t u = λ i. record { serial = p i; scan = q i; made = r i; sent = s i; given_up = t i; dropped = u i }
+
+-- ---- a row as it is read
+
+pub key_cells_are : (ks : List MirrorKey) → map key_cells (map key_row ks) ≡ map key_row ks
+key_cells_are [] = refl
+key_cells_are (k ∷ ks) = ap (λ rows. key_row k ∷ rows) (key_cells_are ks)
+
+mirror_cells_one : (key : MirrorKey) (mark : Mark) → mirror_cells (mark_row (key, mark)) ≡ mark_row (key, mark)
+mirror_cells_one key (Live moment body) = refl
+mirror_cells_one key Dead = refl
+
+pub mirror_cells_are : (es : List (MirrorKey × Mark)) → map mirror_cells (map mark_row es) ≡ map mark_row es
+mirror_cells_are [] = refl
+mirror_cells_are (e ∷ es) = ap₂ ◌∷◌ (mirror_cells_one e.0 e.1) (mirror_cells_are es)
+
+pub columns_cells_are : (key : MirrorKey) (mark : Mark) → columns_cells (mark_row (key, mark)) ≡ mark_columns mark
+columns_cells_are key (Live moment body) = refl
+columns_cells_are key Dead = refl
+
+-- the row of a key, if there is one
+pub mark_found : (key : MirrorKey) (found : Option Mark) (row : Row) (rows : List Row) → Some row ≡ slice_get rows 0 → rows ≡ map mark_row (entry_at key found) → Some (columns_cells row) ≡ option_map mark_columns found
+mark_found key None row rows first is = absurd (let none : ◌≡◌ {A = Option Row} (Some row) None = first ∙ ap (λ l. slice_get l 0) is in cc)
+mark_found key (Some mark) row rows first is =
+    let same : ◌≡◌ {A = Option Row} (Some row) (Some (mark_row (key, mark))) = first ∙ ap (λ l. slice_get l 0) is in
+    ap (option_map columns_cells) same ∙ ap Some (columns_cells_are key mark)
+
+pub none_found : (key : MirrorKey) (found : Option Mark) (rows : List Row) → None ≡ slice_get rows 0 → rows ≡ map mark_row (entry_at key found) → ◌≡◌ {A = Option Row} None (option_map mark_columns found)
+none_found key None rows first is = refl
+none_found key (Some mark) rows first is = absurd (let some : ◌≡◌ {A = Option Row} None (Some (mark_row (key, mark))) = first ∙ ap (λ l. slice_get l 0) is in cc)

@@ -1,0 +1,75 @@
+-- The tables hold the state: the rows of each, read by key, are the corresponding map.
+use Rattle.std.specs.Prelude.{ℕ, ℤ, pos, negsuc, Option, None, Some, take, Bool, true, false, not, ◌&&◌, List, [], ◌∷◌, map, filter}
+use Rattle.std.specs.Ordering.{is_eq}
+use Rattle.std.specs.List.{list_any}
+use Rattle.std.specs.BTreeMap.{insert_entry}
+use Rattle.std.specs.BTreeSet.{insert_key}
+use Rattle.sqlite.specs.State.{State}
+use Rattle.adr_state.specs.declared.base.Mark.{Mark}
+use Rattle.adr_state.specs.declared.base.Mark.TheVariants.{Live, Dead}
+use Rattle.adr_state.specs.declared.keys.MirrorKey.{MirrorKey}
+use Rattle.adr_state.specs.Keys.{mirror_cmp}
+use Rattle.adr_sql.specs.Contents.{Contents, Holds}
+use Rattle.adr_db.specs.declared.meta.Meta.{Meta}
+use Rattle.adr_db.specs.Tables.{schema}
+use Rattle.adr_db.specs.Rows.{meta_row, mark_row, key_row}
+
+-- what is kept: the numbers of the node, the mirror in the order of its keys, and the polled keys in that order
+pub record Kept : Type 0 where
+  pub meta : Meta
+  pub mirror : List (MirrorKey × Mark)
+  pub polled : List MirrorKey
+
+-- the rows of each table, in the order of the tables
+abbrev pub contents_of : Kept → Contents
+contents_of kept =
+    (meta_row kept.meta ∷ [])
+    ∷ map mark_row kept.mirror
+    ∷ map key_row kept.polled
+    ∷ []
+
+abbrev pub Keeps : Kept → State → Type 0
+Keeps kept s = Holds schema (contents_of kept) s
+
+-- ---- what is kept of a new node, and the changes of it
+
+abbrev pub first_meta : Meta
+first_meta = record { serial = 0; scan = false; made = 0; sent = 0; given_up = 0; dropped = 0 }
+
+abbrev pub nothing_kept : Kept
+nothing_kept = record { meta = first_meta; mirror = []; polled = [] }
+
+abbrev pub with_meta : Meta → Kept → Kept
+with_meta meta kept = record kept { meta = meta }
+
+abbrev pub with_mark : MirrorKey → Mark → Kept → Kept
+with_mark key mark kept = record kept { mirror = insert_entry mirror_cmp kept.mirror key mark }
+
+abbrev pub with_polled : MirrorKey → Kept → Kept
+with_polled key kept = record kept { polled = insert_key mirror_cmp kept.polled key }
+
+abbrev pub with_none_polled : Kept → Kept
+with_none_polled kept = record kept { polled = [] }
+
+-- ---- what a scan has not seen
+
+abbrev pub is_live : Mark → Bool
+is_live (Live moment body) = true
+is_live Dead = false
+
+abbrev pub is_among : MirrorKey → List MirrorKey → Bool
+is_among key = list_any (λ other. is_eq (mirror_cmp key other))
+
+-- the live keys that were not polled, in key order
+abbrev pub unseen_keys : Kept → List MirrorKey
+unseen_keys kept = map (λ e. e.0) (filter (λ e. is_live e.1 && not (is_among e.0 kept.polled)) kept.mirror)
+
+-- at most so many, where there is a limit
+abbrev pub at_most : {X : Type 0} → Option ℕ → List X → List X
+at_most None xs = xs
+at_most (Some n) xs = take n xs
+
+-- a limit as a number of SQL: below 0 there is none
+abbrev pub limit_number : Option ℕ → ℤ
+limit_number None = negsuc 0
+limit_number (Some n) = pos n

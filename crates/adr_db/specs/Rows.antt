@@ -1,0 +1,68 @@
+-- How the maps of the machine are kept, as rows of SQL's values.
+use Rattle.std.specs.Prelude.{ℕ, pos, if◌then◌else◌, [], ◌∷◌, ◌++◌, string_bytes}
+use Rattle.sqlite.specs.declared.types.Value.TheVariants.{Int, Text}
+use Rattle.sqlite.specs.Order.{Row, column}
+use Rattle.adr_schema.specs.Canonical.{canonical_text}
+use Rattle.adr_schema.specs.declared.kind.Kind.{Kind}
+use Rattle.adr_schema.specs.declared.kind.Kind.TheVariants.{Program, Event}
+use Rattle.adr_state.specs.declared.base.Mark.{Mark}
+use Rattle.adr_state.specs.declared.base.Mark.TheVariants.{Live, Dead}
+use Rattle.adr_state.specs.declared.keys.MirrorKey.{MirrorKey}
+use Rattle.adr_db.specs.declared.meta.Meta.{Meta}
+use Rattle.adr_db.specs.declared.mirror.MarkColumns.{MarkColumns}
+use Rattle.adr_db.specs.declared.mirror.MirrorRow.{MirrorRow}
+use Rattle.adr_db.specs.Tables.{version}
+
+abbrev pub number : ℕ → Rattle.sqlite.specs.declared.types.Value.Value
+number n = Int (pos n)
+
+-- the numbers of the node, behind the key 1 and the version of the tables
+abbrev pub meta_row : Meta → Row
+meta_row m =
+    number 1
+    ∷ number version
+    ∷ number m.serial
+    ∷ Int (if m.scan then pos 1 else pos 0)
+    ∷ number m.made
+    ∷ number m.sent
+    ∷ number m.given_up
+    ∷ number m.dropped
+    ∷ []
+
+-- 1 a program, 2 an event
+abbrev pub kind_number : Kind → ℕ
+kind_number Program = 1
+kind_number Event = 2
+
+-- a key: the kind, and then the id
+abbrev pub key_row : MirrorKey → Row
+key_row key = number (kind_number key.kind) ∷ Text key.id ∷ []
+
+-- a mark: 1 with its moment and its canonical text where it is live; 2, 0 and no text where it is dead
+abbrev pub mark_columns : Mark → Row
+mark_columns (Live moment body) = number 1 ∷ number moment ∷ Text (canonical_text body) ∷ []
+mark_columns Dead = number 2 ∷ number 0 ∷ Text [] ∷ []
+
+-- a key with its mark
+abbrev pub mark_row : MirrorKey × Mark → Row
+mark_row e = key_row e.0 ++ mark_columns e.1
+
+-- ---- rows as they are read, by their columns
+
+abbrev pub meta_cells : Row → Row
+meta_cells row = column row 0 ∷ column row 1 ∷ column row 2 ∷ column row 3 ∷ column row 4 ∷ column row 5 ∷ column row 6 ∷ column row 7 ∷ []
+
+abbrev pub key_cells : Row → Row
+key_cells row = column row 0 ∷ column row 1 ∷ []
+
+abbrev pub columns_cells : Row → Row
+columns_cells row = column row 2 ∷ column row 3 ∷ column row 4 ∷ []
+
+abbrev pub mirror_cells : Row → Row
+mirror_cells row = key_cells row ++ columns_cells row
+
+abbrev pub columns_row : MarkColumns → Row
+columns_row columns = number columns.state ∷ number columns.moment ∷ Text (string_bytes columns.body) ∷ []
+
+abbrev pub mirror_row : MirrorRow → Row
+mirror_row row = key_row row.key ++ columns_row row.mark

@@ -1,0 +1,94 @@
+//! Columns of a row as the values of the machine. What no call of this crate wrote is the store's refusal.
+ghost use Rattle.std.specs.Prelude.{◌≡◌, ◌<◌, pos, [], ◌∷◌, length, map, IfOk, IfErr};
+ghost use Rattle.sqlite.specs.Order.{column};
+ghost use Rattle.sqlite_value.specs.Value.{owned};
+ghost use Rattle.sqlite.specs.declared.types.Value.TheVariants.{Int};
+ghost use Rattle.adr_db.specs.Calls.{IsOfStore};
+ghost use Rattle.adr_db.specs.Rows.{kind_number, key_row, key_cells};
+
+use crate::statement::refusal_of;
+use adr_state::MirrorKey;
+use adr_schema::Kind;
+use adr_text::{ObjectId, Refusal, Rows};
+use sqlite::Row;
+use sqlite::types::{FromSql, ValueRef};
+use std::alloc::Global;
+
+/// The value of a column.
+pub(crate) fn column<T: FromSql>(row: &Row, at: usize) -> Result<T, Refusal>
+    ensures reads { IfOk result (λ x. T.FromSql.reads_as (column row.now at) x) }
+    ensures refused { IfErr result IsOfStore }
+{
+    match row.get(at) {
+        Ok(value) => Ok(value),
+        Err(error) => Err(refusal_of(error)),
+    }
+}
+
+/// A number as SQL keeps it, or the store's refusal of one above 9,223,372,036,854,775,807.
+pub(crate) fn number(n: u64) -> Result<ValueRef<'static>, Refusal>
+    ensures value { IfOk result (λ value. owned value ≡ Int (pos n)) }
+    ensures refused { IfErr result IsOfStore }
+{
+    match i64::try_from(n) {
+        Ok(n) => Ok(ValueRef::Int(n)),
+        Err(_) => Err(Refusal::Store),
+    }
+}
+
+/// The number of a kind.
+pub(crate) fn number_of(kind: Kind) -> u32
+    ensures { result ≡ kind_number kind }
+{
+    match kind {
+        Kind::Program => 1,
+        Kind::Event => 2,
+    }
+}
+
+fn kind_of(number: u32) -> Result<Kind, Refusal>
+    ensures kind { IfOk result (λ kind. number ≡ kind_number kind) }
+    ensures refused { IfErr result IsOfStore }
+{
+    match number {
+        1 => Ok(Kind::Program),
+        2 => Ok(Kind::Event),
+        _ => Err(Refusal::Store),
+    }
+}
+
+fn id_of(alloc: Global, text: &str) -> Result<ObjectId, Refusal>
+    ensures id { IfOk result (λ id. id ≡ text.now) }
+    ensures refused { IfErr result IsOfStore }
+{
+    match ObjectId::new(alloc, text) {
+        Ok(id) => Ok(id),
+        Err(Refusal::OutOfMemory) => Err(Refusal::OutOfMemory),
+        Err(_) => Err(Refusal::Store),
+    }
+}
+
+/// The key in the first two columns.
+pub(crate) fn key_in(alloc: Global, row: &Row) -> Result<MirrorKey, Refusal>
+    ensures key { IfOk result (λ key. key_row key ≡ key_cells row.now) }
+    ensures refused { IfErr result IsOfStore }
+{
+    let kind = kind_of(column(row, 0)?)?;
+    let id: String = column(row, 1)?;
+    Ok(MirrorKey {
+        kind,
+        id: id_of(alloc, id.as_str())?,
+    })
+}
+
+/// The key of each row.
+pub(crate) fn keys_in(alloc: Global, rows: &[Row]) -> Result<Rows<MirrorKey>, Refusal>
+    ensures keys { IfOk result (λ keys. map key_row keys ≡ map key_cells rows.now) }
+    ensures refused { IfErr result IsOfStore }
+{
+    let mut keys = Rows::new(alloc);
+    'rows: for row in rows {
+        keys.push(key_in(alloc, row)?)?;
+    }
+    Ok(keys)
+}

@@ -1,0 +1,135 @@
+//! The table `meta`: the numbers of the node, in one row.
+ghost use Rattle.std.specs.Prelude.{◌≡◌, pos, if◌then◌else◌, [], ◌∷◌, length, IfOk, IfErr};
+ghost use Rattle.sqlite.specs.Order.{column};
+ghost use Rattle.sqlite.specs.declared.types.Value.TheVariants.{Int};
+ghost use Rattle.adr_sql.specs.Keys.{with_row};
+ghost use Rattle.adr_sql.specs.Contents.{rows_of_table, with_table};
+ghost use Rattle.adr_sql.specs.Calls.{Stays, Changes};
+ghost use Rattle.adr_db.specs.Tables.{schema};
+ghost use Rattle.adr_db.specs.Rows.{meta_row, meta_cells};
+ghost use Rattle.adr_db.specs.Kept.{first_meta, with_meta};
+ghost use Rattle.adr_db.specs.Calls.{Leaves, Finds, IsOfStore};
+
+use crate::cells::{column, number};
+use crate::statement::{rows_of, run};
+use adr_text::Refusal;
+use sqlite::types::ToSql;
+use sqlite::{Alter, Row, Transaction};
+
+/// The numbers of the node. None that is kept is above 9,223,372,036,854,775,807.
+#[derive(Clone, Copy, Debug, PartialEq, Eq)]
+pub struct Meta {
+    /// The last number that was drawn.
+    pub serial: u64,
+    /// Whether a scan is open.
+    pub scan: bool,
+    /// How many entries of the outbox were made, and what became of them.
+    pub made: u64,
+    pub sent: u64,
+    pub given_up: u64,
+    pub dropped: u64,
+}
+
+impl Meta {
+    /// Those of a new node.
+    pub fn first() -> Meta
+        ensures { result ≡ first_meta }
+    {
+        Meta {
+            serial: 0,
+            scan: false,
+            made: 0,
+            sent: 0,
+            given_up: 0,
+            dropped: 0,
+        }
+    }
+}
+
+/// Writes the one row.
+pub(crate) fn write_meta<S: Alter>(tx: &mut Transaction<'_, S>, meta: &Meta) -> Result<(), Refusal>
+    ensures same_reference { tx.new.conn.ghost_name ≡ tx.old.conn.ghost_name }
+    ensures stays { Stays S.Store tx.old.conn.now tx.new.conn.now result }
+    ensures changes { Changes S.Store tx.old.conn.now tx.new.conn.now schema (λ all. with_table all 0 (with_row 1 (meta_row meta.now) (rows_of_table all 0))) result }
+    ensures refused { IfErr result IsOfStore }
+{
+    let serial = number(meta.serial)?;
+    let made = number(meta.made)?;
+    let sent = number(meta.sent)?;
+    let given_up = number(meta.given_up)?;
+    let dropped = number(meta.dropped)?;
+    run(
+        tx,
+        "INSERT OR REPLACE INTO meta (k, version, serial, scan, made, sent, given_up, dropped) VALUES (1, 1, ?1, ?2, ?3, ?4, ?5, ?6)",
+        &[serial, meta.scan.to_sql(), made, sent, given_up, dropped],
+    )
+}
+
+/// Puts the numbers of the node in the place of those that are kept.
+pub fn put_meta<S: Alter>(tx: &mut Transaction<'_, S>, meta: &Meta) -> Result<(), Refusal>
+    ensures same_reference { tx.new.conn.ghost_name ≡ tx.old.conn.ghost_name }
+    ensures stays { Stays S.Store tx.old.conn.now tx.new.conn.now result }
+    ensures leaves { Leaves S.Store tx.old.conn.now tx.new.conn.now (with_meta meta.now) result }
+    ensures refused { IfErr result IsOfStore }
+{
+    write_meta(tx, meta)
+}
+
+/// A number that has to be this one.
+fn expect(row: &Row, at: usize, wanted: u32) -> Result<(), Refusal>
+    ensures same { IfOk result (λ _. column row.now at ≡ Int (pos wanted)) }
+    ensures refused { IfErr result IsOfStore }
+{
+    let found: u32 = column(row, at)?;
+    if found != wanted {
+        return Err(Refusal::Store);
+    }
+    Ok(())
+}
+
+/// Whether it is 1; another number than 0 and 1 is refused.
+fn flag(row: &Row, at: usize) -> Result<bool, Refusal>
+    ensures value { IfOk result (λ b. column row.now at ≡ Int (if b then pos 1 else pos 0)) }
+    ensures refused { IfErr result IsOfStore }
+{
+    let found: u32 = column(row, at)?;
+    match found {
+        0 => Ok(false),
+        1 => Ok(true),
+        _ => Err(Refusal::Store),
+    }
+}
+
+fn meta_in(row: &Row) -> Result<Meta, Refusal>
+    ensures meta { IfOk result (λ meta. meta_row meta ≡ meta_cells row.now) }
+    ensures refused { IfErr result IsOfStore }
+{
+    expect(row, 0, 1)?;
+    expect(row, 1, 1)?;
+    Ok(Meta {
+        serial: column(row, 2)?,
+        scan: flag(row, 3)?,
+        made: column(row, 4)?,
+        sent: column(row, 5)?,
+        given_up: column(row, 6)?,
+        dropped: column(row, 7)?,
+    })
+}
+
+/// The numbers of the node.
+pub fn read_meta<S: Alter>(tx: &mut Transaction<'_, S>) -> Result<Meta, Refusal>
+    ensures same_reference { tx.new.conn.ghost_name ≡ tx.old.conn.ghost_name }
+    ensures stays { Stays S.Store tx.old.conn.now tx.new.conn.now result }
+    ensures finds { Finds S.Store tx.old.conn.now tx.new.conn.now (λ kept meta. meta ≡ kept.meta) result }
+    ensures refused { IfErr result IsOfStore }
+{
+    let rows = rows_of(
+        tx,
+        "SELECT k, version, serial, scan, made, sent, given_up, dropped FROM meta ORDER BY k",
+        &[],
+    )?;
+    match rows.first() {
+        Some(row) => meta_in(row),
+        None => Err(Refusal::Store),
+    }
+}

@@ -1,0 +1,44 @@
+//! The tables are made in a transaction.
+ghost use Rattle.std.specs.Prelude.{◌≡◌, [], OnOk, IfErr};
+ghost use Rattle.sqlite.specs.Held.{state};
+ghost use Rattle.sqlite.specs.State.{HasCleanDisk};
+ghost use Rattle.adr_sql.specs.Contents.{Holds, empty_tables};
+ghost use Rattle.adr_sql.specs.Schemas.{no_schema};
+ghost use Rattle.adr_sql.specs.Calls.{Stays};
+ghost use Rattle.adr_db.specs.Tables.{schema, tables};
+ghost use Rattle.adr_db.specs.Kept.{Keeps, nothing_kept};
+ghost use Rattle.adr_db.specs.Calls.{IsOfStore};
+
+use crate::meta::{Meta, write_meta};
+use crate::statement::refusal_of;
+use adr_sql::create_tables;
+use adr_text::Refusal;
+use sqlite::{Alter, Transaction};
+
+fn create_empty<S: Alter>(tx: &mut Transaction<'_, S>) -> Result<(), Refusal>
+    ensures same_reference { tx.new.conn.ghost_name ≡ tx.old.conn.ghost_name }
+    ensures stays { Stays S.Store tx.old.conn.now tx.new.conn.now result }
+    ensures made { HasCleanDisk (state S.Store tx.new.conn.now) → OnOk result (Holds no_schema [] (state S.Store tx.old.conn.now) → Holds schema (empty_tables tables) (state S.Store tx.new.conn.now)) }
+    ensures refused { IfErr result IsOfStore }
+{
+    let texts = [
+        "CREATE TABLE meta (k INT NOT NULL, version INT NOT NULL, serial INT NOT NULL, scan INT NOT NULL, made INT NOT NULL, sent INT NOT NULL, given_up INT NOT NULL, dropped INT NOT NULL, PRIMARY KEY (k)) STRICT",
+        "CREATE TABLE mirror (kind INT NOT NULL, id TEXT NOT NULL, state INT NOT NULL, moment INT NOT NULL, body TEXT NOT NULL, PRIMARY KEY (kind, id)) STRICT",
+        "CREATE TABLE polled (kind INT NOT NULL, id TEXT NOT NULL, PRIMARY KEY (kind, id)) STRICT",
+    ];
+    match create_tables(tx, &texts) {
+        Ok(()) => Ok(()),
+        Err(error) => Err(refusal_of(error)),
+    }
+}
+
+/// Makes the tables of a new node, which keep nothing, in an empty database.
+pub fn create<S: Alter>(tx: &mut Transaction<'_, S>) -> Result<(), Refusal>
+    ensures same_reference { tx.new.conn.ghost_name ≡ tx.old.conn.ghost_name }
+    ensures stays { Stays S.Store tx.old.conn.now tx.new.conn.now result }
+    ensures made { HasCleanDisk (state S.Store tx.new.conn.now) → OnOk result (Holds no_schema [] (state S.Store tx.old.conn.now) → Keeps nothing_kept (state S.Store tx.new.conn.now)) }
+    ensures refused { IfErr result IsOfStore }
+{
+    create_empty(tx)?;
+    write_meta(tx, &Meta::first())
+}

@@ -1,0 +1,53 @@
+//! One statement, with the errors of the store as refusals.
+ghost use Rattle.std.specs.Prelude.{◌≡◌, IfErr};
+ghost use Rattle.sqlite.specs.Values.{bound};
+ghost use Rattle.adr_sql.specs.Calls.{Stays, Runs, Answers};
+ghost use Rattle.adr_db.specs.Calls.{IsOfStore};
+
+use adr_text::Refusal;
+use sqlite::types::ValueRef;
+use sqlite::{Alter, Error, ErrorCode, Row, Transaction};
+
+/// Want of memory, or the store's refusal.
+pub(crate) fn refusal_of(error: Error) -> Refusal
+    ensures { IsOfStore result }
+{
+    match error {
+        Error::SqliteFailure(ErrorCode::OutOfMemory) => Refusal::OutOfMemory,
+        _ => Refusal::Store,
+    }
+}
+
+/// Runs one statement that writes.
+pub(crate) fn run<S: Alter>(
+    tx: &mut Transaction<'_, S>,
+    sql: &str,
+    params: &[ValueRef<'_>],
+) -> Result<(), Refusal>
+    ensures same_reference { tx.new.conn.ghost_name ≡ tx.old.conn.ghost_name }
+    ensures stays { Stays S.Store tx.old.conn.now tx.new.conn.now result }
+    ensures runs { Runs S.Store tx.old.conn.now tx.new.conn.now sql.now (bound params.now) result }
+    ensures refused { IfErr result IsOfStore }
+{
+    match adr_sql::run(tx, sql, params) {
+        Ok(()) => Ok(()),
+        Err(error) => Err(refusal_of(error)),
+    }
+}
+
+/// The rows that one query shows.
+pub(crate) fn rows_of<S: Alter>(
+    tx: &mut Transaction<'_, S>,
+    sql: &str,
+    params: &[ValueRef<'_>],
+) -> Result<Vec<Row>, Refusal>
+    ensures same_reference { tx.new.conn.ghost_name ≡ tx.old.conn.ghost_name }
+    ensures stays { Stays S.Store tx.old.conn.now tx.new.conn.now result }
+    ensures answers { Answers S.Store tx.old.conn.now tx.new.conn.now sql.now (bound params.now) (λ rows. rows.items) result }
+    ensures refused { IfErr result IsOfStore }
+{
+    match adr_sql::rows_of(tx, sql, params) {
+        Ok(rows) => Ok(rows),
+        Err(error) => Err(refusal_of(error)),
+    }
+}

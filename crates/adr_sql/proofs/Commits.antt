@@ -1,0 +1,75 @@
+-- A transaction from its begin to its commit or its drop.
+use Rattle.std.proofs.Common.{◌≡◌, inl, inr, false, true, Ok, Err, Result, IfErr, OnOk, OnErr, IsTrue, [], arith, refl, sym, subst, ◌∙◌}
+use Rattle.std.proofs.lemmas.Bool.{both_ways}
+use Rattle.sqlite_trees.specs.Tree.{Trees}
+use Rattle.sqlite.specs.Store.{Ghosts}
+use Rattle.sqlite.specs.Held.{Held, state}
+use Rattle.sqlite.specs.Steps.{FailsToCommit}
+use Rattle.sqlite.specs.State.{State, HasCleanDisk, KeepsCounts, Shows, IsRolledBack, KeepsCommit, Survives}
+use Rattle.sqlite.specs.declared.error.Error.{Error}
+use Rattle.sqlite.proofs.Callers.{survives_begin}
+use Rattle.sqlite.proofs.StateLemmas.{survives_then}
+use Rattle.adr_sql.specs.Calls.{Stays, Commits}
+
+-- a commit that fails leaves the last commit
+uncommitted : (begun last end : State) (e : Error) → KeepsCommit begun last → IsTrue last.in_transaction → FailsToCommit last end e → IsTrue end.is_open → (end.now ≡ begun.committed) × (end.committed ≡ begun.committed)
+uncommitted begun last end e kept inside (inl failed) is_open =
+    let undone = failed.3.undone is_open in
+    let same = kept.committed (failed.3.was_open is_open) in
+    (undone.0 ∙ same, undone.1 ∙ same)
+uncommitted begun last end e kept inside (inr ended) is_open = absurd (let out = ended.1 in both_ways _ out inside)
+
+module _ {S : Type 0} (g : Ghosts S) (old last end : Held S) where
+  abbrev begun : Held S
+  begun = record old { in_transaction = true }
+
+  -- the calls went well, and then the commit went well or not
+  pub committed : {A F T : Type 0} (x : A) (r : Result T Error) (IsDone : State → Type 0) (IsLeft : Trees → Type 0)
+      → Stays g begun last {T = A} {E = F} (Ok x)
+      → (HasCleanDisk (state g last) → IsDone (state g last))
+      → ((a b : State) → b.now ≡ a.now → IsDone a → IsDone b)
+      → ((s : State) → IsDone s → IsLeft s.now.trees)
+      → end.in_transaction ≡ false
+      → (HasCleanDisk (state g end) → OnOk r (IsTrue (state g last).in_transaction × Shows (state g last) (state g end) (state g last).now (state g last).now false × KeepsCounts (state g last) (state g end) × ((state g end).marks ≡ [])))
+      → (HasCleanDisk (state g end) → IfErr r (FailsToCommit (state g last) (state g end)))
+      → Survives (state g last) (state g end) (λ db. db ≡ (state g last).now.trees)
+      → Commits g old end IsDone IsLeft r
+  committed {T = T} x r IsDone IsLeft stays made moves leaves over ok err survives = record {
+    done = λ clean. shown r (early clean) (ok clean);
+    undone = λ clean is_open. failed r (early clean) is_open (err clean);
+    over = over;
+    crash = survives_then (state g old) (state g last) (state g end) _ _ IsLeft (λ _ db none. absurd none)
+        (λ late db is. subst IsLeft (sym is) (leaves (state g last) (made (early late)))) (survives_begin g old (state g last) _ stays.crash) survives;
+  }
+    where
+      early : HasCleanDisk (state g end) → HasCleanDisk (state g last)
+      early clean = omega (arith, survives.clean)
+
+      shown : (r : Result T Error) → HasCleanDisk (state g last)
+          → OnOk r (IsTrue (state g last).in_transaction × Shows (state g last) (state g end) (state g last).now (state g last).now false × KeepsCounts (state g last) (state g end) × ((state g end).marks ≡ []))
+          → OnOk r (IsDone (state g end) × ((state g end).committed ≡ (state g end).now))
+      shown (Ok y) clean h = (moves (state g last) (state g end) h.1.now_is (made clean), h.1.committed_is ∙ sym h.1.now_is)
+      shown (Err e) clean h = tt
+
+      failed : (r : Result T Error) → HasCleanDisk (state g last) → IsTrue (state g end).is_open → IfErr r (FailsToCommit (state g last) (state g end))
+          → OnErr r (((state g end).now ≡ (state g old).committed) × ((state g end).committed ≡ (state g old).committed))
+      failed (Ok y) clean is_open h = tt
+      failed (Err e) clean is_open h = uncommitted (state g begun) (state g last) (state g end) e (stays.commit clean refl) (stays.inside clean refl) h is_open
+
+  -- a call failed, and the transaction was dropped
+  pub dropped : {A F T E : Type 0} (q : Result A F) (e : E) (IsDone : State → Type 0) (IsLeft : Trees → Type 0)
+      → Stays g begun last q
+      → end.in_transaction ≡ false
+      → (HasCleanDisk (state g end) → IsRolledBack (state g last) (state g end))
+      → Survives (state g last) (state g end) (λ _. ⊥)
+      → Commits g old end {T = T} {E = E} IsDone IsLeft (Err e)
+  dropped q e IsDone IsLeft stays over undone survives = record {
+    done = λ clean. tt;
+    undone = λ clean is_open.
+        let early : HasCleanDisk (state g last) = omega (arith, survives.clean) in
+        let back = (undone clean).undone is_open in
+        let same = (stays.commit early refl).committed ((undone clean).was_open is_open) in
+        (back.0 ∙ same, back.1 ∙ same);
+    over = over;
+    crash = survives_then (state g old) (state g last) (state g end) _ _ IsLeft (λ _ db none. absurd none) (λ _ db none. absurd none) (survives_begin g old (state g last) _ stays.crash) survives;
+  }

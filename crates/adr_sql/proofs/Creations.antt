@@ -1,0 +1,53 @@
+-- CREATE TABLE, one text after another.
+use Rattle.std.proofs.Common.{◌≡◌, ℕ, false, List, [], ◌∷◌, ◌++◌, fold, None, Ok, sym, ap, subst, ◌∙◌, refl}
+use Rattle.std.specs.List.{AllByRecursion}
+use Rattle.sqlite_schema.specs.declared.schema.Table.{Table}
+use Rattle.sqlite_schema.specs.declared.schema.Schema.{Schema}
+use Rattle.sqlite.specs.Change.{created, next_tree}
+use Rattle.sqlite.specs.Effect.{Database}
+use Rattle.sqlite.specs.Does.{Tally, lacks_sequence}
+use Rattle.sqlite.specs.State.{State, Executes, Writes}
+use Rattle.sqlite.specs.Command.TheVariants.{CreateTable}
+use Rattle.sqlite.proofs.Callers.{runs_as}
+use Rattle.adr_sql.specs.Contents.{Contents, empty_tables, StoresEach, Holds}
+use Rattle.adr_sql.specs.Creations.{IsCreateText, Makes, IsUnderWay}
+use Rattle.adr_sql.proofs.Places.{stores_none, stores_more, stores_same}
+use Rattle.adr_sql.proofs.References.{went, same_value}
+
+empty_more : (ts : List Table) (t : Table) → empty_tables (ts ++ t ∷ []) ≡ empty_tables ts ++ [] ∷ []
+empty_more [] t = refl
+empty_more (u ∷ ts) t = ap (λ (l : Contents). [] ∷ l) (empty_more ts t)
+
+pub create_runs : (schema : Schema) (table : Table) (sql : List ℕ) → IsCreateText schema table sql → (old new : State) (count : ℕ) → Executes sql [] old new (Ok count)
+    → Holds schema (empty_tables schema.tables) old → Holds (created schema table) (empty_tables (created schema table).tables) new
+create_runs schema table sql text old new count h was =
+    let w = subst (λ t. Writes old new None CreateTable t [] count) text.whole (runs_as sql [] old new schema was.has CreateTable text.command text.alone count h) in
+    let all = went w.changed in
+    let first = went all.1 in
+    let made = first.1 in
+    let both : Ok made.table ≡ Ok table = sym made.defined ∙ text.defined in
+    let same : made.table ≡ table = cc in
+    let is : first.0.schema ≡ created schema table = made.is ∙ ap (λ s. created s made.table) was.has ∙ ap (created schema) same in
+    let plain : lacks_sequence first.0.schema ≡ false = ap lacks_sequence is ∙ text.uncounted in
+    let now : new.now ≡ first.0 = ap (λ (p : Tally × Database). p.1) (same_value all.2) ∙ same_value (rw plain at first.2) in
+    let others = subst (λ s. AllByRecursion (λ t. first.0.trees t.tree ≡ old.now.trees t.tree) s.tables) was.has made.others in
+    let before = stores_same schema.tables old.now.trees first.0.trees _ others was.each in
+    let empty : first.0.trees (next_tree schema) ≡ [] = subst (λ s. first.0.trees (next_tree s) ≡ []) was.has made.empty in
+    let after = stores_more schema.tables (record table { tree = next_tree schema }) first.0.trees _ [] before (stores_none _ _ _ empty) in
+    record {
+      has = ap (λ (d : Database). d.schema) now ∙ is;
+      each = subst (λ (d : Database). StoresEach (created schema table).tables d.trees (empty_tables (created schema table).tables)) (sym now)
+          (subst (StoresEach (created schema table).tables first.0.trees) (sym (empty_more schema.tables (record table { tree = next_tree schema }))) after);
+    }
+
+pub makes_one : (schema : Schema) (tables : List Table) (sql : List ℕ) (rest : List (List ℕ)) (old new : State) (count : ℕ) → IsUnderWay schema tables (sql ∷ rest) old → Executes sql [] old new (Ok count) → IsUnderWay schema tables rest new
+makes_one schema tables sql rest old new count it h = go it.others it.makes it.same
+  where
+    go : (others : List Table) → Makes it.so_far (sql ∷ rest) others → fold created it.so_far others ≡ fold created schema tables → IsUnderWay schema tables rest new
+    go [] none same = absurd none
+    go (t ∷ ts) makes same = record { so_far = created it.so_far t; others = ts; holds = create_runs it.so_far t sql makes.0 old new count h it.holds; makes = makes.1; same = same }
+
+pub made_all : (schema : Schema) (tables : List Table) (s : State) → IsUnderWay schema tables [] s → Holds (fold created schema tables) (empty_tables (fold created schema tables).tables) s
+made_all schema tables s it =
+    let all : it.so_far ≡ fold created schema tables = ap (fold created it.so_far) (sym it.makes) ∙ it.same in
+    subst (λ x. Holds x (empty_tables x.tables) s) all it.holds

@@ -1,0 +1,114 @@
+-- The tests that SQL makes of keys are those of `has_key`.
+use Rattle.std.proofs.Common.{◌≡◌, inl, inr, ℕ, zero, suc, Bool, true, false, not, ◌&&◌, List, [], ◌∷◌, map, drop, Some, refl, sym, ap, ap₂, ◌∙◌, Ordering, Less, Equal, Greater, is_eq}
+use Rattle.std.specs.Ordering.{ordering_reverse, ordering_then}
+use Rattle.std.proofs.lemmas.Bool.{both_ways, false_from_ne_true}
+use Rattle.sqlite_value.specs.declared.value.Value.{Value}
+use Rattle.sqlite_value.specs.declared.value.Value.TheVariants.{Null, Int, Real, Text, Blob}
+use Rattle.sqlite_value.specs.declared.keys.Collation.TheVariants.{Binary}
+use Rattle.sqlite_value.specs.Order.{Row, column, value_cmp}
+use Rattle.sqlite_value.specs.Keys.{rising, plain, first_key}
+use Rattle.sqlite_value.proofs.KeyLemmas.{first_key-plain}
+use Rattle.sqlite_value.proofs.OrderLemmas.{value_cmp_total}
+use Rattle.sqlite_sql.specs.Ops.{binary, is_null, is_true, from_truth}
+use Rattle.sqlite_sql.specs.Query.{key_cmp}
+use Rattle.sqlite_schema.specs.Rules.{equal, agree}
+use Rattle.sqlite_trees.specs.View.{is_int}
+use Rattle.sqlite_rules.specs.Lists.{Has}
+use Rattle.adr_sql.specs.Keys.{has_key}
+
+-- ---- truth and order
+
+pub same_bool : (a b : Bool) → (a ≡ true → b ≡ true) → (b ≡ true → a ≡ true) → a ≡ b
+same_bool true b f g = sym (f refl)
+same_bool false b f g = sym (false_from_ne_true b (λ e. both_ways false refl (g e)))
+
+pub full_parts : (a b : Bool) → (not a && b) ≡ true → (a ≡ false) × (b ≡ true)
+full_parts true b h = absurd cc
+full_parts false b h = (refl, h)
+
+pub and_true : (b : Bool) → (b && true) ≡ b
+and_true true = refl
+and_true false = refl
+
+pub ties : (o : Ordering) → is_eq o ≡ true → o ≡ Equal
+ties Less h = absurd cc
+ties Equal h = refl
+ties Greater h = absurd cc
+
+pub then_eq : (o p : Ordering) → is_eq (ordering_then o p) ≡ (is_eq o && is_eq p)
+then_eq Less p = refl
+then_eq Equal p = refl
+then_eq Greater p = refl
+
+pub told : (b : Bool) → is_true (from_truth (Some b)) ≡ b
+told true = refl
+told false = refl
+
+-- ---- values
+
+turned_tie : (o : Ordering) → is_eq (ordering_reverse o) ≡ is_eq o
+turned_tie Less = refl
+turned_tie Equal = refl
+turned_tie Greater = refl
+
+tie_turned : (x y : Value) → is_eq (value_cmp x y) ≡ is_eq (value_cmp y x)
+tie_turned x y = ap is_eq (value_cmp_total.antisymm x y) ∙ turned_tie (value_cmp y x)
+
+null_apart : (y : Value) → is_null y ≡ false → is_eq (value_cmp y Null) ≡ false
+unfolding value_cmp
+null_apart Null full = absurd cc
+null_apart (Int n) full = refl
+null_apart (Real x) full = refl
+null_apart (Text t) full = refl
+null_apart (Blob b) full = refl
+
+pub int_full : (v : Value) → is_int v ≡ true → is_null v ≡ false
+int_full Null h = absurd cc
+int_full (Int n) h = refl
+int_full (Real x) h = refl
+int_full (Text t) h = refl
+int_full (Blob b) h = refl
+
+-- `=` where the second value is not NULL
+pub equal_is : (x y : Value) → is_null y ≡ false → equal Binary x y ≡ is_eq (value_cmp y x)
+unfolding binary
+equal_is Null y full = sym (null_apart y full)
+equal_is (Int n) y full = rw full (told _ ∙ tie_turned (Int n) y)
+equal_is (Real n) y full = rw full (told _ ∙ tie_turned (Real n) y)
+equal_is (Text n) y full = rw full (told _ ∙ tie_turned (Text n) y)
+equal_is (Blob n) y full = rw full (told _ ∙ tie_turned (Blob n) y)
+
+-- ---- columns
+
+-- the places of n columns behind the rowid, from one on
+abbrev pub places_from : ℕ → ℕ → List ℕ
+places_from at zero = []
+places_from at (suc n) = suc at ∷ places_from (suc at) n
+
+-- none of the n columns from one on is NULL
+abbrev pub are_full : ℕ → ℕ → Row → Bool
+are_full at zero row = true
+are_full at (suc n) row = not (is_null (column row at)) && are_full (suc at) n row
+
+pub column_drop : (row : Row) (at : ℕ) → column (drop 1 row) at ≡ column row (suc at)
+column_drop [] at = refl
+column_drop (v ∷ row) at = refl
+
+agree_from : (n at : ℕ) (a b : Row) → are_full at n (drop 1 b) ≡ true → agree plain (places_from at n) a (places_from at n) b ≡ is_eq (key_cmp at (rising n []) (drop 1 b) (drop 1 a))
+agree_from zero at a b full = refl
+agree_from (suc n) at a b full =
+    let parts = full_parts _ _ full in
+    let here : equal (first_key plain).collation (column a (suc at)) (column b (suc at)) ≡ is_eq (value_cmp (column (drop 1 b) at) (column (drop 1 a) at)) =
+    rw (first_key-plain, column_drop a at, column_drop b at) (equal_is (column a (suc at)) (column b (suc at)) (ap is_null (sym (column_drop b at)) ∙ parts.0)) in
+    ap₂ ◌&&◌ here (agree_from n (suc at) a b parts.1) ∙ sym (then_eq _ _)
+
+-- a unique index finds the rows with the key
+pub agree_is : (n : ℕ) (a b : Row) → are_full 0 n (drop 1 b) ≡ true → agree plain (places_from 0 n) a (places_from 0 n) b ≡ has_key n (drop 1 b) (drop 1 a)
+agree_is n a b full = agree_from n 0 a b full
+
+-- ---- lists
+
+pub has_map : {X Y : Type 0} (f : X → Y) (xs : List X) (y : Y) → Has (map f xs) y → (x : X) × Has xs x × (y ≡ f x)
+has_map f [] y h = absurd h
+has_map f (x ∷ xs) y (inl e) = (x, inl refl, e)
+has_map f (x ∷ xs) y (inr h) = let r = has_map f xs y h in (r.0, inr r.1, r.2)

@@ -1,0 +1,12 @@
+pub mod Keys
+pub mod Rows
+pub mod Places
+pub mod References
+pub mod Puts
+pub mod Selections
+pub mod Removals
+pub mod Counts
+pub mod Creations
+pub mod Transactions
+pub mod Commits
+pub mod Maps

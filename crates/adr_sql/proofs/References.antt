@@ -1,0 +1,68 @@
+-- A table to which no reference points: a write to it sets off nothing. And what every write shares.
+use Rattle.std.proofs.Common.{◌≡◌, ◌⊎◌, inl, inr, ℕ, ℤ, Bool, true, false, not, ◌==◌, cond, List, [], ◌∷◌, ◌++◌, length, Ok, Err, Result, Option, Some, None, refl, ap₂}
+use Rattle.std.specs.List.{list_all, flat_map, filter_map, cons_option}
+use Rattle.std.proofs.lemmas.Bool.{and_parts, not-true}
+use Rattle.sqlite_value.specs.declared.value.Value.{Value}
+use Rattle.sqlite_value.specs.declared.value.Value.TheVariants.{Null, Int}
+use Rattle.sqlite_value.specs.Order.{Row}
+use Rattle.sqlite_sql.specs.Ops.{unary}
+use Rattle.sqlite_schema.specs.declared.schema.Kind.TheVariants.{Integer}
+use Rattle.sqlite_schema.specs.declared.schema.Keys.{Keys}
+use Rattle.sqlite_schema.specs.declared.schema.Reference.{Reference}
+use Rattle.sqlite_schema.specs.declared.schema.Table.{Table}
+use Rattle.sqlite_schema.specs.declared.schema.Schema.{Schema}
+use Rattle.sqlite_schema.specs.Rules.{ParentKey, parent_key}
+use Rattle.sqlite_rules.specs.Cast.{cast}
+use Rattle.sqlite_rules.specs.declared.action.Deed.{Deed}
+use Rattle.sqlite_rules.specs.Action.{works, work_for, work_by, deed_for, pairs}
+
+-- ---- steps of a write
+
+-- a part that gave a value did not stop on the way
+pub went : {B E R : Type 0} {b : B} {Stops : E → Type 0} → ((stop : E) × Stops stop × (Ok b ≡ Err stop)) ⊎ R → R
+went (inl stopped) = absurd (let e = stopped.2 in cc)
+went (inr on) = on
+
+pub same_value : {B E : Type 0} {a b : B} → ◌≡◌ {A = Result B E} (Ok a) (Ok b) → a ≡ b
+same_value e = cc
+
+either : (b : Bool) (x : Value) → cond b x x ≡ x
+either true x = refl
+either false x = refl
+
+-- an INT column keeps a NULL and an integer as they are
+pub cast_null : cast Integer Null ≡ Null
+unfolding unary
+cast_null = either _ Null
+
+pub cast_int : (n : ℤ) → cast Integer (Int n) ≡ Int n
+unfolding unary
+cast_int n = either _ (Int n)
+
+-- ---- references
+
+abbrev pub points : ℕ → Option ParentKey → Bool
+points tree None = false
+points tree (Some key) = key.0 == tree
+
+-- no reference points to the table with this tree
+abbrev pub is_childless : Schema → ℕ → Bool
+is_childless schema tree = list_all (λ t. list_all (λ ref. not (points tree (parent_key schema.tables ref))) t.references) schema.tables
+
+unmoved : (depth tree : ℕ) (moves : List (Row × Row)) (child : Table) (ref : Reference) (deed : Option Deed) (key : Option ParentKey) → not (points tree key) ≡ true → work_by depth tree moves child ref deed key ≡ None
+unmoved depth tree moves child ref None key h = refl
+unmoved depth tree moves child ref (Some deed) None h = refl
+unmoved depth tree moves child ref (Some deed) (Some key) h = rw (not-true _ h) refl
+
+pub no_work : (schema : Schema) (depth tree : ℕ) → is_childless schema tree ≡ true → (keys : Keys) (olds news : List Row) → works schema keys depth tree olds news ≡ []
+no_work schema depth tree h keys olds news = each schema.tables h
+  where
+    none : (child : Table) (refs : List Reference) → list_all (λ ref. not (points tree (parent_key schema.tables ref))) refs ≡ true → filter_map (work_for schema keys depth tree olds news child) refs ≡ []
+    none child [] h = refl
+    none child (ref ∷ refs) h =
+        let parts = and_parts _ _ h in
+        ap₂ cons_option (unmoved depth tree (pairs olds news) child ref (deed_for keys (length news == 0) ref) (parent_key schema.tables ref) parts.0) (none child refs parts.1)
+
+    each : (tables : List Table) → list_all (λ t. list_all (λ ref. not (points tree (parent_key schema.tables ref))) t.references) tables ≡ true → flat_map (λ child. filter_map (work_for schema keys depth tree olds news child) child.references) tables ≡ []
+    each [] h = refl
+    each (t ∷ tables) h = let parts = and_parts _ _ h in ap₂ ◌++◌ (none t t.references parts.0) (each tables parts.1)

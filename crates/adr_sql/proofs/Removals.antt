@@ -1,0 +1,183 @@
+-- DELETE of the rows that pass, in a table to which no reference points. Its tests may ask whether another table has a row.
+use Rattle.std.proofs.Common.{◌≡◌, ℕ, zero, ℤ, pos, negsuc, min, Bool, true, false, not, List, [], ◌∷◌, ◌++◌, map, filter, flat_map, drop, length, None, Ok, IsTrue, refl, sym, ap, subst, ◌∙◌, Equal, is_eq, IsPermutation}
+use Rattle.std.specs.List.{AllByRecursion, list_all, list_any}
+use Rattle.std.proofs.lemmas.Bool.{and_parts}
+use Rattle.std.proofs.lemmas.Cmp.{tied_itself}
+use Rattle.std.proofs.lemmas.List.{length-map}
+use Rattle.std.proofs.lemmas.List.Sorted.{IsPermutation-map, IsPermutation-sym, Contains-permutation, length_permutation}
+use Rattle.sqlite_value.specs.declared.value.Value.TheVariants.{Null, Int}
+use Rattle.sqlite_value.specs.Order.{Row, column, value_cmp}
+use Rattle.sqlite_value.proofs.OrderLemmas.{value_cmp_total}
+use Rattle.sqlite_trees.specs.Tree.{Trees, rowid, has_rowid, IsTable}
+use Rattle.sqlite_trees.specs.View.{is_int}
+use Rattle.sqlite_trees.proofs.ListLemmas.{filter_same, map-map}
+use Rattle.sqlite_schema.specs.declared.schema.Keys.TheVariants.{Enforced}
+use Rattle.sqlite_schema.specs.declared.schema.Table.{Table}
+use Rattle.sqlite_schema.specs.declared.schema.Schema.{Schema}
+use Rattle.sqlite_rules.specs.declared.error.Rowids.TheVariants.{Given}
+use Rattle.sqlite_rules.specs.Lists.{Has}
+use Rattle.sqlite_rules.specs.Calls.{ids_of}
+use Rattle.sqlite_rules.specs.Edit.{Edit, edit_of, taken_by, id_in, without_all}
+use Rattle.sqlite_rules.proofs.ListLemmas.{all_from, all_has, has_filtered, has_kept, has_contained, contains_had, some_has, some_from}
+use Rattle.sqlite_rules.proofs.ProbeLemmas.{mapped_has}
+use Rattle.sqlite_rules.proofs.TableLemmas.{int_is}
+use Rattle.sqlite_rules.proofs.PlaceLemmas.{tied_same}
+use Rattle.sqlite_sql.specs.Term.{Term, Env, col, holds}
+use Rattle.sqlite_sql.specs.Query.{Query, Join, counted, end, matches, Output, output, IsAnswer, IsSureAnswer}
+use Rattle.sqlite_sql.specs.Program.{overlay}
+use Rattle.sqlite.specs.Rows.{Task, Written}
+use Rattle.sqlite.specs.Effect.{Database}
+use Rattle.sqlite.specs.Does.{Tally, Does, AtPlace, OnRows}
+use Rattle.sqlite.specs.State.{State, mode_of, Executes}
+use Rattle.sqlite.specs.Listing.{understood}
+use Rattle.sqlite.specs.Given.{IsPlain as IsPlainText}
+use Rattle.sqlite.specs.Command.TheVariants.{Delete}
+use Rattle.sqlite.proofs.Callers.{one_step, runs_as, command_of, statement_of}
+use Rattle.adr_sql.specs.Keys.{rows_without}
+use Rattle.adr_sql.specs.Contents.{Contents, rows_of_table, with_table, Stores, StoresEach, Holds}
+use Rattle.adr_sql.proofs.Keys.{same_bool, are_full, has_map, ties}
+use Rattle.adr_sql.proofs.Rows.{without_all_is, stores_filter}
+use Rattle.adr_sql.proofs.Places.{IsFound, is_tree, bare, seen, stored_is_seen, stores_at, stores_with_table}
+use Rattle.adr_sql.proofs.References.{is_childless, no_work, went, same_value}
+use Rattle.adr_sql.proofs.Selections.{erased, fair, sees, holds_same, erased_more, longer, grown, is_flat, flat_one, slot_kept, picked, overlay_none, equalities, passes_is}
+
+has_along : {X : Type 0} (xs ys : List X) (x : X) → IsPermutation xs ys → Has xs x → Has ys x
+has_along xs ys x same h = has_contained ys x (Contains-permutation xs ys x same (contains_had xs x h))
+
+-- to take out the rowids of the rows that pass is to filter those out
+taken_out : (p : Row → Bool) (rows : List Row) (ids : List ℤ) → IsTable rows → AllByRecursion (λ r. IsTrue (is_int (rowid r))) rows
+    → ((id : ℤ) → Has ids id → (r : Row) × Has rows r × (p r ≡ true) × (id ≡ id_in (rowid r))) → ((r : Row) → Has rows r → p r ≡ true → Has ids (id_in (rowid r)))
+    → without_all rows ids ≡ filter (λ r. not (p r)) rows
+taken_out p rows ids up numbered sound complete =
+    without_all_is ids rows ∙ filter_same _ _ rows (all_from _ rows (λ r has. ap not (same_bool _ _ (there r has) (back r has))))
+  where
+    there : (r : Row) → Has rows r → list_any (λ id. has_rowid id r) ids ≡ true → p r ≡ true
+    there r has some =
+        let id = some_has _ ids some in
+        let s = sound id.0 id.1 in
+        let tie : value_cmp (rowid r) (rowid s.0) ≡ Equal = ap (value_cmp (rowid r)) (int_is (rowid s.0) (all_has _ rows s.0 numbered s.1) ∙ ap Int (sym s.3)) ∙ ties _ id.2 in
+        ap p (tied_same rows r s.0 up has s.1 tie) ∙ s.2
+
+    back : (r : Row) → Has rows r → p r ≡ true → list_any (λ id. has_rowid id r) ids ≡ true
+    back r has pass =
+        some_from (λ id. has_rowid id r) ids (id_in (rowid r)) (complete r has pass)
+        (ap (λ v. is_eq (value_cmp (rowid r) v)) (sym (int_is (rowid r) (all_has _ rows r numbered has))) ∙ ap is_eq (tied_itself value_cmp_total (rowid r)))
+
+-- the query that finds the rowids of the rows to remove
+abbrev pub finding : ℕ → Join → List Term → Query
+finding tree rest terms = record {
+  from = Rattle.sqlite_sql.specs.Query.inner tree rest;
+  filter = terms;
+  group = None;
+  project = col 1 0 ∷ [];
+  distinct = false;
+  collations = [];
+  order = [];
+  limit = Rattle.sqlite_sql.specs.Term.lit (Int (negsuc 0));
+  offset = Rattle.sqlite_sql.specs.Term.lit (Int (pos 0));
+}
+
+-- the test of WHERE at a row, in some trees
+abbrev pub is_found : Trees → Join → List Term → Row → Row → Bool
+is_found db rest terms params r = list_all (holds (grown db rest (params ∷ r ∷ []))) terms
+
+chosen : (db : Trees) (tree : ℕ) (rest : Join) (terms : List Term) (params : Row) (rows : List Row) → is_flat rest ≡ true → IsTable (db tree) → AllByRecursion (λ r. IsTrue (is_int (rowid r))) (db tree)
+    → IsSureAnswer (finding tree rest terms) (overlay db []) params rows → without_all (db tree) (ids_of rows) ≡ filter (λ r. not (is_found db rest terms params r)) (db tree)
+chosen db tree rest terms params rows flat up numbered sure = taken_out p (db tree) (ids_of rows) up numbered sound complete
+  where
+    p : Row → Bool
+    p = is_found db rest terms params
+
+    q : Query
+    q = finding tree rest terms
+
+    a : IsAnswer q (overlay db []) params rows
+    a = sure Null
+
+    out : Row → Output
+    out r = ([], rowid r ∷ [])
+
+    kept : a.kept ≡ map out (filter p (db tree))
+    kept =
+        a.distinct ∙ ap (map (output q)) a.grouped ∙ ap (λ (d : Trees). map (output q) (matches d terms (Rattle.sqlite_sql.specs.Query.inner tree rest) (params ∷ []))) (λ i x. overlay_none db x i)
+        ∙ ap (map (output q)) (ap (λ (f : Row → List Env). flat_map f (db tree)) (λ i r. flat_one db terms rest (params ∷ r ∷ []) flat i) ∙ picked p (λ r. grown db rest (params ∷ r ∷ [])) (db tree))
+        ∙ map-map (output q) (λ r. grown db rest (params ∷ r ∷ [])) (filter p (db tree))
+        ∙ ap (λ (f : Row → Output). map f (filter p (db tree))) (λ i r. ([], column (slot_kept db rest params r [] i) 0 ∷ []))
+
+    same : IsPermutation (map (λ r. rowid r ∷ []) (filter p (db tree))) rows
+    same = subst (IsPermutation _) (sym a.shown) (subst (λ l. IsPermutation l (map (λ (o : Output). o.1) a.ordered)) (ap (map (λ (o : Output). o.1)) kept ∙ map-map (λ (o : Output). o.1) out (filter p (db tree))) (IsPermutation-map (λ (o : Output). o.1) _ _ a.same))
+
+    sound : (id : ℤ) → Has (ids_of rows) id → (r : Row) × Has (db tree) r × (p r ≡ true) × (id ≡ id_in (rowid r))
+    sound id h =
+        let x = has_map (λ y. id_in (rowid y)) rows id h in
+        let r = has_map (λ r. rowid r ∷ []) (filter p (db tree)) x.0 (has_along _ _ x.0 (IsPermutation-sym _ _ same) x.1) in
+        let f = has_filtered p (db tree) r.0 r.1 in
+        (r.0, f.0, f.1, x.2 ∙ ap (λ y. id_in (rowid y)) r.2)
+
+    complete : (r : Row) → Has (db tree) r → p r ≡ true → Has (ids_of rows) (id_in (rowid r))
+    complete r has pass = mapped_has (λ y. id_in (rowid y)) rows (rowid r ∷ []) (has_along _ _ _ same (mapped_has (λ r. rowid r ∷ []) (filter p (db tree)) r (has_kept p (db tree) r has pass)))
+
+module _ (db them : Trees) (known : ℕ → Bool) (same : (t : ℕ) → known t ≡ true → IsPermutation (map bare (db t)) (them t)) where
+  -- the test is the same of the rows without their rowids
+  grown_same : (rest : Join) (ks : List Bool) (terms : List Term) (env : Env) → length ks ≡ length env → is_flat rest ≡ true → fair known ks terms rest ≡ true
+      → list_all (holds (grown db rest env)) terms ≡ list_all (holds (grown them rest (erased ks env))) terms
+  grown_same end ks terms env len flat ok = holds_same ks terms env ok
+  grown_same (counted most from test more) ks terms env len flat ok =
+      let p = and_parts _ _ ok in
+      let few = length_permutation _ _ (sees db them known same (λ e. zero) from ks test env len p.0 (λ e. refl)) in
+      let many : length (matches db test from env) ≡ length (matches them test from (erased ks env)) = sym (sym (length-map _ _) ∙ few ∙ length-map _ _) in
+      let r : Row = Int (pos (min most (length (matches db test from env)))) ∷ [] in
+      grown_same more (ks ++ false ∷ []) terms (env ++ r ∷ []) (longer ks env false r len) flat p.1
+      ∙ ap (λ e. list_all (holds (grown them more e)) terms) (erased_more ks false env r len ∙ ap (λ n. erased ks env ++ (Int (pos (min most n)) ∷ []) ∷ []) many)
+  grown_same _ ks terms env len flat ok = absurd cc
+
+-- what `refl` finds of a text that removes rows
+pub record IsRemoveText (schema : Schema) (at : ℕ) (table : Table) (rest : Join) (terms : List Term) (sql : List ℕ) : Type 0 where
+  pub command : command_of (understood schema sql) ≡ Delete at (record { lets = []; body = finding table.tree rest terms })
+  pub alone : IsPlainText (understood schema sql)
+  pub flat : is_flat rest ≡ true
+  pub joins : fair (is_tree schema.tables) (false ∷ true ∷ []) terms rest ≡ true
+
+module _ (schema : Schema) (at : ℕ) (table : Table) (it : IsFound schema at table) (childless : is_childless schema table.tree ≡ true) (rest : Join) (terms : List Term) (sql : List ℕ) (params : Row)
+    (text : IsRemoveText schema at table rest terms sql) where
+  -- whether a row goes
+  abbrev pub goes : Contents → Row → Bool
+  goes all row = is_found (seen schema.tables all) rest terms params (Null ∷ row)
+
+  pub remove_runs : (old new : State) (count : ℕ) (all : Contents) → Executes sql params old new (Ok count) → Holds schema all old
+      → Holds schema (with_table all at (filter (λ row. not (goes all row)) (rows_of_table all at))) new
+  remove_runs old new count all h was =
+      let has = was.has in
+      let db = old.now.trees in
+      let left = filter (λ row. not (goes all row)) (rows_of_table all at) in
+      let command = Delete at (record { lets = []; body = finding table.tree rest terms }) in
+      let w = runs_as sql params old new schema has command text.command text.alone count h in
+      let words = statement_of sql (understood schema sql) in
+      let task : Task = record { limit = old.step_limit; keys = Enforced; schema = schema; table = table; params = params } in
+      let does = subst (λ s. Does old.step_limit (mode_of old) params (record old.now { schema = s }) words None command (Ok (w.tally, new.now))) has w.changed in
+      let done = went (subst (λ o. AtPlace (λ t. OnRows (record task { table = t }) (mode_of old) None command db) o (Ok (w.tally, new.now))) it.found does) in
+      let now : new.now ≡ record { schema = schema; trees = done.0.trees } = ap (λ (p : Tally × Database). p.1) (same_value (went (went done.2).2).2) in
+      let queried = went done.1 in
+      let made = went queried.2 in
+      let edit : Edit = edit_of db table (ids_of queried.0) Given 0 [] in
+      let a = one_step schema Enforced db made.0 edit (no_work schema 0 table.tree childless Enforced (taken_by db edit) edit.news) made.1 in
+      let here = stores_at schema.tables at table db all it.found was.each in
+      let known : (t : ℕ) → is_tree schema.tables t ≡ true → IsPermutation (map bare (db t)) (seen schema.tables all t) = λ t is. stored_is_seen schema.tables db all t was.each is in
+      let rows : made.0 table.tree ≡ filter (λ r. not (goes all (drop 1 r))) (db table.tree) =
+      a.rows ∙ chosen db table.tree rest terms params queried.0 text.flat here.listed here.numbered queried.1.answer
+      ∙ ap (λ (f : Row → Bool). filter f (db table.tree)) (λ i r. not (grown_same db (seen schema.tables all) (is_tree schema.tables) known rest (false ∷ true ∷ []) terms (params ∷ r ∷ []) refl text.flat text.joins i)) in
+      let kept : Stores (length table.primary) (length table.columns) (made.0 table.tree) left =
+      subst (λ stored. Stores (length table.primary) (length table.columns) stored left) (sym rows) (stores_filter _ _ (λ row. not (goes all row)) (db table.tree) (rows_of_table all at) here) in
+      let trees : done.0.trees ≡ made.0 = ap (λ (w : Written). w.trees) (same_value made.2) in
+      record {
+        has = ap (λ (d : Database). d.schema) now;
+        each = subst (λ d. StoresEach schema.tables d (with_table all at left)) (sym (ap (λ (d : Database). d.trees) now ∙ trees)) (stores_with_table schema.tables at table db made.0 all left it.found it.alone a.tables kept was.each);
+      }
+
+-- by the first k columns of the key, which are the parameters
+module _ (schema : Schema) (at k : ℕ) (table : Table) (it : IsFound schema at table) (childless : is_childless schema table.tree ≡ true) (sql : List ℕ) (params : Row)
+    (text : IsRemoveText schema at table end (equalities 0 k) sql) (full : are_full 0 k params ≡ true) where
+  pub remove_at_runs : (old new : State) (count : ℕ) (all : Contents) → Executes sql params old new (Ok count) → Holds schema all old → Holds schema (with_table all at (rows_without k params (rows_of_table all at))) new
+  remove_at_runs old new count all h was =
+      subst (λ (p : Row → Bool). Holds schema (with_table all at (filter (λ row. not (p row)) (rows_of_table all at))) new) (λ i row. passes_is k params (Null ∷ row) full i)
+      (remove_runs schema at table it childless end (equalities 0 k) sql params text old new count all h was)

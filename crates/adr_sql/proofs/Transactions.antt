@@ -1,0 +1,152 @@
+-- What statements leave of a transaction, and how that adds up.
+use Rattle.std.proofs.Common.{◌≡◌, ◌⊎◌, inl, inr, ℕ, false, List, Ok, Err, Option, Some, None, Result, IfOk, IfErr, OnOk, IsTrue, arith, cond, refl, sym, ap, subst, ◌∙◌}
+use Rattle.std.proofs.lemmas.Bool.{cases_Bool}
+use Rattle.sqlite_schema.specs.declared.command.Returning.{Returning}
+use Rattle.sqlite_resolve.specs.declared.compiled.Compiled.{Compiled}
+use Rattle.sqlite.specs.Order.{Row}
+use Rattle.sqlite.specs.Schema.{Schema}
+use Rattle.sqlite.specs.Store.{Ghosts}
+use Rattle.sqlite.specs.Held.{Held, state}
+use Rattle.sqlite.specs.Effect.{Database}
+use Rattle.sqlite.specs.Given.{IsPlain}
+use Rattle.sqlite.specs.Listing.{understood}
+use Rattle.sqlite.specs.State.{State, HasCleanDisk, IsUnchanged, IsRolledBack, KeepsCommit, Survives, ExecutesInside, Executes, Shows, ShowsRows, FailsToShow, FailsToQuery, IsNotRun, IsTooLate, Shown}
+use Rattle.sqlite.specs.declared.error.Error.{Error}
+use Rattle.sqlite.proofs.StateLemmas.{survives_then}
+use Rattle.adr_sql.specs.Contents.{Contents, Holds, StoresEach}
+use Rattle.adr_sql.specs.Calls.{Stays}
+
+-- ---- the last commit
+
+unchanged_keeps : (old new : State) → IsUnchanged old new → KeepsCommit old new
+unchanged_keeps old new h = record { was_open = λ _. h.0.was_open; committed = λ _. h.0.committed_is }
+
+undone_keeps : (old new : State) → IsRolledBack old new → KeepsCommit old new
+undone_keeps old new h = record { was_open = h.was_open; committed = λ is_open. (h.undone is_open).1 }
+
+shows_keeps : (old new : State) (now : Database) (mode : _) → Shows old new now old.committed mode → KeepsCommit old new
+shows_keeps old new now mode h = record { was_open = λ _. h.was_open; committed = λ _. h.committed_is }
+
+keeps_itself : (s : State) → KeepsCommit s s
+keeps_itself s = record { was_open = λ h. h; committed = λ _. refl }
+
+keeps_then : (a b c : State) → KeepsCommit a b → KeepsCommit b c → KeepsCommit a c
+keeps_then a b c p q = record { was_open = λ h. p.was_open (q.was_open h); committed = λ h. q.committed h ∙ p.committed (q.was_open h) }
+
+failed_keeps : (sql : List ℕ) (params : Row) (old new : State) (e : Error) → ExecutesInside 0 sql params old new (Err e) → KeepsCommit old new
+failed_keeps sql params old new e (inl ran) = elim ran.1 [ inl same ↦ unchanged_keeps old new same | inr undone ↦ undone_keeps old new undone ]
+failed_keeps sql params old new e (inr ended) = unchanged_keeps old new ended.2
+
+-- ---- a statement that writes
+
+module _ {S : Type 0} (g : Ghosts S) (sql : List ℕ) (params : Row) (old new : Held S) {T E : Type 0} where
+  pub ran_stays : (count : ℕ) (x : T) → (HasCleanDisk (state g new) → IsTrue (state g old).in_transaction → ExecutesInside 0 sql params (state g old) (state g new) (Ok count))
+      → Survives (state g old) (state g new) (λ _. ⊥) → Stays g old new {T = T} {E = E} (Ok x)
+  ran_stays count x runs survives = record {
+    crash = survives;
+    commit = λ clean inside. let h = runs clean inside in shows_keeps (state g old) (state g new) _ _ h.1;
+    inside = λ clean inside. let h = runs clean inside in h.1.mode;
+  }
+
+  pub failed_stays : (e : Error) (f : E) → (HasCleanDisk (state g new) → IsTrue (state g old).in_transaction → ExecutesInside 0 sql params (state g old) (state g new) (Err e))
+      → Survives (state g old) (state g new) (λ _. ⊥) → Stays g old new {T = T} {E = E} (Err f)
+  failed_stays e f runs survives = record {
+    crash = survives;
+    commit = λ clean inside. failed_keeps sql params (state g old) (state g new) e (runs clean inside);
+    inside = λ clean inside. tt;
+  }
+
+module _ {S : Type 0} (g : Ghosts S) (sql : List ℕ) (params : Row) (old new : Held S) where
+  -- it ran, if it says so
+  pub did_run : (count : ℕ) (r : Result ℕ Error) (e : Error) → ((state g old).in_transaction ≡ false → (r ≡ Err e) × (new ≡ old))
+      → (IsTrue (state g old).in_transaction → ExecutesInside 0 sql params (state g old) (state g new) r) → r ≡ Ok count → Executes sql params (state g old) (state g new) (Ok count)
+  did_run count r e ended runs is = elim (cases_Bool (state g old).in_transaction) [
+    | inl inside ↦ (subst (ExecutesInside 0 sql params (state g old) (state g new)) is (runs inside)).0
+    | inr outside ↦ absurd (let e = sym is ∙ (ended outside).0 in cc)
+  ]
+
+-- ---- a statement that reads
+
+module _ (sql : List ℕ) (params : Row) (old new : State) where
+  to_show_keeps : (c : Compiled) (p : Row) (e : Error) (r : Option Returning) → FailsToShow old new sql c p e r → KeepsCommit old new
+  to_show_keeps c p e None h = unchanged_keeps old new h.3
+  to_show_keeps c p e (Some what) (inl same) = unchanged_keeps old new same.1
+  to_show_keeps c p e (Some what) (inr lost) = undone_keeps old new lost.3
+
+  read_failed_keeps : (e : Error) → FailsToQuery sql params old new e ⊎ IsTooLate sql params old new e → KeepsCommit old new
+  unfolding FailsToQuery IsNotRun
+  read_failed_keeps e (inl (inl (inl refused))) = unchanged_keeps old new refused.1
+  read_failed_keeps e (inl (inl (inr lost))) = undone_keeps old new lost.3
+  read_failed_keeps e (inl (inr h)) = to_show_keeps h.0 _ e h.0.returning h.2
+  read_failed_keeps e (inr late) = unchanged_keeps old new late.5
+
+  rows_keep : (c : Compiled) (p : Row) (rows : List Row) (r : Option Returning) → IsTrue old.in_transaction → ShowsRows old new sql c p rows r → KeepsCommit old new × IsTrue new.in_transaction
+  rows_keep c p rows None inside h = (unchanged_keeps old new h.3, h.3.0.mode ∙ inside)
+  rows_keep c p rows (Some what) inside h =
+      let shown = subst (λ b. Shows old new new.now (cond b old.committed new.now) old.in_transaction) inside h.1.shown in
+      (shows_keeps old new new.now old.in_transaction shown, shown.mode ∙ inside)
+
+  shown_keeps : (rows : List Row) → IsTrue old.in_transaction → Shown sql params old new rows → KeepsCommit old new × IsTrue new.in_transaction
+  unfolding Shown
+  shown_keeps rows inside h = rows_keep h.0 _ rows h.0.returning inside h.2
+
+module _ {S : Type 0} (g : Ghosts S) (sql : List ℕ) (params : Row) (old new : Held S) {T E : Type 0} where
+  shown_stays : (rows : List Row) (x : T) → (HasCleanDisk (state g new) → Shown sql params (state g old) (state g new) rows) → Survives (state g old) (state g new) (λ _. ⊥) → Stays g old new {T = T} {E = E} (Ok x)
+  shown_stays rows x shown survives = record {
+    crash = survives;
+    commit = λ clean inside. (shown_keeps sql params (state g old) (state g new) rows inside (shown clean)).0;
+    inside = λ clean inside. (shown_keeps sql params (state g old) (state g new) rows inside (shown clean)).1;
+  }
+
+module _ {S : Type 0} (g : Ghosts S) (sql : List ℕ) (params : Row) (old new : Held S) {T : Type 0} (rows_in : T → List Row) where
+  pub rows_stay : (r : Result T Error) → (HasCleanDisk (state g new) → IfOk r (λ x. Shown sql params (state g old) (state g new) (rows_in x)))
+      → (HasCleanDisk (state g new) → IfErr r (λ e. FailsToQuery sql params (state g old) (state g new) e ⊎ IsTooLate sql params (state g old) (state g new) e))
+      → Survives (state g old) (state g new) (λ _. ⊥) → Stays g old new r
+  rows_stay (Ok x) ok err survives = shown_stays g sql params old new (rows_in x) x ok survives
+  rows_stay (Err e) ok err survives = record {
+    crash = survives;
+    commit = λ clean inside. read_failed_keeps sql params (state g old) (state g new) e (err clean);
+    inside = λ clean inside. tt;
+  }
+
+-- a plain query leaves the tables
+still : (schema : Schema) (sql : List ℕ) (params : Row) (old new : State) (rows : List Row) → old.now.schema ≡ schema → IsPlain (understood schema sql) → Shown sql params old new rows → IsUnchanged old new
+unfolding Shown
+still schema sql params old new rows has alone h =
+    let known = sym h.1.is ∙ ap (λ s. understood s sql) has in
+    let bare = subst IsPlain (sym known) alone in
+    let it = rw bare.0 at h.2 in
+    it.3
+
+pub holds_now : (schema : Schema) (all : Contents) (a b : State) → b.now ≡ a.now → Holds schema all a → Holds schema all b
+holds_now schema all a b same was = record { has = ap (λ (d : Database). d.schema) same ∙ was.has; each = subst (λ (d : Database). StoresEach schema.tables d.trees all) (sym same) was.each }
+
+pub holds_still : (schema : Schema) (sql : List ℕ) (params : Row) (old new : State) (rows : List Row) (all : Contents) → IsPlain (understood schema sql) → Shown sql params old new rows → Holds schema all old → Holds schema all new
+holds_still schema sql params old new rows all alone h was = holds_now schema all old new (still schema sql params old new rows was.has alone h).0.now_is was
+
+-- ---- one call after another
+
+survives_itself : (s : State) → Survives s s (λ _. ⊥)
+survives_itself s = record { clean = omega arith; shield = λ h. h; counts = omega arith; limit = refl; closes = λ clean is_open. inl is_open; crash = λ clean db h. inl h }
+
+module _ {S : Type 0} (g : Ghosts S) {T E : Type 0} where
+  pub stays_itself : (s : Held S) (r : Result T E) → Stays g s s r
+  stays_itself s r = record { crash = survives_itself (state g s); commit = λ clean inside. keeps_itself (state g s); inside = λ clean inside. by r inside }
+    where
+      by : {X : Type 0} (r : Result T E) → X → OnOk r X
+      by (Ok x) h = h
+      by (Err e) h = tt
+
+  pub stays_then : {A F : Type 0} (a b c : Held S) (x : A) (r : Result T E) → Stays g a b {T = A} {E = F} (Ok x) → Stays g b c r → Stays g a c r
+  stays_then a b c x r p q = record {
+    crash = survives_then (state g a) (state g b) (state g c) _ _ (λ _. ⊥) (λ _ db none. none) (λ _ db none. none) p.crash q.crash;
+    commit = λ clean inside. let early : HasCleanDisk (state g b) = omega (arith, q.crash.clean) in keeps_then (state g a) (state g b) (state g c) (p.commit early inside) (q.commit clean (p.inside early inside));
+    inside = λ clean inside. let early : HasCleanDisk (state g b) = omega (arith, q.crash.clean) in q.inside clean (p.inside early inside);
+  }
+
+  -- what happens behind the last call changes nothing
+  pub stays_after : {A F : Type 0} (a b : Held S) (x : A) (r : Result T E) → Stays g a b {T = A} {E = F} (Ok x) → Stays g a b r
+  stays_after a b x r p = stays_then a b b x r p (stays_itself b r)
+
+  pub stays_failed : {A F : Type 0} (a b : Held S) (q : Result A F) (e : E) → Stays g a b q → Stays g a b {T = T} {E = E} (Err e)
+  stays_failed a b q e p = record { crash = p.crash; commit = p.commit; inside = λ clean inside. tt }

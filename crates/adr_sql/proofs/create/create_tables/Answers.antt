@@ -1,0 +1,22 @@
+use Rattle.std.proofs.Common.{map, drop, subst, arith, rules, drop-cons, add-one, suc}
+use Rattle.sqlite.specs.State.{HasCleanDisk}
+use Rattle.sqlite.specs.Held.{state}
+use Rattle.adr_sql.specs.Creations.{IsUnderWay}
+use Rattle.adr_sql.specs.Schemas.{no_schema}
+use Rattle.adr_sql.proofs.Creations.{makes_one}
+use Rattle.adr_sql.proofs.Transactions.{stays_then}
+use Rattle.adr_sql.proofs.create.create_tables.Goals as goal
+
+pub texts-preserved : goal.texts-preserved
+texts-preserved g c = record {
+  same = search rules;
+  stays = stays_then g.S.Store c.args.tx.now.conn.now c.texts.tx.conn.now c.run.new.tx.conn.now _ _ c.texts.invariant.stays c.in_ok-run.ensures.stays;
+  made = λ clean tables makes was.
+      let early : HasCleanDisk (state g.S.Store c.texts.tx.conn.now) = omega (arith, c.run.ensures.stays.crash.clean) in
+      let so_far = c.texts.invariant.made early tables makes was in
+      let ran = c.in_ok-run.ensures.runs clean in
+      let cell = drop-cons c.args.texts.now c.texts.text-index _ c.texts-test.true in
+      let now = state g.S.Store c.texts.tx.conn.now in
+      let next = makes_one no_schema tables _ (map (λ t. t.now) (drop (suc c.texts.text-index) c.args.texts.now)) now (state g.S.Store c.run.new.tx.conn.now) ran.0 (subst (λ l. IsUnderWay no_schema tables (map (λ t. t.now) l) now) cell so_far) ran.1 in
+      rw add-one next;
+}

@@ -1,0 +1,37 @@
+-- What a call leaves of the transaction that it was lent, and what it does to the tables.
+use Rattle.std.specs.Prelude.{◌≡◌, ℕ, List, Result, Ok, IfOk, OnOk, OnErr, false, IsTrue}
+use Rattle.sqlite.specs.Order.{Row}
+use Rattle.sqlite.specs.Schema.{Schema}
+use Rattle.sqlite.specs.Tree.{Trees}
+use Rattle.sqlite.specs.Store.{Ghosts}
+use Rattle.sqlite.specs.Held.{Held, state}
+use Rattle.sqlite.specs.State.{State, HasCleanDisk, KeepsCommit, Survives, Executes, Shown}
+use Rattle.adr_sql.specs.Contents.{Contents, Holds}
+
+module _ {S : Type 0} (g : Ghosts S) (old new : Held S) where
+  -- A call leaves the transaction as it was lent: a crash may leave what it could before, the last commit stays, and after Ok the
+  -- transaction still stands. What it says of values is said where the disk gave back what was written.
+  pub record Stays {T E : Type 0} (result : Result T E) : Type 0 where
+    pub crash : Survives (state g old) (state g new) (λ _. ⊥)
+    pub commit : HasCleanDisk (state g new) → IsTrue (state g old).in_transaction → KeepsCommit (state g old) (state g new)
+    pub inside : HasCleanDisk (state g new) → IsTrue (state g old).in_transaction → OnOk result (IsTrue (state g new).in_transaction)
+
+  -- after Ok, the statement ran with these parameters
+  abbrev pub Runs : {E : Type 0} → List ℕ → Row → Result Unit E → Type 0
+  Runs sql params result = HasCleanDisk (state g new) → OnOk result ((count : ℕ) × Executes sql params (state g old) (state g new) (Ok count))
+
+  -- after Ok, the rows in what was answered are what the query shows with these parameters
+  abbrev pub Answers : {T E : Type 0} → List ℕ → Row → (T → List Row) → Result T E → Type 0
+  Answers sql params rows_in result = HasCleanDisk (state g new) → IfOk result (λ x. Shown sql params (state g old) (state g new) (rows_in x))
+
+  -- after Ok, tables that held something hold what it is changed to
+  abbrev pub Changes : {T E : Type 0} → Schema → (Contents → Contents) → Result T E → Type 0
+  Changes schema change result = HasCleanDisk (state g new) → OnOk result ((all : Contents) → Holds schema all (state g old) → Holds schema (change all) (state g new))
+
+  -- A whole transaction, begun and then committed or dropped. After Ok the change is there and committed; after an error the last
+  -- commit stands; and a crash on the way leaves what it could before or the change whole, never a part of it.
+  pub record Commits {T E : Type 0} (IsDone : State → Type 0) (IsLeft : Trees → Type 0) (result : Result T E) : Type 0 where
+    pub done : HasCleanDisk (state g new) → OnOk result (IsDone (state g new) × ((state g new).committed ≡ (state g new).now))
+    pub undone : HasCleanDisk (state g new) → IsTrue (state g new).is_open → OnErr result (((state g new).now ≡ (state g old).committed) × ((state g new).committed ≡ (state g old).committed))
+    pub over : new.in_transaction ≡ false
+    pub crash : Survives (state g old) (state g new) IsLeft

@@ -1,0 +1,6 @@
+pub mod Keys
+pub mod Contents
+pub mod Schemas
+pub mod Creations
+pub mod Calls
+pub mod Codecs

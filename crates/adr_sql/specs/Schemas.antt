@@ -1,0 +1,40 @@
+-- A schema of STRICT tables.
+use Rattle.std.specs.Prelude.{ℕ, false, true, List, [], map, fold, None}
+use Rattle.sqlite.specs.Collation.TheVariants.{Binary}
+use Rattle.sqlite.specs.declared.types.Value.TheVariants.{Null}
+use Rattle.sqlite.specs.Kind.{Kind}
+use Rattle.sqlite.specs.Table.{Table}
+use Rattle.sqlite.specs.Schema.{Schema}
+use Rattle.sqlite.specs.Change.{created}
+use Rattle.sqlite_value.specs.Keys.{plain}
+use Rattle.sqlite_schema.specs.declared.schema.Column.{Column}
+use Rattle.sqlite_schema.specs.declared.schema.Reference.{Reference}
+
+-- a column that is NOT NULL
+abbrev pub column : List ℕ → Kind → Column
+column name kind = record { name = name; kind = kind; is_strict = true; not_null = true; default = Null; collation = Binary }
+
+-- a table with its columns, its unique keys by their columns' places from 1, the first of which is its primary key, and its references
+abbrev pub table : List ℕ → List Column → List (List ℕ) → List ℕ → List Reference → Table
+table name columns uniques primary references = record {
+  name = name;
+  tree = 0;
+  columns = columns;
+  key = None;
+  primary = primary;
+  uniques = uniques;
+  orders = map (λ _. plain) uniques;
+  checks = [];
+  references = references;
+  computed = [];
+  stamps = record { places = []; terms = []; formats = [] };
+  is_counted = false;
+}
+
+-- the schema of an empty database
+abbrev pub no_schema : Schema
+no_schema = record { tables = []; indexes = []; views = [] }
+
+-- the schema after these tables were made, one after another
+abbrev pub schema_of : List Table → Schema
+schema_of tables = fold created no_schema tables
