@@ -1,12 +1,9 @@
 -- The tables hold the state: the rows of each, read by key, are the corresponding map.
-use Rattle.std.specs.Prelude.{ℕ, ℤ, pos, negsuc, Option, None, Some, take, Bool, true, false, not, ◌&&◌, List, [], ◌∷◌, map, filter}
-use Rattle.std.specs.Ordering.{is_eq}
-use Rattle.std.specs.List.{list_any}
+use Rattle.std.specs.Prelude.{ℕ, ℤ, pos, negsuc, Option, None, Some, take, false, List, [], ◌∷◌, map}
 use Rattle.std.specs.BTreeMap.{insert_entry}
 use Rattle.std.specs.BTreeSet.{insert_key}
 use Rattle.sqlite.specs.State.{State}
 use Rattle.adr_state.specs.declared.base.Mark.{Mark}
-use Rattle.adr_state.specs.declared.base.Mark.TheVariants.{Live, Dead}
 use Rattle.adr_state.specs.declared.keys.MirrorKey.{MirrorKey}
 use Rattle.adr_state.specs.Keys.{mirror_cmp}
 use Rattle.adr_sql.specs.Contents.{Contents, Holds}
@@ -50,19 +47,6 @@ with_polled key kept = record kept { polled = insert_key mirror_cmp kept.polled 
 
 abbrev pub with_none_polled : Kept → Kept
 with_none_polled kept = record kept { polled = [] }
-
--- ---- what a scan has not seen
-
-abbrev pub is_live : Mark → Bool
-is_live (Live moment body) = true
-is_live Dead = false
-
-abbrev pub is_among : MirrorKey → List MirrorKey → Bool
-is_among key = list_any (λ other. is_eq (mirror_cmp key other))
-
--- the live keys that were not polled, in key order
-abbrev pub unseen_keys : Kept → List MirrorKey
-unseen_keys kept = map (λ e. e.0) (filter (λ e. is_live e.1 && not (is_among e.0 kept.polled)) kept.mirror)
 
 -- at most so many, where there is a limit
 abbrev pub at_most : {X : Type 0} → Option ℕ → List X → List X

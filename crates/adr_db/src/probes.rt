@@ -3,7 +3,8 @@ ghost use Rattle.std.specs.Prelude.{◌≡◌, IfErr};
 ghost use Rattle.sqlite_value.specs.Value.{owned};
 ghost use Rattle.sqlite.specs.declared.types.Value.TheVariants.{Int};
 ghost use Rattle.adr_sql.specs.Calls.{Stays};
-ghost use Rattle.adr_db.specs.Kept.{unseen_keys, at_most, limit_number};
+ghost use Rattle.adr_state.specs.Scans.{probes};
+ghost use Rattle.adr_db.specs.Kept.{at_most, limit_number};
 ghost use Rattle.adr_db.specs.Calls.{Finds, IsOfStore};
 
 use crate::cells::keys_in;
@@ -33,7 +34,7 @@ pub fn read_unseen<S: Alter>(
 ) -> Result<Rows<MirrorKey>, Refusal>
     ensures same_reference { tx.new.conn.ghost_name ≡ tx.old.conn.ghost_name }
     ensures stays { Stays S.Store tx.old.conn.now tx.new.conn.now result }
-    ensures finds { Finds S.Store tx.old.conn.now tx.new.conn.now (λ kept keys. keys ≡ at_most limit (unseen_keys kept)) result }
+    ensures finds { Finds S.Store tx.old.conn.now tx.new.conn.now (λ kept keys. keys ≡ at_most limit (probes kept.mirror kept.polled)) result }
     ensures refused { IfErr result IsOfStore }
 {
     let rows = rows_of(

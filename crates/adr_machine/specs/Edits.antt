@@ -1,30 +1,32 @@
 -- What each command makes of the base, or the first refusal whose condition holds. The answer is none where it is the number of changes.
-use Rattle.std.specs.Prelude.{ℕ, ◌+◌, ◌==◌, nat_le, nat_lt, Bool, not, ◌&&◌, List, length, Option, None, Some, is_none, option_and_then, Result, Ok, Err, if◌then◌else◌}
+use Rattle.std.specs.Prelude.{ℕ, ◌+◌, ◌==◌, nat_le, nat_lt, Bool, true, false, not, ◌&&◌, List, [], length, Option, None, Some, is_none, option_and_then, Result, Ok, Err, if◌then◌else◌}
 use Rattle.std.specs.List.{list_any}
 use Rattle.std.specs.Map.{remove_entry}
 use Rattle.std.specs.BTreeMap.{is_at, insert_entry}
 use Rattle.std.specs.Ordering.{nat_cmp}
 use Rattle.std.specs.Str.{bytes_eq}
 use Rattle.adr_text.specs.declared.refusal.Refusal.{Refusal}
-use Rattle.adr_text.specs.declared.refusal.Refusal.TheVariants.{Exhausted, NotFound, Conflict, Forbidden, BadShare, LimitReached}
+use Rattle.adr_text.specs.declared.refusal.Refusal.TheVariants.{Exhausted, NotFound, Conflict, Forbidden, BadShare, LimitReached, NoScan}
 use Rattle.adr_schema.specs.declared.body.Found.{Found}
 use Rattle.adr_schema.specs.declared.shown.Stamps.{Stamps}
 use Rattle.adr_state.specs.declared.base.Base.{Base}
 use Rattle.adr_state.specs.declared.base.Ven.{Ven}
 use Rattle.adr_state.specs.declared.base.Resource.{Resource}
 use Rattle.adr_state.specs.declared.base.Mark.{Mark}
+use Rattle.adr_state.specs.declared.base.Mark.TheVariants.{Dead}
 use Rattle.adr_state.specs.declared.keys.MirrorKey.{MirrorKey}
 use Rattle.adr_state.specs.declared.keys.ShareKey.{ShareKey}
 use Rattle.adr_state.specs.declared.limits.Limits.{Limits}
 use Rattle.adr_machine.specs.declared.role.Role.{Role}
 use Rattle.adr_machine.specs.declared.command.Command.{Command}
-use Rattle.adr_machine.specs.declared.command.Command.TheVariants.{Evidence, VenAdd, ResourceAdd, ShareSet}
+use Rattle.adr_machine.specs.declared.command.Command.TheVariants.{Evidence, Gone, ScanBegin, ScanEnd, VenAdd, ResourceAdd, ShareSet}
 use Rattle.adr_machine.specs.declared.answer.Object.TheVariants as object
 use Rattle.adr_machine.specs.declared.answer.Answer.{Answer}
 use Rattle.adr_machine.specs.declared.answer.Answer.TheVariants as answer
 use Rattle.adr_machine.specs.Digits.{number_of}
 use Rattle.adr_state.specs.Keys.{share_cmp, at}
-use Rattle.adr_state.specs.Mirror.{evidence_of, joined}
+use Rattle.adr_state.specs.Mirror.{evidence_of, raised, joined}
+use Rattle.adr_state.specs.Scans.{polled_with, probes}
 use Rattle.adr_machine.specs.Roles.{is_operator}
 use Rattle.adr_state.specs.Weights.{most_weight}
 
@@ -41,9 +43,28 @@ adds_beyond limit old new = nat_lt (length old) (length new) && nat_lt limit (le
 abbrev pub mirror_set : Limits → Base → List (MirrorKey × Mark) → Result (Option Answer × Base) Refusal
 mirror_set limits base mirror = if adds_beyond limits.keys base.mirror mirror then Err LimitReached else Ok (None, record base { mirror = mirror })
 
+-- polled keys join the set of an open scan
+abbrev pub scan_after : Base → List Found → Bool → Option (List MirrorKey)
+scan_after base founds true = polled_with base.scan founds
+scan_after base founds false = base.scan
+
 -- the mirror is joined with what was found
-abbrev pub evidence : Limits → Base → List Found → Result (Option Answer × Base) Refusal
-evidence limits base founds = mirror_set limits base (joined base.mirror (evidence_of founds))
+abbrev pub evidence : Limits → Base → List Found → Bool → Result (Option Answer × Base) Refusal
+evidence limits base founds polled = mirror_set limits (record base { scan = scan_after base founds polled }) (joined base.mirror (evidence_of founds))
+
+-- the mirror is joined with a deletion
+abbrev pub gone : Limits → Base → MirrorKey → Result (Option Answer × Base) Refusal
+gone limits base key = mirror_set limits base (raised base.mirror (key, Dead))
+
+-- ---- scans
+
+abbrev pub scan_begin : Base → Result (Option Answer × Base) Refusal
+scan_begin base = Ok (Some answer.Done, record base { scan = Some [] })
+
+-- the scan is closed, and the live keys that were not polled are answered
+abbrev pub scan_end : Base → Option (List MirrorKey) → Result (Option Answer × Base) Refusal
+scan_end base None = Err NoScan
+scan_end base (Some polled) = Ok (Some (answer.Probes (probes base.mirror polled)), record base { scan = None })
 
 -- ---- vens
 
@@ -56,13 +77,15 @@ enrolling now base name = Ok (
   record base { vens = insert_entry nat_cmp base.vens (base.serial + 1) (record { name = name; stamps = fresh now }); serial = base.serial + 1 },
 )
 
-abbrev pub ven_add : Limits → ℕ → Base → Role → List ℕ → Result (Option Answer × Base) Refusal
-ven_add limits now base role name =
-    if not (is_operator role) then Err Forbidden
-    else (if has_ven name base.vens then Err Conflict
+abbrev pub enrolled_by : Limits → ℕ → Base → List ℕ → Result (Option Answer × Base) Refusal
+enrolled_by limits now base name =
+    if has_ven name base.vens then Err Conflict
     else (if nat_le limits.vens (length base.vens) then Err LimitReached
     else (if nat_le limits.serial base.serial then Err Exhausted
-    else enrolling now base name)))
+    else enrolling now base name))
+
+abbrev pub ven_add : Limits → ℕ → Base → Role → List ℕ → Result (Option Answer × Base) Refusal
+ven_add limits now base role name = if not (is_operator role) then Err Forbidden else enrolled_by limits now base name
 
 -- ---- resources
 
@@ -120,7 +143,10 @@ share_set limits base role program resource weight = if not (is_operator role) t
 -- ---- each command
 
 unfoldable pub edit : Limits → ℕ → Base → Command → Result (Option Answer × Base) Refusal
-edit limits now base (Evidence founds polled) = evidence limits base founds
+edit limits now base (Evidence founds polled) = evidence limits base founds polled
+edit limits now base (Gone kind id) = gone limits base (record { kind = kind; id = id })
+edit limits now base ScanBegin = scan_begin base
+edit limits now base ScanEnd = scan_end base base.scan
 edit limits now base (VenAdd role ven) = ven_add limits now base role ven.name
 edit limits now base (ResourceAdd role ven resource) = resource_add limits now base role ven resource.name
 edit limits now base (ShareSet role program resource share) = share_set limits base role program resource share.share

@@ -3,3 +3,4 @@ pub mod Roles
 pub mod Edits
 pub mod Steps
 pub mod Runs
+pub mod Laws

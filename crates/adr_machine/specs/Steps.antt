@@ -1,15 +1,16 @@
 -- One step of the machine, and its replies to queries.
-use Rattle.std.specs.Prelude.{◌≡◌, ℕ, Bool, true, List, [], length, filter, take, drop, Option, None, Some, option_map, Result, Ok, Err}
+use Rattle.std.specs.Prelude.{◌≡◌, ℕ, Bool, true, List, [], length, filter, take, drop, Option, None, Some, option_map, option_and_then, Result, Ok, Err}
 use Rattle.std.specs.List.{filter_map}
 use Rattle.std.specs.Ordering.{nat_cmp}
 use Rattle.std.specs.Option.{option_map_or}
 use Rattle.std.specs.Prelude.{◌==◌, false}
 use Rattle.adr_text.specs.Refusals.{◌>>=◌}
 use Rattle.adr_text.specs.declared.refusal.Refusal.{Refusal}
-use Rattle.adr_text.specs.declared.refusal.Refusal.TheVariants.{OutOfMemory, Store}
+use Rattle.adr_text.specs.declared.refusal.Refusal.TheVariants.{OutOfMemory, Store, NoScan}
 use Rattle.adr_schema.specs.declared.shown.Stamps.{Stamps}
 use Rattle.adr_state.specs.declared.base.Base.{Base}
 use Rattle.adr_state.specs.declared.state.State.{State}
+use Rattle.adr_state.specs.declared.keys.MirrorKey.{MirrorKey}
 use Rattle.adr_state.specs.declared.keys.ViewKey.{ViewKey}
 use Rattle.adr_state.specs.declared.keys.ViewKey.TheVariants as key
 use Rattle.adr_state.specs.declared.view.Content.{Content}
@@ -20,12 +21,13 @@ use Rattle.adr_machine.specs.declared.sight.Sight.TheVariants.{All, Of}
 use Rattle.adr_machine.specs.declared.command.Command.{Command}
 use Rattle.adr_machine.specs.declared.query.Page.{Page}
 use Rattle.adr_machine.specs.declared.query.Query.{Query}
-use Rattle.adr_machine.specs.declared.query.Query.TheVariants.{Events}
+use Rattle.adr_machine.specs.declared.query.Query.TheVariants.{Events, Probes}
 use Rattle.adr_machine.specs.declared.answer.Object.{Object}
 use Rattle.adr_machine.specs.declared.answer.Object.TheVariants as object
 use Rattle.adr_machine.specs.declared.answer.Answer.{Answer}
 use Rattle.adr_machine.specs.declared.answer.Answer.TheVariants as answer
 use Rattle.adr_state.specs.Keys.{view_cmp, at}
+use Rattle.adr_state.specs.Scans.{probes}
 use Rattle.adr_state.specs.Views.{view}
 use Rattle.adr_state.specs.Changes.{changes, restamped}
 use Rattle.adr_machine.specs.Edits.{edit}
@@ -55,29 +57,37 @@ step settings s now command = edit settings.limits now s.base command >>= λ e. 
 abbrev pub owner_of : Base → ℕ → Option ℕ
 owner_of base resource = option_map (λ r. r.ven) (at nat_cmp resource base.resources)
 
--- whether what stands at a key is in sight
+-- whether what stands at a key is in sight: every ven sees the programs
 abbrev pub sees : Base → Sight → ViewKey → Bool
 sees base All key = true
+sees base (Of ven) (key.Program id) = true
 sees base (Of ven) (key.Event event resource) = option_map_or (λ owner. owner == ven) (owner_of base resource) false
 
--- what is shown at a key, with its stamps
-abbrev pub object_of : ViewKey → Content → Stamps → Object
-object_of (key.Event event resource) (content.Event shown) stamps = object.Event (record { resource = resource; event = event; shown = shown; stamps = stamps })
+-- the event that is shown at a key, with its stamps
+abbrev pub event_of : ViewKey → Content → Stamps → Option Object
+event_of (key.Event event resource) (content.Event shown) stamps = Some (object.Event (record { resource = resource; event = event; shown = shown; stamps = stamps }))
+event_of _ _ stamps = None
 
-abbrev pub object_at : List (ViewKey × Stamps) → ViewKey × Content → Option Object
-object_at stamps r = option_map (object_of r.0 r.1) (at view_cmp r.0 stamps)
+abbrev pub event_at : List (ViewKey × Stamps) → ViewKey × Content → Option Object
+event_at stamps r = option_and_then (event_of r.0 r.1) (at view_cmp r.0 stamps)
 
--- what is in sight, in the order of the keys, each with its stamps
-abbrev pub objects_in_sight : State → Sight → List Object
-objects_in_sight s sight = filter_map (object_at s.stamps) (filter (λ r. sees s.base sight r.0) (view s.base))
+-- the events in sight, in the order of the keys, each with its stamps
+abbrev pub events_in_sight : State → Sight → List Object
+events_in_sight s sight = filter_map (event_at s.stamps) (filter (λ r. sees s.base sight r.0) (view s.base))
 
 -- after the first ones, at most so many
 abbrev pub page_of : Page → List Object → List Object
 page_of page objects = take page.limit (drop page.skip objects)
 
+-- the first live keys that an open scan missed
+abbrev pub probes_reply : ℕ → Base → Option (List MirrorKey) → Result Answer Refusal
+probes_reply limit base None = Err NoScan
+probes_reply limit base (Some polled) = Ok (answer.Probes (take limit (probes base.mirror polled)))
+
 -- the reply to a query
 unfoldable pub reply : State → Query → Result Answer Refusal
-reply s (Events role page) = sight_of s.base role >>= λ sight. Ok (answer.List (page_of page (objects_in_sight s sight)))
+reply s (Events role page) = sight_of s.base role >>= λ sight. Ok (answer.List (page_of page (events_in_sight s sight)))
+reply s (Probes limit) = probes_reply limit s.base s.base.scan
 
 -- the answer to who asks for the whole state
 abbrev pub image_of : State → Result State Refusal

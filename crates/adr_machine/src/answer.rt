@@ -1,5 +1,6 @@
 //! What the machine answers.
 use adr_schema::{EventObject, ResourceObject, ShareObject, VenObject};
+use adr_state::MirrorKey;
 use adr_text::Rows;
 
 /// An object as it is shown.
@@ -13,8 +14,11 @@ pub enum Object {
 /// An answer to a command or a query.
 #[derive(Drop)]
 pub enum Answer {
+    Done,
     /// How many keys of the view changed.
     Changes(u64),
+    /// The live keys that a scan missed.
+    Probes(Rows<MirrorKey>),
     Object(Object),
     List(Rows<Object>),
     Share(ShareObject),

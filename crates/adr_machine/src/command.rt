@@ -1,6 +1,6 @@
 //! What the machine is told to do.
 use crate::role::Role;
-use adr_schema::{Found, ResourceIn, ShareIn, VenIn};
+use adr_schema::{Found, Kind, ResourceIn, ShareIn, VenIn};
 use adr_text::{ObjectId, Rows};
 
 /// A command. Each is one step, at a moment.
@@ -12,6 +12,15 @@ pub enum Command {
         found: Rows<Found>,
         polled: bool,
     },
+    /// An upstream object was deleted. Refused where keys would pass their limit.
+    Gone {
+        kind: Kind,
+        id: ObjectId,
+    },
+    /// Opens a scan: from now on the keys that are polled are noted. An open one is replaced.
+    ScanBegin,
+    /// Closes the scan, and answers the live keys that were not polled. Refused where no scan is open.
+    ScanEnd,
     /// Enrols a ven. Refused for another role than the operator, for a name that a ven has, at the
     /// limit of vens, and where the serial is used up.
     VenAdd {

@@ -1,8 +1,8 @@
 //! What each command makes of the base. After a refusal the base is left anyhow.
-ghost use Rattle.std.specs.Prelude.{◌≡◌, ◌≢◌, Ok, Err, Some, ◌≤◌, IfOk, IfErr};
+ghost use Rattle.std.specs.Prelude.{◌≡◌, ◌≢◌, Ok, Err, Some, ◌≤◌, IfOk, IfErr, OnOk};
 ghost use Rattle.adr_text.specs.declared.refusal.Refusal.TheVariants.{Store};
 ghost use Rattle.adr_state.specs.Weights.{most_weight};
-ghost use Rattle.adr_machine.specs.Edits.{evidence, fresh, has_ven, ven_add, has_resource, ven_at, resource_of_ven, resource_add, resource_at, share_put, share_of_resource, share_set, edit};
+ghost use Rattle.adr_machine.specs.Edits.{scan_after, evidence, gone, scan_begin, scan_end, fresh, has_ven, ven_add, has_resource, ven_at, resource_of_ven, resource_add, resource_at, share_put, share_of_resource, share_set, edit};
 ghost use Rattle.adr_machine.specs.Steps.{IsRefusalOf};
 
 use crate::answer::{Answer, Object};
@@ -10,10 +10,15 @@ use crate::command::Command;
 use crate::digits::number_of;
 use crate::role::Role;
 use crate::sight::is_operator;
-use adr_schema::{Found, Number, ResourceName, ResourceObject, ShareObject, Stamps, VenObject};
-use adr_state::{Base, Limits, Resource, Resources, ShareKey, Ven, Weight, join};
+use adr_schema::{
+    Found, Kind, Number, ResourceName, ResourceObject, ShareObject, Stamps, VenObject,
+};
+use adr_state::{
+    Base, Limits, Mark, MirrorKey, Polled, Resource, Resources, ShareKey, Ven, Weight, join, poll,
+    probes, raise,
+};
 use adr_text::{Moment, Name, ObjectId, Refusal, Table};
-use std::alloc::Global;
+use std::alloc::{AllocError, Global};
 
 /// What the command makes of the base: the answer, or none where it is the number of changes.
 #[tactic(auto, unfolding(crate::specs::Edits::edit))]
@@ -30,9 +35,12 @@ pub(crate) fn edited(
 {
     // Each arm ends in the call that carries its clauses, so each has goals of its own.
     match command {
-        Command::Evidence { found, polled: _ } => {
-            with_evidence(alloc, limits, base, found.as_slice())
+        Command::Evidence { found, polled } => {
+            with_evidence(alloc, limits, base, found.as_slice(), *polled)
         }
+        Command::Gone { kind, id } => with_gone(alloc, limits, base, *kind, id),
+        Command::ScanBegin => Ok(with_scan_begun(alloc, base)),
+        Command::ScanEnd => with_scan_ended(alloc, base),
         Command::VenAdd { role, ven } => with_ven(limits, now, base, role, &ven.name),
         Command::ResourceAdd {
             role,
@@ -48,17 +56,29 @@ pub(crate) fn edited(
     }
 }
 
+/// Polled keys join the set of an open scan.
+fn note_polled(base: &mut Base, founds: &[Found], polled: bool) -> Result<(), AllocError>
+    ensures { OnOk result (base.new ≡ record base.old { scan = scan_after base.old founds.now polled }) }
+{
+    if polled {
+        poll(&mut base.scan, founds)?;
+    }
+    Ok(())
+}
+
 /// The base after evidence.
 fn with_evidence(
     alloc: Global,
     limits: &Limits,
     base: &mut Base,
     founds: &[Found],
+    polled: bool,
 ) -> Result<Option<Answer>, Refusal>
-    ensures ok { IfOk result (λ answer. evidence limits.now base.old founds.now ≡ Ok (answer, base.new)) }
-    ensures refused { IfErr result (λ refusal. IsRefusalOf refusal (evidence limits.now base.old founds.now)) }
+    ensures ok { IfOk result (λ answer. evidence limits.now base.old founds.now polled ≡ Ok (answer, base.new)) }
+    ensures refused { IfErr result (λ refusal. IsRefusalOf refusal (evidence limits.now base.old founds.now polled)) }
     ensures no_store { result ≢ Err Store }
 {
+    note_polled(base, founds, polled)?;
     let before = base.mirror.len();
     join(alloc, &mut base.mirror, founds)?;
     let after = base.mirror.len();
@@ -66,6 +86,50 @@ fn with_evidence(
         return Err(Refusal::LimitReached);
     }
     Ok(None)
+}
+
+/// The base after a deletion.
+fn with_gone(
+    alloc: Global,
+    limits: &Limits,
+    base: &mut Base,
+    kind: Kind,
+    id: &ObjectId,
+) -> Result<Option<Answer>, Refusal>
+    ensures ok { IfOk result (λ answer. gone limits.now base.old (record { kind = kind; id = id.now }) ≡ Ok (answer, base.new)) }
+    ensures refused { IfErr result (λ refusal. IsRefusalOf refusal (gone limits.now base.old (record { kind = kind; id = id.now }))) }
+    ensures no_store { result ≢ Err Store }
+{
+    let id = id.clone()?;
+    let before = base.mirror.len();
+    raise(alloc, &mut base.mirror, MirrorKey { kind, id }, Mark::Dead)?;
+    let after = base.mirror.len();
+    if before < after && limits.keys.get() < after as u64 {
+        return Err(Refusal::LimitReached);
+    }
+    Ok(None)
+}
+
+/// Opens a scan.
+fn with_scan_begun(alloc: Global, base: &mut Base) -> Option<Answer>
+    ensures { scan_begin base.old ≡ Ok (result, base.new) }
+{
+    base.scan = Some(Polled::new(alloc));
+    Some(Answer::Done)
+}
+
+/// Closes the scan, and answers the live keys that it missed.
+fn with_scan_ended(alloc: Global, base: &mut Base) -> Result<Option<Answer>, Refusal>
+    ensures ok { IfOk result (λ answer. scan_end base.old base.old.scan ≡ Ok (answer, base.new)) }
+    ensures refused { IfErr result (λ refusal. IsRefusalOf refusal (scan_end base.old base.old.scan)) }
+    ensures no_store { result ≢ Err Store }
+{
+    let Some(polled) = &base.scan else {
+        return Err(Refusal::NoScan);
+    };
+    let missed = probes(alloc, &base.mirror, polled)?;
+    base.scan = None;
+    Ok(Some(Answer::Probes(missed)))
 }
 
 fn fresh(now: Moment) -> Stamps

@@ -13,4 +13,6 @@ pub struct Page {
 pub enum Query {
     /// The events that the role sees, by upstream id and then by resource.
     Events { role: Role, page: Page },
+    /// The first keys that the end of the scan would answer. Refused where no scan is open.
+    Probes { limit: u32 },
 }

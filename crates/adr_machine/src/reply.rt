@@ -2,52 +2,58 @@
 ghost use Rattle.std.specs.Prelude.{◌≡◌, ◌≢◌, Ok, Err, IfOk, IfErr};
 ghost use Rattle.adr_text.specs.declared.refusal.Refusal.TheVariants.{Store};
 ghost use Rattle.std.specs.Option.{option_copied};
-ghost use Rattle.adr_machine.specs.Steps.{object_of, object_at, objects_in_sight, page_of, reply, IsRefusalOf};
+ghost use Rattle.adr_machine.specs.Steps.{event_of, event_at, events_in_sight, page_of, probes_reply, reply, IsRefusalOf};
+ghost use Rattle.adr_machine.specs.declared.query.Query.TheVariants.{Events};
 
 use crate::answer::{Answer, Object};
 use crate::query::{Page, Query};
+use crate::role::Role;
 use crate::sight::{Sight, sees, sight_of};
 use adr_schema::{EventObject, Stamps};
-use adr_state::{Content, State, ViewKey, push_some, row_at, view_of};
+use adr_state::{Base, Content, State, ViewKey, probes, push_some, row_at, view_of};
 use adr_text::{Refusal, Rows, Table};
 use std::alloc::{AllocError, Global};
 
-fn object_of(key: &ViewKey, content: &Content, stamps: Stamps) -> Result<Object, AllocError>
-    ensures { IfOk result (λ object. object ≡ object_of key.now content.now stamps) }
+/// The event that is shown at a key, if there is one.
+fn event_of(key: &ViewKey, content: &Content, stamps: Stamps) -> Result<Option<Object>, AllocError>
+    ensures { IfOk result (λ object. object ≡ event_of key.now content.now stamps) }
 {
-    let ViewKey::Event(event, resource) = key;
-    let Content::Event(shown) = content;
-    Ok(Object::Event(EventObject {
-        resource: *resource,
-        event: event.clone()?,
-        shown: shown.clone()?,
-        stamps,
-    }))
+    match (key, content) {
+        (ViewKey::Event(event, resource), Content::Event(shown)) => {
+            Ok(Some(Object::Event(EventObject {
+                resource: *resource,
+                event: event.clone()?,
+                shown: shown.clone()?,
+                stamps,
+            })))
+        }
+        _ => Ok(None),
+    }
 }
 
-/// What is shown at a key with its stamps, if it has some.
-fn object_at(
+/// The event at a key with its stamps, if it has some.
+fn event_at(
     stamps: &Table<ViewKey, Stamps>,
     key: &ViewKey,
     content: &Content,
 ) -> Result<Option<Object>, AllocError>
-    ensures { IfOk result (λ object. object ≡ object_at stamps.now (key.now, content.now)) }
+    ensures { IfOk result (λ object. object ≡ event_at stamps.now (key.now, content.now)) }
 {
     match row_at(stamps, key) {
-        Some(stamps) => Ok(Some(object_of(key, content, *stamps)?)),
+        Some(stamps) => event_of(key, content, *stamps),
         None => Ok(None),
     }
 }
 
-/// What is in sight, in the order of the keys.
-fn objects_in_sight(alloc: Global, state: &State, sight: Sight) -> Result<Vec<Object>, AllocError>
-    ensures { IfOk result (λ all. all.items ≡ objects_in_sight state.now sight) }
+/// The events in sight, in the order of the keys.
+fn events_in_sight(alloc: Global, state: &State, sight: Sight) -> Result<Vec<Object>, AllocError>
+    ensures { IfOk result (λ all. all.items ≡ events_in_sight state.now sight) }
 {
     let view = view_of(alloc, &state.base)?;
     let mut all = Vec::new(alloc);
     for (key, content) in view.iter() {
         if sees(&state.base, sight, key) {
-            push_some(&mut all, object_at(&state.stamps, key, content)?)?;
+            push_some(&mut all, event_at(&state.stamps, key, content)?)?;
         }
     }
     Ok(all)
@@ -64,6 +70,32 @@ fn page_of(alloc: Global, page: Page, objects: Vec<Object>) -> Result<Vec<Object
         .collect(alloc)
 }
 
+/// The events that a role sees, or `Forbidden`.
+#[tactic(auto, unfolding(crate::specs::Steps::reply))]
+fn events_of(alloc: Global, state: &State, role: &Role, page: Page) -> Result<Answer, Refusal>
+    ensures ok { IfOk result (λ answer. reply state.now (Events role.now page) ≡ Ok answer) }
+    ensures refused { IfErr result (λ refusal. IsRefusalOf refusal (reply state.now (Events role.now page))) }
+    ensures no_store { result ≢ Err Store }
+{
+    let sight = sight_of(&state.base, role)?;
+    let objects = events_in_sight(alloc, state, sight)?;
+    Ok(Answer::List(Rows::from_vec(page_of(alloc, page, objects)?)))
+}
+
+/// The first live keys that an open scan missed, or `NoScan`.
+fn probes_of(alloc: Global, base: &Base, limit: u32) -> Result<Answer, Refusal>
+    ensures ok { IfOk result (λ answer. probes_reply limit base.now base.now.scan ≡ Ok answer) }
+    ensures refused { IfErr result (λ refusal. IsRefusalOf refusal (probes_reply limit base.now base.now.scan)) }
+    ensures no_store { result ≢ Err Store }
+{
+    let Some(polled) = &base.scan else {
+        return Err(Refusal::NoScan);
+    };
+    let mut missed = probes(alloc, &base.mirror, polled)?.into_vec();
+    missed.truncate(limit as usize);
+    Ok(Answer::Probes(Rows::from_vec(missed)))
+}
+
 /// The reply to a query.
 #[tactic(auto, unfolding(crate::specs::Steps::reply))]
 pub(crate) fn reply(alloc: Global, state: &State, query: &Query) -> Result<Answer, Refusal>
@@ -71,8 +103,8 @@ pub(crate) fn reply(alloc: Global, state: &State, query: &Query) -> Result<Answe
     ensures refused { IfErr result (λ refusal. IsRefusalOf refusal (reply state.now query.now)) }
     ensures no_store { result ≢ Err Store }
 {
-    let Query::Events { role, page } = query;
-    let sight = sight_of(&state.base, role)?;
-    let objects = objects_in_sight(alloc, state, sight)?;
-    Ok(Answer::List(Rows::from_vec(page_of(alloc, *page, objects)?)))
+    match query {
+        Query::Events { role, page } => events_of(alloc, state, role, *page),
+        Query::Probes { limit } => probes_of(alloc, &state.base, *limit),
+    }
 }

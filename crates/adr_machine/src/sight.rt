@@ -59,7 +59,9 @@ pub(crate) fn sees(base: &Base, sight: Sight, key: &ViewKey) -> bool
     let Sight::Of(ven) = sight else {
         return true;
     };
-    let ViewKey::Event(_, resource) = key;
+    let ViewKey::Event(_, resource) = key else {
+        return true;
+    };
     match base.resources.get(*resource) {
         Some(resource) => resource.ven == ven,
         None => false,

@@ -1,15 +1,12 @@
 //! The program's arguments.
-ghost use Rattle.std.specs.Prelude.{◌≡◌, ◌<◌, ◌==◌, length, map, IfSome, string_bytes};
-ghost use Rattle.std.specs.List.{position};
+ghost use Rattle.std.specs.Prelude.{◌≡◌, map, string_bytes};
 ghost use Rattle.adr_node.specs.Arguments.{number_at, limit_set, limits_after, limits_of};
 
-use adr_machine::number_within;
+use adr_machine::{MOST_NUMBER, number_within};
 use adr_state::Limits;
 
-/// The largest number that any limit may have.
-const MOST_NUMBER: u64 = 9_000_000_000_000_000;
-
-/// The number that 1 to 16 digits write.
+/// The number that 1 to 16 digits write, where it is one that a limit may have: the largest is that of
+/// the serial.
 fn number_at(digits: &[u8]) -> Option<u64>
     ensures { result ≡ number_at digits.now }
 {
@@ -20,7 +17,7 @@ fn number_at(digits: &[u8]) -> Option<u64>
 }
 
 /// The limits with that of one argument, `NAME=NUMBER`, set.
-#[tactic(auto, unfolding(crate::specs::Arguments::limit_set))]
+#[tactic(auto, unfolding(crate::specs::Arguments::limit_set, adr_script::specs::Cuts::cut))]
 fn limit_set(mut limits: Limits, argument: &str) -> Option<Limits>
     ensures { result ≡ limit_set limits argument.now }
 {

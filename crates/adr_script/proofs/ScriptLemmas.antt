@@ -1,5 +1,5 @@
 -- Runs of scripts, one after another.
-use Rattle.std.proofs.Common.{◌≡◌, ℕ, ◌+◌, ◌≤◌, Bool, true, false, cond, List, [], ◌∷◌, ◌++◌, length, take, drop, Option, append_assoc, append-nil, length-append, refl, sym, ap, ◌∙◌, subst, true≢false, Result, Ok, Err, OnOk, OnErr, arith}
+use Rattle.std.proofs.Common.{◌≡◌, ℕ, ◌+◌, Bool, true, false, cond, List, [], ◌∷◌, ◌++◌, length, take, Option, append_assoc, append-nil, length-append, refl, sym, ap, ◌∙◌, subst, true≢false, Result, Ok, Err, OnOk, OnErr, arith}
 use Rattle.std.proofs.Math.Seq.{take-append-add, take-length}
 use Rattle.std.proofs.Math.Dec.{eqb-suc-zero}
 use Rattle.std.proofs.lemmas.List.{take-append-le}
@@ -9,8 +9,8 @@ use Rattle.std.proofs.KnownBytes.{Appends-trans, Appends-nil}
 use Rattle.adr_state.specs.declared.state.State.{State}
 use Rattle.adr_state.specs.declared.limits.Settings.{Settings}
 use Rattle.adr_script.specs.Turns.{IsTurn}
-use Rattle.adr_script.specs.Lines.{ended, unended, last_line, lines_of}
-use Rattle.adr_script.specs.Scripts.{Prints, InTurn, PrintAll, Runs, Stops}
+use Rattle.adr_script.specs.Lines.{ended, unended}
+use Rattle.adr_script.specs.Scripts.{Prints, PrintAll, Runs, Stops}
 
 -- ---- lines
 

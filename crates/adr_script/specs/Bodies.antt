@@ -1,10 +1,13 @@
 -- What is printed: the texts of answers, and of refusals.
-use Rattle.std.specs.Prelude.{ℕ, List, [], ◌∷◌, ◌++◌, codes, Result, Ok, Err}
+use Rattle.std.specs.Prelude.{ℕ, List, [], ◌∷◌, ◌++◌, codes, Option, Some, None, Result, Ok, Err}
 use Rattle.std.specs.List.{flat_map}
 use Rattle.std.specs.Fmt.{decimal}
 use Rattle.adr_text.specs.Refusals.{number_of, title_of, status_of}
 use Rattle.adr_text.specs.declared.refusal.Refusal.{Refusal}
 use Rattle.adr_schema.specs.Objects.{event_text, ven_text, resource_text, share_text, problem_text}
+use Rattle.adr_schema.specs.declared.kind.Kind.{Kind}
+use Rattle.adr_schema.specs.declared.kind.Kind.TheVariants as kind
+use Rattle.adr_state.specs.declared.keys.MirrorKey.{MirrorKey}
 use Rattle.adr_machine.specs.declared.answer.Object.{Object}
 use Rattle.adr_machine.specs.declared.answer.Object.TheVariants.{Event, Ven, Resource}
 use Rattle.adr_machine.specs.declared.answer.Answer.{Answer}
@@ -12,7 +15,7 @@ use Rattle.adr_machine.specs.declared.answer.Answer.TheVariants as answer
 use Rattle.adr_script.specs.declared.asked.Asked.{Asked}
 use Rattle.adr_script.specs.declared.asked.Asked.TheVariants as asked
 use Rattle.adr_machine.specs.declared.command.Command.{Command}
-use Rattle.adr_machine.specs.declared.command.Command.TheVariants.{Evidence, VenAdd, ResourceAdd, ShareSet}
+use Rattle.adr_machine.specs.declared.command.Command.TheVariants.{VenAdd, ResourceAdd}
 
 -- an object
 abbrev pub object_text : Object → List ℕ
@@ -29,8 +32,10 @@ abbrev pub list_text : List Object → List ℕ
 list_text [] = codes "[]"
 list_text (o ∷ objects) = 91 ∷ object_text o ++ behind_commas objects ++ 93 ∷ []
 
--- the body of an answer; a count of changes is told to nobody
+-- the body of an answer; a count of changes is told to nobody, nor is what a scan missed
 unfoldable pub answer_text : Answer → List ℕ
+answer_text answer.Done = codes "{}"
+answer_text (answer.Probes keys) = codes "{}"
 answer_text (answer.Changes n) = codes "{}"
 answer_text (answer.Object o) = object_text o
 answer_text (answer.List objects) = list_text objects
@@ -38,14 +43,14 @@ answer_text (answer.Share s) = share_text s
 
 -- 201 where an object was posted, else 200
 abbrev pub command_status : Command → ℕ
-command_status (Evidence found polled) = 200
 command_status (VenAdd role ven) = 201
 command_status (ResourceAdd role ven resource) = 201
-command_status (ShareSet role program resource share) = 200
+command_status _ = 200
 
 abbrev pub status_for : Asked → ℕ
 status_for (asked.Command c) = command_status c
 status_for (asked.Query q) = 200
+status_for asked.Nothing = 200
 
 -- `STATUS BODY`
 abbrev pub reply_line : ℕ → List ℕ → List ℕ
@@ -69,19 +74,41 @@ refused_by number title = codes "refused " ++ decimal number ++ 32 ∷ title ++ 
 unfoldable pub refused_line : Refusal → List ℕ
 refused_line r = refused_by (number_of r) (title_of r)
 
--- how many changes an answer tells
-abbrev pub changes_in : Answer → ℕ
-changes_in (answer.Changes n) = n
-changes_in (answer.Object o) = 0
-changes_in (answer.List objects) = 0
-changes_in (answer.Share s) = 0
+-- `changes N`
+unfoldable pub count_line : ℕ → List ℕ
+count_line changes = codes "changes " ++ decimal changes ++ 10 ∷ []
+
+unfoldable pub done_line : List ℕ
+done_line = codes "done" ++ 10 ∷ []
+
+abbrev pub kind_word : Kind → List ℕ
+kind_word kind.Program = codes "programs"
+kind_word kind.Event = codes "events"
+
+-- ` programs/ID` or ` events/ID`
+abbrev pub key_text : MirrorKey → List ℕ
+key_text key = 32 ∷ kind_word key.kind ++ 47 ∷ key.id
+
+abbrev pub keys_text : List MirrorKey → List ℕ
+keys_text keys = flat_map key_text keys
+
+-- `probes`, and each key
+unfoldable pub probes_line : List MirrorKey → List ℕ
+probes_line keys = codes "probes" ++ keys_text keys ++ 10 ∷ []
 
 -- what a request prints
 abbrev pub request_text : ℕ → Result Answer Refusal → List ℕ
 request_text status (Ok answer) = reply_line status (answer_text answer)
 request_text status (Err refusal) = problem_line refusal
 
--- what a page prints
-abbrev pub page_text : ℕ → Result Answer Refusal → List ℕ
-page_text skipped (Ok answer) = changes_line (changes_in answer) skipped
-page_text skipped (Err refusal) = refused_line refusal
+-- what an answer to a step of the node prints; of a page also how many elements were skipped
+abbrev pub step_line : Option ℕ → Answer → List ℕ
+step_line (Some skipped) (answer.Changes n) = changes_line n skipped
+step_line None (answer.Changes n) = count_line n
+step_line skipped (answer.Probes keys) = probes_line keys
+step_line skipped _ = done_line
+
+-- what a step of the node prints
+abbrev pub step_text : Option ℕ → Result Answer Refusal → List ℕ
+step_text skipped (Ok answer) = step_line skipped answer
+step_text skipped (Err refusal) = refused_line refusal

@@ -3,6 +3,7 @@ pub mod Words
 pub mod Queries
 pub mod Paths
 pub mod Requests
+pub mod Steps
 pub mod Bodies
 pub mod Turns
 pub mod Lines

@@ -1,5 +1,5 @@
 -- The query of a listing: which part of it is asked for.
-use Rattle.std.specs.Prelude.{ℕ, List, [], ◌∷◌, map, filter, codes, bytes_eq, Result, Ok, Err, Option}
+use Rattle.std.specs.Prelude.{ℕ, List, [], ◌∷◌, map, filter, codes, bytes_eq, Result, Ok, Err}
 use Rattle.std.specs.Str.Lossy.{utf8_lossy}
 use Rattle.form_urlencoded.specs.Form.{decode, raw_pairs}
 use Rattle.adr_text.specs.Refusals.{◌>>=◌, or_else}

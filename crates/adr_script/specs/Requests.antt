@@ -1,10 +1,15 @@
 -- What the words of a request ask of the machine: none where they ask for nothing that there is.
-use Rattle.std.specs.Prelude.{ℕ, List, [], codes, Option, Some, None, is_none, unwrap_or, bytes_eq, Result, Ok, Err, if◌then◌else◌}
+use Rattle.std.specs.Prelude.{ℕ, List, [], ◌∷◌, false, codes, Option, Some, None, is_none, unwrap_or, bytes_eq, Result, Ok, Err, if◌then◌else◌}
 use Rattle.adr_text.specs.Refusals.{◌>>=◌}
 use Rattle.adr_text.specs.declared.refusal.Refusal.{Refusal}
 use Rattle.adr_schema.specs.Sites.{ven_of, resource_of, share_of}
+use Rattle.adr_text.specs.declared.refusal.Refusal.TheVariants.{Forbidden}
+use Rattle.adr_schema.specs.declared.notice.NoticeIn.{NoticeIn}
+use Rattle.adr_schema.specs.declared.notice.NoticeIn.TheVariants as notice
+use Rattle.adr_schema.specs.Notices.{notice_of}
 use Rattle.adr_machine.specs.declared.role.Role.{Role}
-use Rattle.adr_machine.specs.declared.command.Command.TheVariants.{VenAdd, ResourceAdd, ShareSet}
+use Rattle.adr_machine.specs.declared.role.Role.TheVariants.{Utility}
+use Rattle.adr_machine.specs.declared.command.Command.TheVariants.{Evidence, Gone, VenAdd, ResourceAdd, ShareSet}
 use Rattle.adr_machine.specs.declared.query.Query.TheVariants.{Events}
 use Rattle.adr_script.specs.declared.asked.Asked.{Asked}
 use Rattle.adr_script.specs.declared.asked.Asked.TheVariants as asked
@@ -23,11 +28,27 @@ abbrev pub resource_asked : Role → Option (List ℕ) → List ℕ → Result (
 resource_asked role None body = Ok None
 resource_asked role (Some ven) body = resource_of body >>= λ resource. Ok (Some (asked.Command (ResourceAdd role ven resource)))
 
--- `POST /vens` and `POST /vens/{venID}/resources`
+-- what a notification asks, if it asks anything
+abbrev pub told_asked : NoticeIn → Asked
+told_asked (notice.Found version) = asked.Command (Evidence (version ∷ []) false)
+told_asked (notice.Gone kind id) = asked.Command (Gone kind id)
+told_asked notice.Ignored = asked.Nothing
+
+-- only the utility notifies
+abbrev pub notice_asked : Role → NoticeIn → Result (Option Asked) Refusal
+notice_asked Utility n = Ok (Some (told_asked n))
+notice_asked _ n = Err Forbidden
+
+-- `POST /notifications`
+abbrev pub notified : Role → List ℕ → Result (Option Asked) Refusal
+notified role body = notice_of body >>= notice_asked role
+
+-- `POST /vens`, `POST /notifications` and `POST /vens/{venID}/resources`
 unfoldable pub asked_by_post : Role → List ℕ → List ℕ → Result (Option Asked) Refusal
 asked_by_post role path body =
     if bytes_eq path (codes "/vens") then (ven_of body >>= λ ven. Ok (Some (asked.Command (VenAdd role ven))))
-    else resource_asked role (ven_in_path path) body
+    else (if bytes_eq path (codes "/notifications") then notified role body
+    else resource_asked role (ven_in_path path) body)
 
 abbrev pub share_asked : Role → Option (List ℕ × List ℕ) → List ℕ → Result (Option Asked) Refusal
 share_asked role None body = Ok None

@@ -3,21 +3,20 @@ use Rattle.std.specs.Prelude.{◌≡◌, ◌⊎◌, ℕ, true, false, List, [], 
 use Rattle.adr_text.specs.Refusals.{◌>>=◌}
 use Rattle.adr_text.specs.declared.refusal.Refusal.{Refusal}
 use Rattle.adr_text.specs.declared.refusal.Refusal.TheVariants.{OutOfMemory, Store}
-use Rattle.adr_schema.specs.declared.body.Found.{Found}
-use Rattle.adr_schema.specs.declared.kind.Kind.TheVariants as kind
-use Rattle.adr_schema.specs.Pages.{page_of}
 use Rattle.adr_state.specs.declared.state.State.{State}
 use Rattle.adr_state.specs.declared.limits.Settings.{Settings}
 use Rattle.adr_machine.specs.declared.answer.Answer.{Answer}
-use Rattle.adr_machine.specs.declared.command.Command.TheVariants.{Evidence}
+use Rattle.adr_machine.specs.declared.answer.Answer.TheVariants as answer
 use Rattle.adr_machine.specs.Steps.{step, reply}
 use Rattle.adr_machine.specs.Runs.{told, state_after, stands}
 use Rattle.adr_script.specs.declared.asked.Asked.{Asked}
 use Rattle.adr_script.specs.declared.asked.Asked.TheVariants as asked
-use Rattle.adr_script.specs.Cuts.{cut, behind}
+use Rattle.adr_script.specs.declared.step.NodeStep.{NodeStep}
+use Rattle.adr_script.specs.Cuts.{cut}
 use Rattle.adr_script.specs.Words.{moment_at}
 use Rattle.adr_script.specs.Requests.{request_of}
-use Rattle.adr_script.specs.Bodies.{status_for, bad_line, problem_line, refused_line, request_text, page_text}
+use Rattle.adr_script.specs.Steps.{step_of}
+use Rattle.adr_script.specs.Bodies.{status_for, bad_line, problem_line, refused_line, request_text, step_text}
 
 -- what is printed of the machine's answer, and the state after it
 abbrev pub turn_by : (Result Answer Refusal → List ℕ) → State → Result (Answer × State) Refusal → List ℕ × State
@@ -29,6 +28,7 @@ turn_by text s r = (text (told r), state_after s r)
 abbrev pub asked_step : Settings → State → ℕ → Asked → Result (Answer × State) Refusal
 asked_step settings s now (asked.Command c) = step settings s now c
 asked_step settings s now (asked.Query q) = reply s q >>= λ a. Ok (a, s)
+asked_step settings s now asked.Nothing = Ok (answer.Done, s)
 
 -- as the words of the request were read
 abbrev pub request_turn : Settings → State → ℕ → Result (Option Asked) Refusal → List ℕ × State
@@ -38,26 +38,18 @@ request_turn settings s now (Err refusal) = (problem_line refusal, s)
 
 -- ---- steps of the node
 
--- a page counts as polled
-abbrev pub page_step : Settings → State → ℕ → List Found → Result (Answer × State) Refusal
-page_step settings s now found = step settings s now (Evidence found true)
-
--- as the page was read
-abbrev pub page_turn : Settings → State → ℕ → Result (List Found × ℕ) Refusal → List ℕ × State
-page_turn settings s now (Ok (found, skipped)) = turn_by (page_text skipped) s (page_step settings s now found)
-page_turn settings s now (Err refusal) = (refused_line refusal, s)
-
--- `page events JSON`
-abbrev pub node_turn : Settings → State → ℕ → Option (List ℕ) → List ℕ × State
-node_turn settings s now None = (bad_line, s)
-node_turn settings s now (Some json) = page_turn settings s now (page_of kind.Event json)
+-- as the words of the step were read
+abbrev pub node_turn : Settings → State → ℕ → Result (Option NodeStep) Refusal → List ℕ × State
+node_turn settings s now (Ok None) = (bad_line, s)
+node_turn settings s now (Ok (Some n)) = turn_by (step_text n.skipped) s (asked_step settings s now n.asked)
+node_turn settings s now (Err refusal) = (refused_line refusal, s)
 
 -- ---- lines
 
 -- the step of a role, or of the node itself
 unfoldable pub turn_of : Settings → State → ℕ → List ℕ → List ℕ → List ℕ × State
 turn_of settings s now role rest =
-    if bytes_eq role (codes "node") then node_turn settings s now (behind (codes "page events ") rest)
+    if bytes_eq role (codes "node") then node_turn settings s now (step_of rest)
     else request_turn settings s now (request_of role rest)
 
 abbrev pub turn_at : Settings → State → Option ℕ → List ℕ × Option (List ℕ) → List ℕ × State

@@ -4,9 +4,10 @@ ghost use Rattle.adr_script.specs.Bodies.{command_status, status_for};
 
 use adr_machine::{Command, Query};
 
-/// A command or a query.
+/// A command, a query, or nothing, which is done at once.
 #[derive(Drop)]
 pub enum Asked {
+    Nothing,
     Command(Command),
     Query(Query),
 }
@@ -16,7 +17,7 @@ fn command_status(command: &Command) -> u16
 {
     match command {
         Command::VenAdd { .. } | Command::ResourceAdd { .. } => 201,
-        Command::Evidence { .. } | Command::ShareSet { .. } => 200,
+        _ => 200,
     }
 }
 
@@ -26,6 +27,6 @@ pub(crate) fn status_for(asked: &Asked) -> u16
 {
     match asked {
         Asked::Command(command) => command_status(command),
-        Asked::Query(_) => 200,
+        Asked::Query(_) | Asked::Nothing => 200,
     }
 }

@@ -1,9 +1,10 @@
 //! The texts of answers and refusals.
-ghost use Rattle.std.specs.Prelude.{◌≡◌, IfOk, string_bytes};
-ghost use Rattle.adr_script.specs.Bodies.{object_text, list_text, answer_text, reply_line, changes_line, bad_line, problem_line, refused_by, refused_line, changes_in, request_text, page_text};
+ghost use Rattle.std.specs.Prelude.{◌≡◌, ◌++◌, IfOk, OnOk, string_bytes};
+ghost use Rattle.adr_script.specs.Bodies.{object_text, list_text, answer_text, reply_line, changes_line, bad_line, problem_line, refused_by, refused_line, count_line, done_line, kind_word, key_text, probes_line, request_text, step_line, step_text};
 
 use adr_machine::{Answer, Object};
-use adr_schema::{write_event, write_problem, write_resource, write_share, write_ven};
+use adr_schema::{Kind, write_event, write_problem, write_resource, write_share, write_ven};
+use adr_state::MirrorKey;
 use adr_text::Refusal;
 use std::alloc::{AllocError, Global};
 
@@ -40,7 +41,7 @@ fn answer_text(alloc: Global, answer: &Answer) -> Result<String, AllocError>
     ensures { IfOk result (λ text. string_bytes text ≡ answer_text answer.now) }
 {
     match answer {
-        Answer::Changes(_) => String::from_str(alloc, "{}"),
+        Answer::Done | Answer::Changes(_) | Answer::Probes(_) => String::from_str(alloc, "{}"),
         Answer::Object(object) => object_text(alloc, object),
         Answer::List(objects) => list_text(alloc, objects.as_slice()),
         Answer::Share(share) => write_share(alloc, share),
@@ -77,22 +78,60 @@ fn refused_by(alloc: Global, number: u8, title: &str) -> Result<String, AllocErr
     format!(in alloc; "refused {number} {title}\n")
 }
 
-/// How many changes an answer tells.
-pub(crate) fn changes_in(answer: &Answer) -> u64
-    ensures { result ≡ changes_in answer.now }
-{
-    match answer {
-        Answer::Changes(changes) => *changes,
-        Answer::Object(_) | Answer::List(_) | Answer::Share(_) => 0,
-    }
-}
-
 /// `changes N skipped M`.
 #[tactic(auto, unfolding(crate::specs::Bodies::changes_line))]
-pub(crate) fn changes_line(alloc: Global, changes: u64, skipped: u64) -> Result<String, AllocError>
+fn changes_line(alloc: Global, changes: u64, skipped: u64) -> Result<String, AllocError>
     ensures { IfOk result (λ text. string_bytes text ≡ changes_line changes skipped) }
 {
     format!(in alloc; "changes {changes} skipped {skipped}\n")
+}
+
+/// `changes N`.
+#[tactic(auto, unfolding(crate::specs::Bodies::count_line))]
+fn count_line(alloc: Global, changes: u64) -> Result<String, AllocError>
+    ensures { IfOk result (λ text. string_bytes text ≡ count_line changes) }
+{
+    format!(in alloc; "changes {changes}\n")
+}
+
+/// `done`.
+#[tactic(auto, unfolding(crate::specs::Bodies::done_line))]
+fn done_line(alloc: Global) -> Result<String, AllocError>
+    ensures { IfOk result (λ text. string_bytes text ≡ done_line) }
+{
+    String::from_str(alloc, "done\n")
+}
+
+fn kind_word(kind: Kind) -> &'static str
+    ensures { result.now ≡ kind_word kind }
+{
+    match kind {
+        Kind::Program => "programs",
+        Kind::Event => "events",
+    }
+}
+
+/// Adds ` programs/ID` or ` events/ID`.
+fn push_key(text: &mut String, key: &MirrorKey) -> Result<(), AllocError>
+    ensures { OnOk result (string_bytes text.new ≡ string_bytes text.old ++ key_text key.now) }
+{
+    text.push_str(" ")?;
+    text.push_str(kind_word(key.kind))?;
+    text.push_str("/")?;
+    text.push_str(key.id.as_str())
+}
+
+/// `probes`, and each key.
+#[tactic(auto, unfolding(crate::specs::Bodies::probes_line))]
+fn probes_line(alloc: Global, keys: &[MirrorKey]) -> Result<String, AllocError>
+    ensures { IfOk result (λ text. string_bytes text ≡ probes_line keys.now) }
+{
+    let mut text = String::from_str(alloc, "probes")?;
+    for key in keys {
+        push_key(&mut text, key)?;
+    }
+    text.push_str("\n")?;
+    Ok(text)
 }
 
 /// `bad line`.
@@ -117,16 +156,27 @@ pub(crate) fn request_text(
     }
 }
 
-/// What a page prints.
-pub(crate) fn page_text(
+fn step_line(alloc: Global, skipped: Option<u64>, answer: &Answer) -> Result<String, AllocError>
+    ensures { IfOk result (λ text. string_bytes text ≡ step_line skipped answer.now) }
+{
+    match (skipped, answer) {
+        (Some(skipped), Answer::Changes(changes)) => changes_line(alloc, *changes, skipped),
+        (None, Answer::Changes(changes)) => count_line(alloc, *changes),
+        (_, Answer::Probes(keys)) => probes_line(alloc, keys.as_slice()),
+        _ => done_line(alloc),
+    }
+}
+
+/// What a step of the node prints; of a page also how many of its elements were skipped.
+pub(crate) fn step_text(
     alloc: Global,
-    skipped: u64,
+    skipped: Option<u64>,
     outcome: &Result<Answer, Refusal>,
 ) -> Result<String, AllocError>
-    ensures { IfOk result (λ text. string_bytes text ≡ page_text skipped outcome.now) }
+    ensures { IfOk result (λ text. string_bytes text ≡ step_text skipped outcome.now) }
 {
     match outcome {
-        Ok(answer) => changes_line(alloc, changes_in(answer), skipped),
+        Ok(answer) => step_line(alloc, skipped, answer),
         Err(refusal) => refused_line(alloc, *refusal),
     }
 }

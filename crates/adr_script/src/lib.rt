@@ -10,6 +10,7 @@ mod paths;
 mod query;
 mod request;
 mod script;
+mod step;
 mod turn;
 mod words;
 

@@ -1,8 +1,8 @@
 //! What the words of a request ask of the machine.
-ghost use Rattle.std.specs.Prelude.{◌≡◌, unwrap_or};
+ghost use Rattle.std.specs.Prelude.{◌≡◌, unwrap_or, IfOk};
 ghost use Rattle.std.specs.Option.{option_copied};
 ghost use Rattle.adr_text.specs.Refusals.{Gives};
-ghost use Rattle.adr_script.specs.Requests.{asked_by_get, asked_by_post, asked_by_put, asked_by, asked_of, request_of};
+ghost use Rattle.adr_script.specs.Requests.{told_asked, notified, asked_by_get, asked_by_post, asked_by_put, asked_by, asked_of, request_of};
 ghost use Rattle.adr_script.specs.Cuts.{cut};
 
 use crate::asked::Asked;
@@ -11,9 +11,9 @@ use crate::paths::{share_in_path, ven_in_path};
 use crate::query::page_asked;
 use crate::words::{role_at, text_at};
 use adr_machine::{Command, Query, Role};
-use adr_schema::{read_resource, read_share, read_ven};
-use adr_text::Refusal;
-use std::alloc::Global;
+use adr_schema::{NoticeIn, read_notice, read_resource, read_share, read_ven};
+use adr_text::{Refusal, Rows};
+use std::alloc::{AllocError, Global};
 
 /// `GET /events`.
 #[tactic(auto, unfolding(crate::specs::Requests::asked_by_get))]
@@ -32,7 +32,39 @@ fn asked_by_get(
     Ok(Some(Asked::Query(Query::Events { role, page })))
 }
 
-/// `POST /vens` and `POST /vens/{venID}/resources`.
+/// What a notification asks, if it asks anything.
+fn told_asked(alloc: Global, notice: NoticeIn) -> Result<Asked, AllocError>
+    ensures { IfOk result (λ asked. asked ≡ told_asked notice) }
+{
+    match notice {
+        NoticeIn::Found(version) => {
+            let mut found = Rows::new(alloc);
+            found.push(version)?;
+            Ok(Asked::Command(Command::Evidence {
+                found,
+                polled: false,
+            }))
+        }
+        NoticeIn::Gone { kind, id } => Ok(Asked::Command(Command::Gone {
+            kind,
+            id: id.as_id().clone()?,
+        })),
+        NoticeIn::Ignored => Ok(Asked::Nothing),
+    }
+}
+
+/// `POST /notifications`, by the utility alone.
+fn notified(alloc: Global, role: &Role, body: &[u8]) -> Result<Option<Asked>, Refusal>
+    ensures { Gives (λ a. a) result (notified role.now body.now) }
+{
+    let notice = read_notice(alloc, body)?;
+    match role {
+        Role::Utility => Ok(Some(told_asked(alloc, notice)?)),
+        Role::Operator | Role::Ven(_) => Err(Refusal::Forbidden),
+    }
+}
+
+/// `POST /vens`, `POST /notifications` and `POST /vens/{venID}/resources`.
 #[tactic(auto, unfolding(crate::specs::Requests::asked_by_post))]
 fn asked_by_post(
     alloc: Global,
@@ -45,6 +77,9 @@ fn asked_by_post(
     if path == b"/vens".as_slice() {
         let ven = read_ven(alloc, body)?;
         return Ok(Some(Asked::Command(Command::VenAdd { role, ven })));
+    }
+    if path == b"/notifications".as_slice() {
+        return notified(alloc, &role, body);
     }
     let Some(ven) = ven_in_path(alloc, path)? else {
         return Ok(None);

@@ -1,21 +1,19 @@
 //! One line's turn: it is read, taken as a step on a desk, and answered.
 ghost use Rattle.std.specs.Prelude.{◌≡◌, codes, Ok, Some, ℕ, List, IfOk, OnErr, string_bytes};
 ghost use Rattle.adr_text.specs.declared.refusal.Refusal.TheVariants.{OutOfMemory};
-ghost use Rattle.adr_schema.specs.Pages.{page_of};
-ghost use Rattle.adr_schema.specs.declared.kind.Kind.TheVariants as kind;
-ghost use Rattle.adr_script.specs.Bodies.{problem_line, refused_line, request_text, page_text};
-ghost use Rattle.adr_script.specs.Cuts.{behind};
+ghost use Rattle.adr_script.specs.Bodies.{problem_line, refused_line, request_text, step_text};
 ghost use Rattle.adr_script.specs.Requests.{request_of};
-ghost use Rattle.adr_script.specs.Turns.{asked_step, page_step, request_turn, page_turn, node_turn, turn_of, line_turn, want_by, want_line, Outcome, Takes, Leaves, IsTurn};
+ghost use Rattle.adr_script.specs.Steps.{step_of};
+ghost use Rattle.adr_script.specs.Turns.{asked_step, request_turn, node_turn, turn_of, line_turn, want_by, want_line, Outcome, Takes, Leaves, IsTurn};
 
 use crate::asked::{Asked, status_for};
-use crate::bodies::{bad_line, page_text, problem_line, refused_line, request_text};
-use crate::cuts::{behind, cut};
+use crate::bodies::{bad_line, problem_line, refused_line, request_text, step_text};
+use crate::cuts::cut;
 use crate::request::request_of;
+use crate::step::{NodeStep, step_of};
 use crate::words::moment_at;
-use adr_machine::{Answer, Command, Desk};
-use adr_schema::{Found, Kind, read_page};
-use adr_text::{Moment, Refusal, Rows};
+use adr_machine::{Answer, Desk};
+use adr_text::{Moment, Refusal};
 use std::alloc::{AllocError, Global};
 
 /// Takes the step that is asked for.
@@ -27,6 +25,7 @@ fn take_asked<D: Desk>(desk: &mut D, now: Moment, asked: &Asked) -> Result<Answe
     match asked {
         Asked::Command(command) => desk.apply(now, command),
         Asked::Query(query) => desk.ask(query),
+        Asked::Nothing => Ok(Answer::Done),
     }
 }
 
@@ -67,71 +66,38 @@ fn answer_request<D: Desk>(
     }
 }
 
-/// Takes the step of a page, which counts as polled.
-fn take_page<D: Desk>(desk: &mut D, now: Moment, found: Rows<Found>) -> Result<Answer, Refusal>
-    ensures outcome { D.is_sound desk.new → Outcome (D.state desk.old) (page_step (D.settings desk.old) (D.state desk.old) now found) result (D.state desk.new) }
-    ensures was_sound { D.is_sound desk.new → D.is_sound desk.old }
-    ensures same_settings { D.settings desk.new ≡ D.settings desk.old }
-{
-    desk.apply(
-        now,
-        &Command::Evidence {
-            found,
-            polled: true,
-        },
-    )
-}
-
-/// Takes the step of a page that was read, and prints it.
-fn answer_found<D: Desk>(
+/// Takes a step of the node, and prints it.
+fn answer_step<D: Desk>(
     alloc: Global,
     desk: &mut D,
     now: Moment,
-    found: Rows<Found>,
-    skipped: u64,
+    step: &NodeStep,
 ) -> Result<String, AllocError>
-    ensures ok { IfOk result (λ out. D.is_sound desk.new → Takes refused_line (D.state desk.old) (page_turn (D.settings desk.old) (D.state desk.old) now (Ok (found, skipped))) (string_bytes out) (D.state desk.new)) }
-    ensures err { OnErr result (D.is_sound desk.new → Leaves (D.state desk.old) (page_turn (D.settings desk.old) (D.state desk.old) now (Ok (found, skipped))) (D.state desk.new)) }
+    ensures ok { IfOk result (λ out. D.is_sound desk.new → Takes refused_line (D.state desk.old) (node_turn (D.settings desk.old) (D.state desk.old) now (Ok (Some step.now))) (string_bytes out) (D.state desk.new)) }
+    ensures err { OnErr result (D.is_sound desk.new → Leaves (D.state desk.old) (node_turn (D.settings desk.old) (D.state desk.old) now (Ok (Some step.now))) (D.state desk.new)) }
     ensures was_sound { D.is_sound desk.new → D.is_sound desk.old }
     ensures same_settings { D.settings desk.new ≡ D.settings desk.old }
 {
-    let outcome = take_page(desk, now, found);
-    page_text(alloc, skipped, &outcome)
+    let outcome = take_asked(desk, now, &step.asked);
+    step_text(alloc, step.skipped, &outcome)
 }
 
-/// The turn of a page.
-fn answer_page<D: Desk>(
-    alloc: Global,
-    desk: &mut D,
-    now: Moment,
-    json: &[u8],
-) -> Result<String, AllocError>
-    ensures ok { IfOk result (λ out. D.is_sound desk.new → Takes refused_line (D.state desk.old) (page_turn (D.settings desk.old) (D.state desk.old) now (page_of kind.Event json.now)) (string_bytes out) (D.state desk.new)) }
-    ensures err { OnErr result (D.is_sound desk.new → Leaves (D.state desk.old) (page_turn (D.settings desk.old) (D.state desk.old) now (page_of kind.Event json.now)) (D.state desk.new)) }
-    ensures was_sound { D.is_sound desk.new → D.is_sound desk.old }
-    ensures same_settings { D.settings desk.new ≡ D.settings desk.old }
-{
-    match read_page(alloc, Kind::Event, json) {
-        Ok((found, skipped)) => answer_found(alloc, desk, now, found, skipped),
-        Err(refusal) => refused_line(alloc, refusal),
-    }
-}
-
-/// The turn of a step of the node: `page events JSON`.
+/// The turn of a step of the node.
 fn answer_node<D: Desk>(
     alloc: Global,
     desk: &mut D,
     now: Moment,
-    step: &[u8],
+    words: &[u8],
 ) -> Result<String, AllocError>
-    ensures ok { IfOk result (λ out. D.is_sound desk.new → Takes refused_line (D.state desk.old) (node_turn (D.settings desk.old) (D.state desk.old) now (behind (codes "page events ") step.now)) (string_bytes out) (D.state desk.new)) }
-    ensures err { OnErr result (D.is_sound desk.new → Leaves (D.state desk.old) (node_turn (D.settings desk.old) (D.state desk.old) now (behind (codes "page events ") step.now)) (D.state desk.new)) }
+    ensures ok { IfOk result (λ out. D.is_sound desk.new → Takes refused_line (D.state desk.old) (node_turn (D.settings desk.old) (D.state desk.old) now (step_of words.now)) (string_bytes out) (D.state desk.new)) }
+    ensures err { OnErr result (D.is_sound desk.new → Leaves (D.state desk.old) (node_turn (D.settings desk.old) (D.state desk.old) now (step_of words.now)) (D.state desk.new)) }
     ensures was_sound { D.is_sound desk.new → D.is_sound desk.old }
     ensures same_settings { D.settings desk.new ≡ D.settings desk.old }
 {
-    match behind(b"page events ", step) {
-        Some(json) => answer_page(alloc, desk, now, json),
-        None => bad_line(alloc),
+    match step_of(alloc, words) {
+        Ok(Some(step)) => answer_step(alloc, desk, now, &step),
+        Ok(None) => bad_line(alloc),
+        Err(refusal) => refused_line(alloc, refusal),
     }
 }
 

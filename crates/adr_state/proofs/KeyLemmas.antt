@@ -9,7 +9,7 @@ use Rattle.adr_state.specs.contracts.keys.MirrorKeyOrd.TheImpl as key
 use Rattle.adr_state.specs.declared.keys.MirrorKey.{MirrorKey}
 use Rattle.adr_state.specs.contracts.keys.ViewKeyOrd.TheImpl as view
 use Rattle.adr_state.specs.declared.keys.ViewKey.{ViewKey}
-use Rattle.adr_state.specs.declared.keys.ViewKey.TheVariants.{Event as Shown}
+use Rattle.adr_state.specs.declared.keys.ViewKey.TheVariants.{Program as Known, Event as Shown}
 use Rattle.adr_state.specs.Keys.{kind_cmp, id_cmp, mirror_cmp, view_cmp}
 
 kinds_same : (a b : Kind) → kind.cmp-value.it a b ≡ kind_cmp a b
@@ -25,6 +25,9 @@ pub mirror_order : key.cmp-value.it ≡ mirror_cmp
 mirror_order = λ k. λ a b. keys_same a b k
 
 views_same : (a b : ViewKey) → view.cmp-value.it a b ≡ view_cmp a b
+views_same (Known a) (Known b) = refl
+views_same (Known a) (Shown b n) = refl
+views_same (Shown a m) (Known b) = refl
 views_same (Shown a m) (Shown b n) = refl
 
 -- and so is that of the view's keys

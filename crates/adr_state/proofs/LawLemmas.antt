@@ -29,7 +29,7 @@ use Rattle.adr_state.specs.declared.base.Mark.{Mark}
 use Rattle.adr_state.specs.declared.base.Mark.TheVariants.{Live, Dead}
 use Rattle.adr_state.specs.declared.keys.MirrorKey.{MirrorKey}
 use Rattle.adr_state.specs.declared.view.Content.{Content}
-use Rattle.adr_state.specs.declared.view.Content.TheVariants.{Event}
+use Rattle.adr_state.specs.declared.view.Content.TheVariants.{Program, Event}
 use Rattle.adr_state.specs.Same.{is_same_option, is_same_list}
 use Rattle.adr_state.specs.Changes.{is_same_period, is_same_interval, is_same_head, is_same_tail, is_same_event}
 use Rattle.adr_state.specs.Keys.{kind_cmp, id_cmp, mirror_cmp, at}
@@ -117,11 +117,17 @@ events_decide a b =
     ))
     (Decides-and _ _ (heads_decide a b) (tails_decide a b))
 
-abbrev event_in : Content → ShownEvent
-event_in (Event e) = e
+events_same : (a b : ShownEvent) → Event a ≡ Event b → a ≡ b
+events_same a b h = cc
+
+names_same : (a b : List ℕ) → Program a ≡ Program b → a ≡ b
+names_same a b h = cc
 
 pub contents_equal : SameContentsAreEqual
-contents_equal (Event a) (Event b) = Decides-like (is_same_event a b) (λ h. ap (λ e. Event e) h) (λ h. ap event_in h) (events_decide a b)
+contents_equal (Program a) (Program b) = Decides-like (bytes_eq a b) (λ h. ap (λ n. Program n) h) (names_same a b) (bytes_eq-Decides a b)
+contents_equal (Program a) (Event b) = (λ h. absurd (cc), λ h. absurd (cc))
+contents_equal (Event a) (Program b) = (λ h. absurd (cc), λ h. absurd (cc))
+contents_equal (Event a) (Event b) = Decides-like (is_same_event a b) (λ h. ap (λ e. Event e) h) (events_same a b) (events_decide a b)
 
 -- ---- marks
 

@@ -1,5 +1,5 @@
 -- The changes between two views, and the stamps after them.
-use Rattle.std.specs.Prelude.{ℕ, Bool, ◌&&◌, ◌==◌, List, [], ◌++◌, map, fold, Option, None, Some, if◌then◌else◌}
+use Rattle.std.specs.Prelude.{ℕ, Bool, false, ◌&&◌, ◌==◌, List, [], ◌++◌, map, fold, Option, None, Some, if◌then◌else◌}
 use Rattle.std.specs.Ordering.{int_eq}
 use Rattle.std.specs.List.{filter_map}
 use Rattle.std.specs.BTreeSet.{insert_key}
@@ -11,7 +11,7 @@ use Rattle.adr_schema.specs.declared.shown.ShownEvent.{ShownEvent}
 use Rattle.adr_state.specs.Same.{is_same_option, is_same_list}
 use Rattle.adr_state.specs.declared.keys.ViewKey.{ViewKey}
 use Rattle.adr_state.specs.declared.view.Content.{Content}
-use Rattle.adr_state.specs.declared.view.Content.TheVariants.{Event}
+use Rattle.adr_state.specs.declared.view.Content.TheVariants.{Program, Event}
 use Rattle.adr_state.specs.declared.changes.Operation.TheVariants as operation
 use Rattle.adr_state.specs.declared.changes.Change.{Change}
 use Rattle.adr_state.specs.Keys.{view_cmp, at, map_of}
@@ -35,6 +35,9 @@ abbrev pub is_same_event : ShownEvent → ShownEvent → Bool
 is_same_event a b = is_same_head a b && is_same_tail a b
 
 abbrev pub is_same_content : Content → Content → Bool
+is_same_content (Program a) (Program b) = bytes_eq a b
+is_same_content (Program a) (Event b) = false
+is_same_content (Event a) (Program b) = false
 is_same_content (Event a) (Event b) = is_same_event a b
 
 -- ---- changes

@@ -11,7 +11,7 @@ use Rattle.adr_schema.specs.declared.kind.Kind.TheVariants as kind
 use Rattle.adr_state.specs.declared.keys.MirrorKey.{MirrorKey}
 use Rattle.adr_state.specs.declared.keys.ShareKey.{ShareKey}
 use Rattle.adr_state.specs.declared.keys.ViewKey.{ViewKey}
-use Rattle.adr_state.specs.declared.keys.ViewKey.TheVariants.{Event}
+use Rattle.adr_state.specs.declared.keys.ViewKey.TheVariants.{Program, Event}
 
 -- programs before events
 abbrev pub kind_cmp : Kind → Kind → Ordering
@@ -29,8 +29,11 @@ mirror_cmp a b = ordering_then (kind_cmp a.kind b.kind) (id_cmp a.id b.id)
 abbrev pub share_cmp : ShareKey → ShareKey → Ordering
 share_cmp a b = ordering_then (id_cmp a.program b.program) (nat_cmp a.resource b.resource)
 
--- by upstream id, and then by resource number
+-- programs by upstream id, and then events by upstream id and by resource number
 abbrev pub view_cmp : ViewKey → ViewKey → Ordering
+view_cmp (Program a) (Program b) = id_cmp a b
+view_cmp (Program a) (Event b n) = Less
+view_cmp (Event a m) (Program b) = Greater
 view_cmp (Event a m) (Event b n) = ordering_then (id_cmp a b) (nat_cmp m n)
 
 -- what a map has at a key

@@ -5,6 +5,7 @@ pub mod Weights
 pub mod Same
 pub mod Marks
 pub mod Mirror
+pub mod Scans
 pub mod Participants
 pub mod Views
 pub mod Changes

@@ -1,5 +1,5 @@
--- What is shown: for each live event that carries a setpoint, and each of its participants, that participant's parts.
-use Rattle.std.specs.Prelude.{ℕ, Bool, List, [], map, is_some, option_map, option_and_then, slice_get, if◌then◌else◌}
+-- What is shown: each live program; and for each live event that carries a setpoint, and each of its participants, that participant's parts.
+use Rattle.std.specs.Prelude.{ℕ, Bool, List, [], ◌∷◌, map, is_some, option_map, option_and_then, slice_get, if◌then◌else◌}
 use Rattle.std.specs.List.{list_any, flat_map, enumerate_from}
 use Rattle.adr_split.specs.Parts.{fair_split}
 use Rattle.adr_schema.specs.declared.kind.Kind.{Kind}
@@ -59,7 +59,12 @@ carries event = list_any (λ i. is_some i.setpoint) event.intervals
 abbrev pub event_rows : Base → List ℕ → EventBody → List (ViewKey × Content)
 event_rows base id event = if carries event then rows_for id event (participants base event) else []
 
+-- what is shown of a program
+abbrev pub program_rows : List ℕ → List ℕ → List (ViewKey × Content)
+program_rows id name = (key.Program id, content.Program name) ∷ []
+
 abbrev pub body_rows : Base → Kind → List ℕ → Body → List (ViewKey × Content)
+body_rows base kind.Program id (body.Program name) = program_rows id name
 body_rows base kind.Event id (body.Event event) = event_rows base id event
 body_rows base _ id _ = []
 

@@ -7,6 +7,7 @@ ghost use Rattle.adr_state.specs.Weights.{is_weight, weight_of, most_weight, mos
 ghost use Rattle.adr_state.specs.Keys.{at};
 
 use crate::keys::{MirrorKey, ShareKey};
+use crate::polled::Polled;
 use adr_schema::{Body, Number, ResourceName, Stamps};
 use adr_text::{Moment, Name, Table};
 use std::alloc::{AllocError, Global};
@@ -149,6 +150,8 @@ impl Resources {
 pub struct Base {
     /// The upstream keys of which there was evidence.
     pub mirror: Table<MirrorKey, Mark>,
+    /// While a scan is open, the keys that were polled since it began.
+    pub scan: Option<Polled>,
     pub vens: Table<Number, Ven>,
     pub resources: Resources,
     pub shares: Table<ShareKey, Weight>,

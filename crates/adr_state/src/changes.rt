@@ -62,7 +62,9 @@ fn is_same_content(a: &Content, b: &Content) -> bool
     ensures { result ≡ is_same_content a.now b.now }
 {
     match (a, b) {
+        (Content::Program(a), Content::Program(b)) => a == b,
         (Content::Event(a), Content::Event(b)) => is_same_event(a, b),
+        _ => false,
     }
 }
 

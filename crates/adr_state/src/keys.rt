@@ -19,6 +19,8 @@ pub struct ShareKey {
 /// The key of what is shown.
 #[derive(Clone, Debug, PartialEq, Eq, PartialOrd, Ord, Drop)]
 pub enum ViewKey {
+    /// A program, by its upstream id.
+    Program(ObjectId),
     /// What a resource is shown of an upstream event.
     Event(ObjectId, Number),
 }

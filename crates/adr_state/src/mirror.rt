@@ -13,7 +13,7 @@ use adr_schema::Found;
 use adr_text::Table;
 use std::alloc::{AllocError, Global};
 
-fn key_of(found: &Found) -> Result<MirrorKey, AllocError>
+pub(crate) fn key_of(found: &Found) -> Result<MirrorKey, AllocError>
     ensures { IfOk result (λ key. key ≡ key_of found.now) }
 {
     Ok(MirrorKey {
@@ -57,16 +57,16 @@ fn has_less(
     is_below(alloc, mark_at(mirror, key), mark)
 }
 
-/// Raises the mark of the key of what was found.
-fn raise(
+/// Raises the mark of a key to the given one, unless it is as great. Where memory runs out the mirror is
+/// left anyhow.
+pub fn raise(
     alloc: Global,
     mirror: &mut Table<MirrorKey, Mark>,
-    found: &Found,
+    key: MirrorKey,
+    mark: Mark,
 ) -> Result<(), AllocError>
-    ensures { OnOk result (mirror.new ≡ raised mirror.old (key_of found.now, mark_of found.now)) }
+    ensures { OnOk result (mirror.new ≡ raised mirror.old (key, mark)) }
 {
-    let key = key_of(found)?;
-    let mark = mark_of(found)?;
     if has_less(alloc, mirror, &key, &mark)? {
         put_mark(mirror, key, mark)?;
     }
@@ -83,7 +83,7 @@ pub fn join(
     ensures { OnOk result (mirror.new ≡ joined mirror.old (evidence_of founds.now)) }
 {
     for found in founds {
-        raise(alloc, mirror, found)?;
+        raise(alloc, mirror, key_of(found)?, mark_of(found)?)?;
     }
     Ok(())
 }

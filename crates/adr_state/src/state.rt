@@ -3,6 +3,7 @@ ghost use Rattle.std.specs.Prelude.{◌≡◌, IfOk};
 
 use crate::base::{Base, Mark, Resources};
 use crate::keys::ViewKey;
+use crate::polled::same_scan;
 use adr_schema::Stamps;
 use adr_text::Table;
 use std::alloc::{AllocError, Global};
@@ -35,6 +36,7 @@ impl Base {
     {
         Ok(Base {
             mirror: self.mirror.clone()?,
+            scan: same_scan(&self.scan)?,
             vens: self.vens.clone()?,
             resources: self.resources.clone()?,
             shares: self.shares.clone()?,
@@ -53,6 +55,7 @@ impl State {
         State {
             base: Base {
                 mirror: Table::new(alloc),
+                scan: None,
                 vens: Table::new(alloc),
                 resources: Resources::new(alloc),
                 shares: Table::new(alloc),

@@ -3,7 +3,7 @@ ghost use Rattle.std.specs.Prelude.{◌≡◌, ◌≤◌, [], ◌∷◌, map, le
 ghost use Rattle.std.specs.List.{enumerate_from};
 ghost use Rattle.adr_state.specs.Weights.{most_resources};
 ghost use Rattle.adr_state.specs.Keys.{view_cmp, with_rows};
-ghost use Rattle.adr_state.specs.Views.{interval_at, event_row, rows_for, carries, event_rows, body_rows, mark_rows, view};
+ghost use Rattle.adr_state.specs.Views.{interval_at, event_row, rows_for, carries, event_rows, program_rows, body_rows, mark_rows, view};
 
 use crate::base::{Base, Mark};
 use crate::keys::{MirrorKey, ViewKey};
@@ -11,12 +11,14 @@ use crate::participants::{Participant, participants};
 use crate::parts::{SplitInterval, split_intervals, weights_of};
 use crate::view_map::put_row;
 use adr_schema::{Body, EventBody, Kind, ShownEvent, ShownInterval};
-use adr_text::{ObjectId, Rows, Table};
+use adr_text::{Name, ObjectId, Rows, Table};
 use std::alloc::{AllocError, Global};
 
 /// What stands at a key of the view, without stamps.
 #[derive(Clone, Drop)]
 pub enum Content {
+    /// A program's name.
+    Program(Name),
     Event(ShownEvent),
 }
 
@@ -165,6 +167,17 @@ fn put_event(
     put_rows(alloc, view, id, event, &ps)
 }
 
+/// Puts what is shown of a program.
+fn put_program(view: &mut View, id: &ObjectId, name: &Name) -> Result<(), AllocError>
+    ensures { OnOk result (view.new ≡ with_rows view_cmp view.old (program_rows id.now name.now)) }
+{
+    put_row(
+        view,
+        ViewKey::Program(id.clone()?),
+        Content::Program(name.clone()?),
+    )
+}
+
 /// Puts what is shown of an upstream key.
 fn put_mark(
     alloc: Global,
@@ -176,6 +189,7 @@ fn put_mark(
     ensures { OnOk result (view.new ≡ with_rows view_cmp view.old (mark_rows base.now (key.now, mark.now))) }
 {
     match (key.kind, mark) {
+        (Kind::Program, Mark::Live(_, Body::Program(name))) => put_program(view, &key.id, name),
         (Kind::Event, Mark::Live(_, Body::Event(event))) => {
             put_event(alloc, view, base, &key.id, event)
         }

@@ -1,5 +1,8 @@
 //! The readers of texts, and what each makes of one, as a line.
-use adr_schema::{Kind, canonical, read_page, read_resource, read_share, read_ven};
+use adr_schema::{
+    Found, Kind, NoticeIn, canonical, read_canonical, read_notice, read_one, read_page,
+    read_resource, read_share, read_ven,
+};
 use adr_text::{Fault, Moment, Name, ObjectId, Refusal, Whole, read_value, whole};
 use std::alloc::{AllocError, Global};
 use std::str::from_utf8;
@@ -8,6 +11,9 @@ use std::str::from_utf8;
 #[derive(Clone, Copy)]
 pub enum Reader {
     Page(Kind),
+    One(Kind),
+    Notice,
+    Canonical,
     Ven,
     Resource,
     Share,
@@ -24,6 +30,10 @@ impl Reader {
         match name {
             "page events" => Some(Reader::Page(Kind::Event)),
             "page programs" => Some(Reader::Page(Kind::Program)),
+            "one event" => Some(Reader::One(Kind::Event)),
+            "one program" => Some(Reader::One(Kind::Program)),
+            "notification" => Some(Reader::Notice),
+            "canonical text" => Some(Reader::Canonical),
             "ven" => Some(Reader::Ven),
             "resource" => Some(Reader::Resource),
             "share" => Some(Reader::Share),
@@ -45,6 +55,44 @@ fn page_line(alloc: Global, kind: Kind, text: &[u8]) -> Result<String, Refusal> 
         line.push_str(canonical(alloc, &version.body)?.as_str())?;
     }
     Ok(line)
+}
+
+fn kind_word(kind: Kind) -> &'static str {
+    match kind {
+        Kind::Program => "program",
+        Kind::Event => "event",
+    }
+}
+
+/// The kind and the id of a version, its moment, and its canonical text.
+fn version_line(alloc: Global, version: &Found) -> Result<String, Refusal> {
+    let kind = kind_word(version.kind);
+    let id = version.id.as_id().as_str();
+    let moment = version.moment.text(alloc)?;
+    let body = canonical(alloc, &version.body)?;
+    Ok(format!(in alloc; "{kind} {id} {moment} {body}")?)
+}
+
+fn one_line(alloc: Global, kind: Kind, text: &[u8]) -> Result<String, Refusal> {
+    version_line(alloc, &read_one(alloc, kind, text)?)
+}
+
+fn notice_line(alloc: Global, text: &[u8]) -> Result<String, Refusal> {
+    match read_notice(alloc, text)? {
+        NoticeIn::Found(version) => version_line(alloc, &version),
+        NoticeIn::Gone { kind, id } => {
+            let kind = kind_word(kind);
+            let id = id.as_id().as_str();
+            Ok(format!(in alloc; "gone {kind} {id}")?)
+        }
+        NoticeIn::Ignored => Ok(String::from_str(alloc, "ignored")?),
+    }
+}
+
+/// The canonical text of the body that a canonical text is read as.
+fn canonical_line(alloc: Global, text: &[u8]) -> Result<String, Refusal> {
+    let body = read_canonical(alloc, text_of(text)?)?;
+    Ok(canonical(alloc, &body)?)
 }
 
 fn ven_line(alloc: Global, text: &[u8]) -> Result<String, Refusal> {
@@ -91,6 +139,9 @@ fn whole_line(alloc: Global, text: &[u8]) -> Result<String, Refusal> {
 fn line(alloc: Global, reader: Reader, text: &[u8]) -> Result<String, Refusal> {
     match reader {
         Reader::Page(kind) => page_line(alloc, kind, text),
+        Reader::One(kind) => one_line(alloc, kind, text),
+        Reader::Notice => notice_line(alloc, text),
+        Reader::Canonical => canonical_line(alloc, text),
         Reader::Ven => ven_line(alloc, text),
         Reader::Resource => resource_line(alloc, text),
         Reader::Share => share_line(alloc, text),

@@ -1,12 +1,9 @@
 //! A row: a script, and the lines that it has to print.
-use adr_machine::number_within;
+use adr_machine::{MOST_NUMBER, number_within};
 use adr_state::Limits;
 use anyhow::{Context, Result, bail};
 use std::alloc::Global;
 use std::str::from_utf8;
-
-/// The largest number that any limit may have.
-const MOST_NUMBER: u64 = 9_000_000_000_000_000;
 
 /// A row, as its file says it.
 #[derive(Drop)]

@@ -1,4 +1,4 @@
-use Rattle.std.proofs.Common.{◌≡◌, ◌+◌, length, take, subst, List, ℕ, arith}
+use Rattle.std.proofs.Common.{subst, List, ℕ, arith}
 use Rattle.std.specs.Io.KnownBytes.{Appends}
 use Rattle.std.proofs.KnownBytes.{Appends-trans}
 use Rattle.adr_script.proofs.OutputLemmas.{one_part_more}

@@ -1,9 +1,7 @@
-use Rattle.std.proofs.Common.{◌+◌, ◌++◌, ◌∙◌, sym, ap, subst, take, [], zero-add, length, ◌≡◌, List, ℕ, Option, IfSome, OnErr, arith}
-use Rattle.std.specs.Io.KnownBytes.{Consumes}
+use Rattle.std.proofs.Common.{◌++◌, ◌∙◌, sym, ap, take, [], zero-add, length, List, ℕ, arith}
 use Rattle.std.proofs.KnownBytes.{Consumes-trans}
 use Rattle.std.proofs.lemmas.Result.{IfOk-weaker, on_err_weaker}
-use Rattle.adr_script.specs.Lines.{lines_of, ended, unended, HasLongLine, HasManyLines}
-use Rattle.adr_script.specs.Scripts.{Runs, Stops}
+use Rattle.adr_script.specs.Lines.{ended, unended}
 use Rattle.adr_script.proofs.ScriptLemmas.{whatever_failed, whatever_went_well, same_fault, unended-append}
 use Rattle.adr_script.proofs.TextLemmas.{whatever_follows, at_the_end, nothing_more, seen_text, long_line-behind, long_line-append, many_lines-behind, many_lines-append, no_long_line-append, few_lines-append, Stops-read, Stops-piece, Runs-piece, Runs-last, Stops-last}
 use Rattle.adr_script.proofs.script.run_script.Goals as goal

@@ -1,0 +1,42 @@
+-- Laws over whole runs.
+use Rattle.std.specs.Prelude.{◌≡◌, ℕ, false, List, [], ◌∷◌, ◌++◌, Option, Some, Result, Ok, Err}
+use Rattle.std.specs.List.{Contains}
+use Rattle.adr_text.specs.declared.refusal.Refusal.{Refusal}
+use Rattle.adr_state.specs.declared.base.Mark.{Mark}
+use Rattle.adr_state.specs.declared.base.Mark.TheVariants.{Dead}
+use Rattle.adr_state.specs.declared.keys.MirrorKey.{MirrorKey}
+use Rattle.adr_state.specs.declared.limits.Settings.{Settings}
+use Rattle.adr_state.specs.declared.state.State.{State}
+use Rattle.adr_state.specs.Keys.{mirror_cmp, at}
+use Rattle.adr_state.specs.Marks.{is_below}
+use Rattle.adr_state.specs.Mirror.{evidence_of}
+use Rattle.adr_state.specs.States.{empty}
+use Rattle.adr_machine.specs.declared.answer.Answer.{Answer}
+use Rattle.adr_machine.specs.declared.command.Command.{Command}
+use Rattle.adr_machine.specs.declared.command.Command.TheVariants.{Evidence, Gone}
+use Rattle.adr_machine.specs.Runs.{state_after, state_of, step_at}
+
+-- what a command tells of upstream keys
+abbrev pub evidence_in : Command → List (MirrorKey × Mark)
+evidence_in (Evidence founds polled) = evidence_of founds
+evidence_in (Gone kind id) = (record { kind = kind; id = id }, Dead) ∷ []
+evidence_in _ = []
+
+-- the same, where the command was accepted
+abbrev pub accepted_in : Result (Answer × State) Refusal → Command → List (MirrorKey × Mark)
+accepted_in (Ok taken) command = evidence_in command
+accepted_in (Err refusal) command = []
+
+-- all accepted evidence of a run
+abbrev pub accepted_evidence : Settings → State → List (ℕ × Command) → List (MirrorKey × Mark)
+accepted_evidence settings s [] = []
+accepted_evidence settings s (c ∷ cs) = accepted_in (step_at settings s c) c.1 ++ accepted_evidence settings (state_after s (step_at settings s c)) cs
+
+-- what is known of a key is the greatest of the marks that the evidence has for it: none of them is above it, and it is one of them
+pub record IsGreatestOf (evidence : List (MirrorKey × Mark)) (key : MirrorKey) (known : Option Mark) : Type 0 where
+  pub none_is_above : (mark : Mark) → Contains evidence (key, mark) → is_below known mark ≡ false
+  pub is_one_of_them : (mark : Mark) → known ≡ Some mark → Contains evidence (key, mark)
+
+-- after any run from an empty start, the mirror at a key is the greatest mark in all accepted evidence for it
+abbrev pub MirrorIsGreatest : Type 0
+MirrorIsGreatest = (settings : Settings) (cs : List (ℕ × Command)) (key : MirrorKey) → IsGreatestOf (accepted_evidence settings empty cs) key (at mirror_cmp key (state_of (step_at settings) empty cs).base.mirror)
