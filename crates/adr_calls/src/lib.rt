@@ -13,4 +13,6 @@ mod scripts;
 #[cfg(test)]
 mod splits;
 #[cfg(test)]
+mod tables;
+#[cfg(test)]
 mod texts;

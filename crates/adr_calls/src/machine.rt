@@ -36,7 +36,8 @@ fn share(alloc: Global, resource: &str) -> Result<Command, Refusal> {
     })
 }
 
-const PAGE: &[u8] = b"[{\"id\":\"e1\",\"modificationDateTime\":\"2024-07-01T09:00:00Z\",\"programID\":\"p1\",\"intervals\":[{\"id\":0,\"payloads\":[{\"type\":\"DISPATCH_SETPOINT\",\"values\":[101]}]}]}]";
+const PAGE: &[u8] =
+    b"[{\"id\":\"e1\",\"modificationDateTime\":\"2024-07-01T09:00:00Z\",\"programID\":\"p1\",\"intervals\":[{\"id\":0,\"payloads\":[{\"type\":\"DISPATCH_SETPOINT\",\"values\":[101]}]}]}]";
 
 fn page(alloc: Global) -> Result<Command, Refusal> {
     let (found, _) = read_page(alloc, Kind::Event, PAGE)?;
