@@ -22,16 +22,32 @@ fn live(alloc: Global) -> Result<Mark, Refusal> {
     Ok(Mark::Live(moment, Body::Program(Name::new(alloc, "dr")?)))
 }
 
+fn put_live<S: Alter>(
+    alloc: Global,
+    tx: &mut Transaction<'_, S>,
+    kind: Kind,
+    id: &str,
+) -> Result<(), Refusal> {
+    put_mark(alloc, tx, &key(alloc, kind, id)?, &live(alloc)?)
+}
+
+fn put_dead<S: Alter>(alloc: Global, tx: &mut Transaction<'_, S>, id: &str) -> Result<(), Refusal> {
+    put_mark(alloc, tx, &key(alloc, Kind::Event, id)?, &Mark::Dead)
+}
+
+fn poll<S: Alter>(alloc: Global, tx: &mut Transaction<'_, S>, id: &str) -> Result<(), Refusal> {
+    put_polled(tx, &key(alloc, Kind::Event, id)?)
+}
+
 // Two live events, of which one is polled, a live program, and an event that was deleted.
 fn fill<S: Alter>(alloc: Global, tx: &mut Transaction<'_, S>) -> Result<(), Refusal> {
-    create(tx)?;
-    put_mark(alloc, tx, &key(alloc, Kind::Event, "e2")?, &live(alloc)?)?;
-    put_mark(alloc, tx, &key(alloc, Kind::Event, "e1")?, &live(alloc)?)?;
-    put_mark(alloc, tx, &key(alloc, Kind::Event, "e0")?, &live(alloc)?)?;
-    put_mark(alloc, tx, &key(alloc, Kind::Event, "e0")?, &Mark::Dead)?;
-    put_mark(alloc, tx, &key(alloc, Kind::Program, "p1")?, &live(alloc)?)?;
-    put_polled(tx, &key(alloc, Kind::Event, "e1")?)?;
-    put_polled(tx, &key(alloc, Kind::Event, "e1")?)
+    put_live(alloc, tx, Kind::Event, "e2")?;
+    put_live(alloc, tx, Kind::Event, "e1")?;
+    put_live(alloc, tx, Kind::Event, "e0")?;
+    put_dead(alloc, tx, "e0")?;
+    put_live(alloc, tx, Kind::Program, "p1")?;
+    poll(alloc, tx, "e1")?;
+    poll(alloc, tx, "e1")
 }
 
 fn commit<S: Alter>(tx: Transaction<'_, S>) -> Result<(), Refusal> {
@@ -48,33 +64,56 @@ fn line(alloc: Global, keys: &Rows<MirrorKey>) -> Result<String, Refusal> {
     Ok(line)
 }
 
-// How many marks there are, and the ids of the keys: all, those polled, those unseen, and the first of
-// these.
-fn shown<S: Alter>(alloc: Global, tx: &mut Transaction<'_, S>) -> Result<String, Refusal> {
-    let count = count_marks(tx)?;
+fn all<S: Alter>(alloc: Global, tx: &mut Transaction<'_, S>) -> Result<String, Refusal> {
     let mut keys = Rows::new(alloc);
     for row in read_marks(alloc, tx)?.into_vec() {
         keys.push(row.key)?;
     }
-    let all = line(alloc, &keys)?;
-    let polled = line(alloc, &read_polled(alloc, tx)?)?;
-    let unseen = line(alloc, &read_unseen(alloc, tx, None)?)?;
-    let first = line(alloc, &read_unseen(alloc, tx, Some(1))?)?;
-    Ok(format!(in alloc; "{count}:{all};{polled};{unseen};{first}")?)
+    line(alloc, &keys)
 }
 
-// What is kept of a live program and of a deleted event.
-fn marks<S: Alter>(alloc: Global, tx: &mut Transaction<'_, S>) -> Result<String, Refusal> {
-    let program = read_mark(tx, &key(alloc, Kind::Program, "p1")?)?;
-    let event = read_mark(tx, &key(alloc, Kind::Event, "e0")?)?;
-    let none = read_mark(tx, &key(alloc, Kind::Program, "e0")?)?;
-    match (program, event, none) {
-        (Some(p), Some(e), None) => Ok(format!(in alloc;
-            "{} {} {};{} {} {}",
-            p.state, p.moment, p.body, e.state, e.moment, e.body
-        )?),
-        _ => Err(Refusal::NotFound),
+fn polled<S: Alter>(alloc: Global, tx: &mut Transaction<'_, S>) -> Result<String, Refusal> {
+    line(alloc, &read_polled(alloc, tx)?)
+}
+
+fn unseen<S: Alter>(
+    alloc: Global,
+    tx: &mut Transaction<'_, S>,
+    limit: Option<u32>,
+) -> Result<String, Refusal> {
+    line(alloc, &read_unseen(alloc, tx, limit)?)
+}
+
+// How many marks there are, and the ids of the keys: all, those polled, those unseen, and the first of
+// these.
+fn shown<S: Alter>(alloc: Global, tx: &mut Transaction<'_, S>) -> Result<String, Refusal> {
+    let count = count_marks(tx)?;
+    let all = all(alloc, tx)?;
+    let polled = polled(alloc, tx)?;
+    let unseen_ones = unseen(alloc, tx, None)?;
+    let first = unseen(alloc, tx, Some(1))?;
+    Ok(format!(in alloc; "{count}:{all};{polled};{unseen_ones};{first}")?)
+}
+
+// What is kept of a key.
+fn mark<S: Alter>(
+    alloc: Global,
+    tx: &mut Transaction<'_, S>,
+    kind: Kind,
+    id: &str,
+) -> Result<String, Refusal> {
+    match read_mark(tx, &key(alloc, kind, id)?)? {
+        Some(mark) => Ok(format!(in alloc; "{} {} {}", mark.state, mark.moment, mark.body)?),
+        None => Ok(String::from_str(alloc, "none")?),
     }
+}
+
+// What is kept of a live program, of a deleted event, and of a key of which nothing is known.
+fn marks<S: Alter>(alloc: Global, tx: &mut Transaction<'_, S>) -> Result<String, Refusal> {
+    let program = mark(alloc, tx, Kind::Program, "p1")?;
+    let event = mark(alloc, tx, Kind::Event, "e0")?;
+    let none = mark(alloc, tx, Kind::Program, "e0")?;
+    Ok(format!(in alloc; "{program};{event};{none}")?)
 }
 
 fn first<S: Alter>(alloc: Global, conn: &mut Connection<S>) -> Result<(), Refusal> {
@@ -82,8 +121,18 @@ fn first<S: Alter>(alloc: Global, conn: &mut Connection<S>) -> Result<(), Refusa
         return Err(Refusal::Store);
     }
     let mut tx = conn.transaction();
+    create(&mut tx)?;
     fill(alloc, &mut tx)?;
     commit(tx)
+}
+
+// Other numbers, and no polled keys.
+fn change<S: Alter>(tx: &mut Transaction<'_, S>) -> Result<(), Refusal> {
+    let mut meta = read_meta(tx)?;
+    meta.serial = 7;
+    meta.scan = true;
+    put_meta(tx, &meta)?;
+    clear_polled(tx)
 }
 
 // Nothing of what is done here is kept.
@@ -92,11 +141,7 @@ fn dropped<S: Alter>(conn: &mut Connection<S>) -> Result<Meta, Refusal> {
         return Err(Refusal::Store);
     }
     let mut tx = conn.transaction();
-    let mut meta = read_meta(&mut tx)?;
-    meta.serial = 7;
-    meta.scan = true;
-    put_meta(&mut tx, &meta)?;
-    clear_polled(&mut tx)?;
+    change(&mut tx)?;
     read_meta(&mut tx)
 }
 
@@ -117,6 +162,9 @@ fn rows_of_each_table(rt: HostRuntime) -> Result<(), Fail> {
     assert_eq!(rt; (meta.serial, meta.scan, meta.made), (7, true, 0));
     let [shown, marks] = second(alloc, &mut conn)?;
     assert_eq!(rt; shown.as_str(), "4: p1 e0 e1 e2; e1; p1 e2; p1");
-    assert_eq!(rt; marks.as_str(), "1 1000000000 {\"program\":\"dr\"};2 0 ");
+    assert_eq!(rt;
+        marks.as_str(),
+        "1 1000000000 {\"program\":\"dr\"};2 0 ;none"
+    );
     Ok(())
 }
