@@ -1,11 +1,12 @@
 -- What a call leaves of the transaction that it was lent, and what it does to the tables.
-use Rattle.std.specs.Prelude.{◌≡◌, ℕ, List, Result, Ok, IfOk, OnOk, OnErr, false, IsTrue}
+use Rattle.std.specs.Prelude.{◌≡◌, ℕ, List, Result, Ok, IfOk, OnOk, OnErr, IfErr, Err, ◌⊎◌, false, IsTrue}
 use Rattle.sqlite.specs.Order.{Row}
 use Rattle.sqlite.specs.Schema.{Schema}
 use Rattle.sqlite.specs.Tree.{Trees}
 use Rattle.sqlite.specs.Store.{Ghosts}
 use Rattle.sqlite.specs.Held.{Held, state}
-use Rattle.sqlite.specs.State.{State, HasCleanDisk, KeepsCommit, Survives, Executes, Shown}
+use Rattle.sqlite.specs.State.{State, HasCleanDisk, KeepsCommit, Survives, Executes, ExecutesInside, FailsToQuery, IsTooLate, Shown}
+use Rattle.sqlite.specs.declared.error.Error.{Error}
 use Rattle.adr_sql.specs.Contents.{Contents, Holds}
 
 module _ {S : Type 0} (g : Ghosts S) (old new : Held S) where
@@ -23,6 +24,14 @@ module _ {S : Type 0} (g : Ghosts S) (old new : Held S) where
   -- after Ok, the rows in what was answered are what the query shows with these parameters
   abbrev pub Answers : {T E : Type 0} → List ℕ → Row → (T → List Row) → Result T E → Type 0
   Answers sql params rows_in result = HasCleanDisk (state g new) → IfOk result (λ x. Shown sql params (state g old) (state g new) (rows_in x))
+
+  -- an error of a statement that writes is the statement's own: its text, the parameters, the rows or the store were at fault, as it says
+  abbrev pub FailsToRun : {T : Type 0} → List ℕ → Row → Result T Error → Type 0
+  FailsToRun sql params result = HasCleanDisk (state g new) → IsTrue (state g old).in_transaction → IfErr result (λ e. ExecutesInside 0 sql params (state g old) (state g new) (Err e))
+
+  -- so is that of a query
+  abbrev pub FailsToAnswer : {T : Type 0} → List ℕ → Row → Result T Error → Type 0
+  FailsToAnswer sql params result = HasCleanDisk (state g new) → IfErr result (λ e. FailsToQuery sql params (state g old) (state g new) e ⊎ IsTooLate sql params (state g old) (state g new) e)
 
   -- after Ok, tables that held something hold what it is changed to
   abbrev pub Changes : {T E : Type 0} → Schema → (Contents → Contents) → Result T E → Type 0

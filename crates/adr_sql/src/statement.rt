@@ -1,7 +1,7 @@
 //! One statement on a lent transaction.
 ghost use Rattle.std.specs.Prelude.{◌≡◌};
 ghost use Rattle.sqlite.specs.Values.{bound};
-ghost use Rattle.adr_sql.specs.Calls.{Stays, Runs, Answers};
+ghost use Rattle.adr_sql.specs.Calls.{Stays, Runs, Answers, FailsToRun, FailsToAnswer};
 
 use sqlite::types::ValueRef;
 use sqlite::{Alter, Error, Row, Transaction};
@@ -15,6 +15,7 @@ pub fn run<S: Alter>(
     ensures same_reference { tx.new.conn.ghost_name ≡ tx.old.conn.ghost_name }
     ensures stays { Stays S.Store tx.old.conn.now tx.new.conn.now result }
     ensures runs { Runs S.Store tx.old.conn.now tx.new.conn.now sql.now (bound params.now) result }
+    ensures fails { FailsToRun S.Store tx.old.conn.now tx.new.conn.now sql.now (bound params.now) result }
 {
     tx.execute(sql, params)?;
     Ok(())
@@ -29,6 +30,7 @@ pub fn rows_of<S: Alter>(
     ensures same_reference { tx.new.conn.ghost_name ≡ tx.old.conn.ghost_name }
     ensures stays { Stays S.Store tx.old.conn.now tx.new.conn.now result }
     ensures answers { Answers S.Store tx.old.conn.now tx.new.conn.now sql.now (bound params.now) (λ rows. rows.items) result }
+    ensures fails { FailsToAnswer S.Store tx.old.conn.now tx.new.conn.now sql.now (bound params.now) result }
 {
     tx.query_all(sql, params)
 }
