@@ -7,8 +7,8 @@ ghost use Rattle.adr_db.specs.Calls.{IsOfStore};
 ghost use Rattle.adr_db.specs.Rows.{kind_number, key_row, key_cells};
 
 use crate::statement::refusal_of;
-use adr_state::MirrorKey;
 use adr_schema::Kind;
+use adr_state::MirrorKey;
 use adr_text::{ObjectId, Refusal, Rows};
 use sqlite::Row;
 use sqlite::types::{FromSql, ValueRef};

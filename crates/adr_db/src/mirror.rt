@@ -9,8 +9,8 @@ ghost use Rattle.adr_db.specs.Calls.{Leaves, Finds, IsOfStore};
 
 use crate::cells::{column, key_in, number, number_of};
 use crate::statement::{rows_of, run};
-use adr_state::{Mark, MirrorKey};
 use adr_schema::canonical;
+use adr_state::{Mark, MirrorKey};
 use adr_text::{Refusal, Rows};
 use sqlite::types::ToSql;
 use sqlite::{Alter, Row, Transaction};
