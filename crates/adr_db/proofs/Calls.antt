@@ -3,7 +3,7 @@ use Rattle.std.proofs.Common.{◌≡◌, ℕ, slice_get, Some, Option, ap, ◌�
 use Rattle.sqlite_value.specs.Order.{Row}
 use Rattle.sqlite.specs.Store.{Ghosts}
 use Rattle.sqlite.specs.Held.{Held, state}
-use Rattle.sqlite.specs.State.{HasCleanDisk, Executes, Shown}
+use Rattle.sqlite.specs.State.{State, HasCleanDisk, Executes, Shown}
 use Rattle.sqlite.specs.Given.{IsPlain}
 use Rattle.sqlite.specs.Listing.{understood}
 use Rattle.adr_sql.specs.Calls.{Runs, Changes}
@@ -12,6 +12,10 @@ use Rattle.adr_sql.proofs.Transactions.{holds_still}
 use Rattle.adr_db.specs.Tables.{schema}
 use Rattle.adr_db.specs.Kept.{Kept, Keeps, contents_of}
 use Rattle.adr_db.specs.Calls.{Leaves, Finds}
+
+-- a plain query leaves what is kept
+pub keeps_still : (sql : List ℕ) (params : Row) (old new : State) (rows : List Row) (kept : Kept) → IsPlain (understood schema sql) → Shown sql params old new rows → Keeps kept old → Keeps kept new
+keeps_still sql params old new rows kept plain shown was = record { rows = holds_still schema sql params old new rows (contents_of kept) plain shown was.rows; marks = was.marks }
 
 module _ {S : Type 0} (g : Ghosts S) (old new : Held S) (sql : List ℕ) (params : Row) where
   -- a statement that writes
@@ -28,7 +32,7 @@ module _ {S : Type 0} (g : Ghosts S) (old new : Held S) (sql : List ℕ) (params
   -- a query whose rows are read
   pub rows_find : {T E : Type 0} (IsRight : Kept → T → Type 0) (r : Result T E) (rows : List Row) → IsPlain (understood schema sql) → (HasCleanDisk (state g new) → Shown sql params (state g old) (state g new) rows)
       → IfOk r (λ x. (kept : Kept) → Shown sql params (state g old) (state g new) rows → Keeps kept (state g old) → IsRight kept x) → Finds g old new IsRight r
-  rows_find IsRight (Ok x) rows plain shown right clean = λ kept was. (right kept (shown clean) was, holds_still schema sql params (state g old) (state g new) rows (contents_of kept) plain (shown clean) was)
+  rows_find IsRight (Ok x) rows plain shown right clean = λ kept was. (right kept (shown clean) was, keeps_still sql params (state g old) (state g new) rows kept plain (shown clean) was)
   rows_find IsRight (Err e) rows plain shown right clean = tt
 
 pub ok_then : {T E : Type 0} {P Q : T → Type 0} (r : Result T E) → ((x : T) → P x → Q x) → IfOk r P → IfOk r Q

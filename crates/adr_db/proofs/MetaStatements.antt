@@ -17,7 +17,7 @@ use Rattle.adr_sql.proofs.Maps.{number_key, read_all_runs}
 use Rattle.adr_db.specs.declared.meta.Meta.{Meta}
 use Rattle.adr_db.specs.Tables.{schema}
 use Rattle.adr_db.specs.Rows.{number, meta_row}
-use Rattle.adr_db.specs.Kept.{Kept, Keeps, contents_of, with_meta}
+use Rattle.adr_db.specs.Kept.{Kept, Keeps, AreMarks, contents_of, with_meta}
 use Rattle.adr_db.proofs.Tables.{meta, meta_is}
 
 abbrev pub put_text : List ℕ
@@ -44,8 +44,8 @@ meta_put m = put_runs schema 0 meta meta_is put_text (numbers m) (meta_row m) (p
 one_row : (m n : Meta) → with_row 1 (meta_row m) (meta_row n ∷ []) ≡ meta_row m ∷ []
 one_row m n = ap (λ (o : Ordering). match_ordering o (meta_row n ∷ with_row 1 (meta_row m) []) (meta_row m ∷ []) (meta_row m ∷ meta_row n ∷ [])) (number_key (pos 1) (pos 1) (drop 1 (meta_row n)) (drop 1 (meta_row m)))
 
-pub keeps_meta : (m : Meta) (kept : Kept) (new : State) → Holds schema (with_table (contents_of kept) 0 (with_row 1 (meta_row m) (rows_of_table (contents_of kept) 0))) new → Keeps (with_meta m kept) new
-keeps_meta m kept new h = subst (λ rows. Holds schema (with_table (contents_of kept) 0 rows) new) (one_row m kept.meta) h
+pub keeps_meta : (m : Meta) (kept : Kept) (new : State) → AreMarks kept.mirror → Holds schema (with_table (contents_of kept) 0 (with_row 1 (meta_row m) (rows_of_table (contents_of kept) 0))) new → Keeps (with_meta m kept) new
+keeps_meta m kept new are h = record { rows = subst (λ rows. Holds schema (with_table (contents_of kept) 0 rows) new) (one_row m kept.meta) h; marks = are }
 
 reads : IsSelectText schema meta (whole_rows 0 meta) end read_text
 unfolding understood everything
@@ -68,8 +68,8 @@ pub read_is_plain : IsPlain (understood schema read_text)
 read_is_plain = reads.alone
 
 pub meta_read : (old new : State) (rows : List Row) (kept : Kept) → Shown read_text [] old new rows → Keeps kept old → rows ≡ meta_row kept.meta ∷ []
-meta_read old new rows kept h was = read_all_runs schema 0 meta meta_is read_text [] reads old new rows (contents_of kept) h was
+meta_read old new rows kept h was = read_all_runs schema 0 meta meta_is read_text [] reads old new rows (contents_of kept) h was.rows
 
 -- the first row, in empty tables
 pub keeps_first : (m : Meta) (new : State) → Holds schema (with_table ([] ∷ [] ∷ [] ∷ []) 0 (with_row 1 (meta_row m) [])) new → Keeps (record { meta = m; mirror = []; polled = [] }) new
-keeps_first m new h = h
+keeps_first m new h = record { rows = h; marks = tt }

@@ -1,5 +1,7 @@
 -- The statements on the table `mirror`.
-use Rattle.std.proofs.Common.{◌≡◌, ℕ, List, [], ◌∷◌, ◌++◌, codes, map, length, min, Ok, refl, ap, subst, ◌∙◌}
+use Rattle.std.proofs.Common.{◌≡◌, ℕ, List, [], ◌∷◌, ◌++◌, codes, map, length, min, ◌<◌, arith, Ok, refl, ap, subst, ◌∙◌, Ordering, Less, Equal, Greater}
+use Rattle.std.specs.Ordering.{match_ordering}
+use Rattle.std.specs.BTreeMap.{insert_entry}
 use Rattle.std.proofs.lemmas.List.{length-map}
 use Rattle.sqlite_value.specs.declared.value.Value.TheVariants.{Null, Text}
 use Rattle.sqlite_value.specs.Order.{Row}
@@ -19,7 +21,7 @@ use Rattle.adr_sql.proofs.Counts.{IsCountText, count_runs}
 use Rattle.adr_sql.proofs.Maps.{put_entry_runs, read_entry_runs, read_all_runs, rows_at_none}
 use Rattle.adr_db.specs.Tables.{schema}
 use Rattle.adr_db.specs.Rows.{number, kind_number, key_row, mark_columns, mark_row}
-use Rattle.adr_db.specs.Kept.{Kept, Keeps, contents_of, with_mark}
+use Rattle.adr_db.specs.Kept.{Kept, Keeps, IsMark, AreMarks, contents_of, with_mark}
 use Rattle.adr_db.proofs.Tables.{mirror, mirror_is}
 use Rattle.adr_db.proofs.Rows.{mirror_codec}
 
@@ -49,14 +51,27 @@ module _ (kind : ℕ) (id : List ℕ) (state moment : ℕ) (body : List ℕ) whe
   values : AreValues mirror row
   values = record { mended = refl; fits = refl; full = refl; width = refl }
 
-pub mark_put : (key : MirrorKey) (mark : Mark) (state moment : ℕ) (body : List ℕ) → number state ∷ number moment ∷ Text body ∷ [] ≡ mark_columns mark → (old new : State) (count : ℕ)
+-- a mark that is put joins those that are kept
+marks_put : (es : List (MirrorKey × Mark)) (k : MirrorKey) (v : Mark) → AreMarks es → IsMark v → AreMarks (insert_entry mirror_cmp es k v)
+marks_put [] k v are is = (is, tt)
+marks_put (e ∷ es) k v are is = by (mirror_cmp k e.0) (marks_put es k v are.1 is)
+  where
+    by : (o : Ordering) → AreMarks (insert_entry mirror_cmp es k v) → AreMarks (match_ordering o ((k, v) ∷ e ∷ es) ((e.0, v) ∷ es) (e ∷ insert_entry mirror_cmp es k v))
+    by Less more = (is, are)
+    by Equal more = (is, are.1)
+    by Greater more = (are.0, more)
+
+pub mark_put : (key : MirrorKey) (mark : Mark) → IsMark mark → (state moment : ℕ) (body : List ℕ) → number state ∷ number moment ∷ Text body ∷ [] ≡ mark_columns mark → (old new : State) (count : ℕ)
     → Executes put_text (row (kind_number key.kind) key.id state moment body) old new (Ok count) → (kept : Kept) → Keeps kept old → Keeps (with_mark key mark kept) new
-mark_put key mark state moment body same old new count h kept was =
+mark_put key mark is state moment body same old new count h kept was =
     let row_is : row (kind_number key.kind) key.id state moment body ≡ mark_row (key, mark) = ap (λ (cells : Row). key_row key ++ cells) same in
     let text = subst (λ r. IsPutText schema 1 mirror put_text r r) row_is (puts (kind_number key.kind) key.id state moment body) in
     let fits = subst (AreValues mirror) row_is (values (kind_number key.kind) key.id state moment body) in
     let ran = subst (λ r. Executes put_text r old new (Ok count)) row_is h in
-    put_entry_runs schema 1 mirror mirror_is put_text (mark_row (key, mark)) mirror_cmp mark_row key_row mirror_codec key mark kept.mirror text fits old new count (contents_of kept) refl ran was
+    record {
+      rows = put_entry_runs schema 1 mirror mirror_is put_text (mark_row (key, mark)) mirror_cmp mark_row key_row mirror_codec key mark kept.mirror text fits old new count (contents_of kept) refl ran was.rows;
+      marks = marks_put kept.mirror key mark was.marks is;
+    }
 
 reads_one : IsSelectText schema mirror (whole_rows 2 mirror) end read_one_text
 unfolding understood everything
@@ -67,7 +82,7 @@ read_one_is_plain = reads_one.alone
 
 pub mark_read : (key : MirrorKey) (old new : State) (rows : List Row) (kept : Kept) → Shown read_one_text (key_row key) old new rows → Keeps kept old → rows ≡ map mark_row (entry_at key (at mirror_cmp key kept.mirror))
 mark_read key old new rows kept h was =
-    read_entry_runs schema 1 mirror mirror_is read_one_text (key_row key) mirror_cmp mark_row key_row mirror_codec key kept.mirror reads_one refl refl old new rows (contents_of kept) refl h was
+    read_entry_runs schema 1 mirror mirror_is read_one_text (key_row key) mirror_cmp mark_row key_row mirror_codec key kept.mirror reads_one refl refl old new rows (contents_of kept) refl h was.rows
 
 reads_all : IsSelectText schema mirror (whole_rows 0 mirror) end read_all_text
 unfolding understood everything
@@ -77,7 +92,7 @@ pub read_all_is_plain : IsPlain (understood schema read_all_text)
 read_all_is_plain = reads_all.alone
 
 pub marks_read : (old new : State) (rows : List Row) (kept : Kept) → Shown read_all_text [] old new rows → Keeps kept old → rows ≡ map mark_row kept.mirror
-marks_read old new rows kept h was = read_all_runs schema 1 mirror mirror_is read_all_text [] reads_all old new rows (contents_of kept) h was
+marks_read old new rows kept h was = read_all_runs schema 1 mirror mirror_is read_all_text [] reads_all old new rows (contents_of kept) h was.rows
 
 counts : IsCountText schema 0 mirror count_text
 unfolding understood everything
@@ -86,7 +101,11 @@ counts = record { names = codes "count(*)" ∷ []; command = refl; alone = (refl
 pub count_is_plain : IsPlain (understood schema count_text)
 count_is_plain = counts.alone
 
+-- a count below the largest is the number itself
+pub uncapped : (n count : ℕ) → n < 9223372036854775807 → n ≡ min count 9223372036854775807 → n ≡ count
+uncapped n count small is = omega (arith, is, small)
+
 pub marks_counted : (old new : State) (rows : List Row) (kept : Kept) → Shown count_text [] old new rows → Keeps kept old → rows ≡ (number (min (length kept.mirror) 9223372036854775807) ∷ []) ∷ []
 marks_counted old new rows kept h was =
-    count_runs schema 1 0 mirror mirror_is.place count_text [] counts refl old new rows (contents_of kept) h was
+    count_runs schema 1 0 mirror mirror_is.place count_text [] counts refl old new rows (contents_of kept) h was.rows
     ∙ ap (λ n. (number (min n 9223372036854775807) ∷ []) ∷ []) (ap length (rows_at_none [] (map mark_row kept.mirror)) ∙ length-map kept.mirror mark_row)

@@ -37,14 +37,17 @@ values : (key : MirrorKey) → AreValues polled (key_row key)
 values key = record { mended = refl; fits = refl; full = refl; width = refl }
 
 pub polled_put : (key : MirrorKey) (old new : State) (count : ℕ) → Executes put_text (key_row key) old new (Ok count) → (kept : Kept) → Keeps kept old → Keeps (with_polled key kept) new
-polled_put key old new count h kept was = put_key_runs schema 2 polled polled_is put_text (key_row key) mirror_cmp key_row polled_codec key kept.polled (puts key) (values key) old new count (contents_of kept) refl h was
+polled_put key old new count h kept was = record {
+  rows = put_key_runs schema 2 polled polled_is put_text (key_row key) mirror_cmp key_row polled_codec key kept.polled (puts key) (values key) old new count (contents_of kept) refl h was.rows;
+  marks = was.marks;
+}
 
 clears : IsRemoveText schema 2 polled end [] clear_text
 unfolding understood everything
 clears = record { command = refl; alone = (refl, refl); flat = refl; joins = refl }
 
 pub polled_cleared : (old new : State) (count : ℕ) → Executes clear_text [] old new (Ok count) → (kept : Kept) → Keeps kept old → Keeps (with_none_polled kept) new
-polled_cleared old new count h kept was = clear_runs schema 2 polled polled_is clear_text [] clears old new count (contents_of kept) h was
+polled_cleared old new count h kept was = record { rows = clear_runs schema 2 polled polled_is clear_text [] clears old new count (contents_of kept) h was.rows; marks = was.marks }
 
 reads : IsSelectText schema polled (whole_rows 0 polled) end read_text
 unfolding understood everything
@@ -54,4 +57,4 @@ pub read_is_plain : IsPlain (understood schema read_text)
 read_is_plain = reads.alone
 
 pub polled_read : (old new : State) (rows : List Row) (kept : Kept) → Shown read_text [] old new rows → Keeps kept old → rows ≡ map key_row kept.polled
-polled_read old new rows kept h was = read_all_runs schema 2 polled polled_is read_text [] reads old new rows (contents_of kept) h was
+polled_read old new rows kept h was = read_all_runs schema 2 polled polled_is read_text [] reads old new rows (contents_of kept) h was.rows

@@ -82,6 +82,6 @@ found_is limit kept =
 
 pub unseen_read : (limit : Option ℕ) (old new : State) (rows : List Row) (kept : Kept) → Shown text (Int (limit_number limit) ∷ []) old new rows → Keeps kept old → rows ≡ map key_row (at_most limit (probes kept.mirror kept.polled))
 unseen_read None old new rows kept h was =
-    select_runs schema 1 mirror mirror_is.place query rest text (Int (negsuc 0) ∷ []) selects old new rows (contents_of kept) h was ∙ found_is (negsuc 0) kept
+    select_runs schema 1 mirror mirror_is.place query rest text (Int (negsuc 0) ∷ []) selects old new rows (contents_of kept) h was.rows ∙ found_is (negsuc 0) kept
 unseen_read (Some n) old new rows kept h was =
-    select_runs schema 1 mirror mirror_is.place query rest text (Int (pos n) ∷ []) selects old new rows (contents_of kept) h was ∙ ap (take n) (found_is (pos n) kept) ∙ take-map key_row n (probes kept.mirror kept.polled)
+    select_runs schema 1 mirror mirror_is.place query rest text (Int (pos n) ∷ []) selects old new rows (contents_of kept) h was.rows ∙ ap (take n) (found_is (pos n) kept) ∙ take-map key_row n (probes kept.mirror kept.polled)

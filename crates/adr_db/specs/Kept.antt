@@ -1,9 +1,12 @@
 -- The tables hold the state: the rows of each, read by key, are the corresponding map.
+use Rattle.std.specs.List.{AllByRecursion}
 use Rattle.std.specs.Prelude.{ℕ, ℤ, pos, negsuc, Option, None, Some, take, false, List, [], ◌∷◌, map}
 use Rattle.std.specs.BTreeMap.{insert_entry}
 use Rattle.std.specs.BTreeSet.{insert_key}
 use Rattle.sqlite.specs.State.{State}
+use Rattle.adr_schema.specs.Kept.{IsBody}
 use Rattle.adr_state.specs.declared.base.Mark.{Mark}
+use Rattle.adr_state.specs.declared.base.Mark.TheVariants.{Live, Dead}
 use Rattle.adr_state.specs.declared.keys.MirrorKey.{MirrorKey}
 use Rattle.adr_state.specs.Keys.{mirror_cmp}
 use Rattle.adr_sql.specs.Contents.{Contents, Holds}
@@ -25,8 +28,17 @@ contents_of kept =
     ∷ map key_row kept.polled
     ∷ []
 
-abbrev pub Keeps : Kept → State → Type 0
-Keeps kept s = Holds schema (contents_of kept) s
+-- a version says what the types admit, so that its canonical text reads back
+abbrev pub IsMark : Mark → Type 0
+IsMark (Live moment body) = IsBody body
+IsMark Dead = Unit {0}
+
+abbrev pub AreMarks : List (MirrorKey × Mark) → Type 0
+AreMarks = AllByRecursion (λ e. IsMark e.1)
+
+pub record Keeps (kept : Kept) (s : State) : Type 0 where
+  pub rows : Holds schema (contents_of kept) s
+  pub marks : AreMarks kept.mirror
 
 -- ---- what is kept of a new node, and the changes of it
 

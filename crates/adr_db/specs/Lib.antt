@@ -1,4 +1,5 @@
 pub mod Tables
 pub mod Rows
 pub mod Kept
+pub mod Bases
 pub mod Calls

@@ -1,5 +1,5 @@
 //! What each command makes of the base. After a refusal the base is left anyhow.
-ghost use Rattle.std.specs.Prelude.{◌≡◌, ◌≢◌, Ok, Err, Some, ◌≤◌, IfOk, IfErr, OnOk};
+ghost use Rattle.std.specs.Prelude.{◌≡◌, ◌≢◌, Ok, Err, Some, ◌≤◌, nat_lt, ◌&&◌, IfOk, IfErr, OnOk};
 ghost use Rattle.adr_text.specs.declared.refusal.Refusal.TheVariants.{Store};
 ghost use Rattle.adr_state.specs.Weights.{most_weight};
 ghost use Rattle.adr_machine.specs.Edits.{scan_after, evidence, gone, scan_begin, scan_end, fresh, has_ven, ven_add, has_resource, ven_at, resource_of_ven, resource_add, resource_at, share_put, share_of_resource, share_set, edit};
@@ -66,6 +66,13 @@ fn note_polled(base: &mut Base, founds: &[Found], polled: bool) -> Result<(), Al
     Ok(())
 }
 
+/// Whether keys were added, and are more than the limit.
+fn adds_beyond(limits: &Limits, before: usize, after: usize) -> bool
+    ensures { result ≡ (nat_lt before after && nat_lt limits.now.keys after) }
+{
+    before < after && limits.keys.get() < after as u64
+}
+
 /// The base after evidence.
 fn with_evidence(
     alloc: Global,
@@ -81,8 +88,7 @@ fn with_evidence(
     note_polled(base, founds, polled)?;
     let before = base.mirror.len();
     join(alloc, &mut base.mirror, founds)?;
-    let after = base.mirror.len();
-    if before < after && limits.keys.get() < after as u64 {
+    if adds_beyond(limits, before, base.mirror.len()) {
         return Err(Refusal::LimitReached);
     }
     Ok(None)
@@ -103,8 +109,7 @@ fn with_gone(
     let id = id.clone()?;
     let before = base.mirror.len();
     raise(alloc, &mut base.mirror, MirrorKey { kind, id }, Mark::Dead)?;
-    let after = base.mirror.len();
-    if before < after && limits.keys.get() < after as u64 {
+    if adds_beyond(limits, before, base.mirror.len()) {
         return Err(Refusal::LimitReached);
     }
     Ok(None)

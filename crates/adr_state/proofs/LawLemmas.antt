@@ -205,7 +205,7 @@ one_way Dead n h = absurd (cc)
 one_way (Live m a) Dead h = refl
 one_way (Live m a) (Live n b) h = below_one_way m n _ _ (text_one_way (canonical_text a) (canonical_text b)) h
 
-over : (k : Option Mark) (m n : Mark) → is_below k m ≡ true → is_below (Some m) n ≡ true → is_below k n ≡ true
+pub over : (k : Option Mark) (m n : Mark) → is_below k m ≡ true → is_below (Some m) n ≡ true → is_below k n ≡ true
 over None m n h g = refl
 over (Some Dead) m n h g = absurd (cc)
 over (Some (Live l a)) Dead n h g = absurd (cc)
@@ -259,10 +259,10 @@ kind_order = record {
   congr = λ x y z h. kinds_alike x y z h;
 }
 
-key_order : IsTotalOrder mirror_cmp
+pub key_order : IsTotalOrder mirror_cmp
 key_order = then_total (on_total (λ (k : MirrorKey). k.kind) kind_order) (on_total (λ (k : MirrorKey). k.id) nat_list_cmp_total)
 
-equal_from_is : (o : Ordering) → is_eq o ≡ true → o ≡ Equal
+pub equal_from_is : (o : Ordering) → is_eq o ≡ true → o ≡ Equal
 equal_from_is Less h = absurd (cc)
 equal_from_is Equal h = refl
 equal_from_is Greater h = absurd (cc)
@@ -289,16 +289,16 @@ module _ {K X : Type 0} {R : K → K → Ordering} (order : IsTotalOrder R) wher
       rw ih (apart (is_eq (R q e.0)) (is_eq (R q k)) (Some e.1) (Some v) (at R q es)
       (λ one two. unlike (R q e.0) (R k e.0) (equal_from_is (R q e.0) one) (order.congr q k e.0 (equal_from_is (R q k) two)) h))
 
-  at-insert_entry : (q k : K) (v : X) (es : List (K × X)) → at R q (insert_entry R es k v) ≡ cond (is_eq (R q k)) (Some v) (at R q es)
+  pub at-insert_entry : (q k : K) (v : X) (es : List (K × X)) → at R q (insert_entry R es k v) ≡ cond (is_eq (R q k)) (Some v) (at R q es)
   at-insert_entry q k v [] = refl
   at-insert_entry q k v (e ∷ es) = put_at q k v e es (insert_entry R es k v) (R k e.0) refl (at-insert_entry q k v es)
 
   -- what was put is there
-  at_put : (k : K) (v : X) (es : List (K × X)) → at R k (insert_entry R es k v) ≡ Some v
+  pub at_put : (k : K) (v : X) (es : List (K × X)) → at R k (insert_entry R es k v) ≡ Some v
   at_put k v es = at-insert_entry k k v es ∙ ap (λ o. cond (is_eq o) (Some v) (at R k es)) (tied_itself order k)
 
   -- equal keys have one row
-  at_same : (q k : K) (es : List (K × X)) → R q k ≡ Equal → at R q es ≡ at R k es
+  pub at_same : (q k : K) (es : List (K × X)) → R q k ≡ Equal → at R q es ≡ at R k es
   at_same q k es h = λ j. lookup (λ x. is_eq (order.congr q k x h j)) es
 
 stays : (x : Option Mark) → IsRaised x x

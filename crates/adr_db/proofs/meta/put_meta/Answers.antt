@@ -6,4 +6,4 @@ use Rattle.adr_db.proofs.meta.put_meta.Goals as goal
 
 pub returns-clause-leaves : goal.returns-clause-leaves
 returns-clause-leaves g c clean =
-    on_then c.write_meta.result (λ change kept was. keeps_meta c.args.meta.now kept (state g.S.Store c.write_meta.new.tx.conn.now) (change (contents_of kept) was)) (c.write_meta.ensures.changes clean)
+    on_then c.write_meta.result (λ change kept was. keeps_meta c.args.meta.now kept (state g.S.Store c.write_meta.new.tx.conn.now) was.marks (change (contents_of kept) was.rows)) (c.write_meta.ensures.changes clean)

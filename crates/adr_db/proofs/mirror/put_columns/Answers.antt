@@ -13,5 +13,5 @@ returns-clause-leaves g c =
     let key = c.args.key.now in
     let columns = c.args.columns.now in
     run_leaves g.S.Store old new put_text (row (kind_number key.kind) key.id columns.state columns.moment (string_bytes columns.body)) (with_mark key c.args.mark.now) c.run.result
-    (mark_put key c.args.mark.now columns.state columns.moment (string_bytes columns.body) c.requires (state g.S.Store old) (state g.S.Store new))
+    (mark_put key c.args.mark.now c.requires.valid columns.state columns.moment (string_bytes columns.body) c.requires.same (state g.S.Store old) (state g.S.Store new))
     (rw (c.to_sql.ensures, c.number_of.ensures, c.to_sql-2.ensures, c.as_str.ensures.text, c.to_sql-3.ensures, c.in_ok-moment.ensures.value, c.to_sql-4.ensures) at c.run.ensures.runs)

@@ -3,9 +3,7 @@ use Rattle.sqlite.specs.State.{Shown}
 use Rattle.sqlite.specs.Held.{state}
 use Rattle.adr_state.specs.Keys.{mirror_cmp, at}
 use Rattle.adr_db.specs.Rows.{key_row}
-use Rattle.adr_db.specs.Kept.{contents_of}
-use Rattle.adr_db.specs.Tables.{schema}
-use Rattle.adr_sql.proofs.Transactions.{holds_still}
+use Rattle.adr_db.proofs.Calls.{keeps_still}
 use Rattle.adr_db.proofs.Rows.{mark_found, none_found}
 use Rattle.adr_db.proofs.MirrorStatements.{read_one_text, read_one_is_plain, mark_read}
 use Rattle.adr_db.proofs.mirror.read_mark.Goals as goal
@@ -19,7 +17,7 @@ returns-in-Some-clause-finds g c clean kept was =
     let shown : Shown read_one_text (key_row key) old new rows = (rw (c.to_sql.ensures, c.number_of.ensures, c.to_sql-2.ensures, c.as_str.ensures.text) at c.in_ok-rows.ensures.answers) clean in
     let is = c.deref.ensures.value ∙ mark_read key old new rows kept shown was in (
       ap Some c.in_ok-columns_in-in-Some.ensures.columns ∙ mark_found key (at mirror_cmp key kept.mirror) c.in-Some.row.now c.deref.result.now c.in-Some.ensures.value is,
-      holds_still schema read_one_text (key_row key) old new rows (contents_of kept) read_one_is_plain shown was,
+      keeps_still read_one_text (key_row key) old new rows kept read_one_is_plain shown was,
     )
 
 pub returns-clause-finds : goal.returns-clause-finds
@@ -31,5 +29,5 @@ returns-clause-finds g c clean kept was =
     let shown : Shown read_one_text (key_row key) old new rows = (rw (c.to_sql.ensures, c.number_of.ensures, c.to_sql-2.ensures, c.as_str.ensures.text) at c.in_ok-rows.ensures.answers) clean in
     let is = c.deref.ensures.value ∙ mark_read key old new rows kept shown was in (
       none_found key (at mirror_cmp key kept.mirror) c.deref.result.now c.in-None.ensures.value is,
-      holds_still schema read_one_text (key_row key) old new rows (contents_of kept) read_one_is_plain shown was,
+      keeps_still read_one_text (key_row key) old new rows kept read_one_is_plain shown was,
     )
