@@ -1,0 +1,3 @@
+pub mod Orders
+pub mod Rising
+pub mod Keeping

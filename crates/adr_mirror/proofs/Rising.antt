@@ -1,0 +1,156 @@
+-- Which marks rise as evidence joins the mirror.
+use Rattle.std.proofs.Common.{◌≡◌, ℕ, suc, ◌+◌, ◌≤◌, Bool, true, false, cond, ◌||◌, ◌++◌, inl, inr, List, [], ◌∷◌, map, fold, take, length, Option, Some, None, refl, sym, ap, subst, ◌∙◌, arith, Less}
+use Rattle.std.specs.Prelude.{nat_lt, is_none}
+use Rattle.std.specs.Ordering.{is_eq}
+use Rattle.std.specs.Option.{option_map_or}
+use Rattle.std.specs.BTreeMap.{insert_entry}
+use Rattle.std.specs.BTreeSet.{insert_key}
+use Rattle.std.proofs.lemmas.Bool.Decides.{nat_tests}
+use Rattle.std.proofs.lemmas.List.{map-append}
+use Rattle.std.proofs.lemmas.List.Sums.{fold-append}
+use Rattle.sqlite_trees.specs.Tree.{IsAscending}
+use Rattle.adr_schema.specs.declared.body.Found.{Found}
+use Rattle.adr_state.specs.declared.base.Mark.{Mark}
+use Rattle.adr_state.specs.declared.keys.MirrorKey.{MirrorKey}
+use Rattle.adr_state.specs.Keys.{mirror_cmp, at}
+use Rattle.adr_state.specs.Laws.{IsRaised}
+use Rattle.adr_state.specs.Marks.{is_below}
+use Rattle.adr_state.specs.Mirror.{key_of, mark_of, evidence_of, raised, joined}
+use Rattle.adr_state.specs.Scans.{has_key}
+use Rattle.adr_state.proofs.LawLemmas.{key_order, at-insert_entry, at_put, at_same, over, equal_from_is, marks_ordered, joins_greatest}
+use Rattle.adr_state.proofs.MapLemmas.{length-insert_entry}
+use Rattle.adr_mirror.specs.declared.raise.Rise.{Rise}
+use Rattle.adr_mirror.specs.declared.raise.Rise.TheVariants.{Same, Higher, First}
+use Rattle.adr_mirror.specs.declared.risen.Risen.{Risen}
+use Rattle.adr_mirror.specs.Raises.{is_raised, is_first, rise_of, rises, noted, HaveRisen, HasRisen}
+use Rattle.adr_mirror.proofs.Orders.{length_put, any-insert_key, ascending-insert_key}
+
+abbrev pub Mirror : Type 0
+Mirror = List (MirrorKey × Mark)
+
+-- ---- one mark
+
+raised_by : (b : Bool) → is_raised (cond b Higher Same) ≡ b
+raised_by true = refl
+raised_by false = refl
+
+first_by : (b : Bool) → is_first (cond b Higher Same) ≡ false
+first_by true = refl
+first_by false = refl
+
+pub raised_tells : (known : Option Mark) (mark : Mark) → is_raised (rise_of known mark) ≡ is_below known mark
+raised_tells None mark = refl
+raised_tells (Some m) mark = raised_by (is_below (Some m) mark)
+
+pub first_tells : (known : Option Mark) (mark : Mark) → is_first (rise_of known mark) ≡ is_none known
+first_tells None mark = refl
+first_tells (Some m) mark = first_by (is_below (Some m) mark)
+
+-- no mark is above itself
+none_below : (known : Option Mark) → false ≡ option_map_or (λ m. is_below known m) known false
+none_below None = refl
+none_below (Some m) = sym (marks_ordered.never_below_itself m)
+
+-- ---- one mark after others
+
+-- what is above the mark that is known now is above the one that was known before
+above_before : (before now : Option Mark) (m : Mark) → IsRaised before now → is_below now m ≡ true → is_below before m ≡ true
+above_before before None m is h = ap (λ k. is_below k m) is
+above_before before (Some n) m (inl is) h = ap (λ k. is_below k m) is ∙ h
+above_before before (Some n) m (inr is) h = over before n m is h
+
+module _ (before now : Mirror) (e : MirrorKey × Mark) (raises : (key : MirrorKey) → IsRaised (at mirror_cmp key before) (at mirror_cmp key now)) where
+  put_rises : is_below (at mirror_cmp e.0 now) e.1 ≡ true → (key : MirrorKey) → (is_eq (mirror_cmp key e.0) || rises before now key) ≡ rises before (insert_entry mirror_cmp now e.0 e.1) key
+  put_rises below key = by (is_eq (mirror_cmp key e.0)) refl ∙ ap (λ mark. option_map_or (λ m. is_below (at mirror_cmp key before) m) mark false) (sym (at-insert_entry key_order key e.0 e.1 now))
+    where
+      by : (b : Bool) → is_eq (mirror_cmp key e.0) ≡ b → (b || rises before now key) ≡ option_map_or (λ m. is_below (at mirror_cmp key before) m) (cond b (Some e.1) (at mirror_cmp key now)) false
+      by true is = sym (ap (λ k. is_below k e.1) (at_same key_order key e.0 before (equal_from_is _ is)) ∙ above_before _ _ e.1 (raises e.0) below)
+      by false is = refl
+
+  put_risen : (keys : List MirrorKey) → is_below (at mirror_cmp e.0 now) e.1 ≡ true → HaveRisen before now keys → HaveRisen before (insert_entry mirror_cmp now e.0 e.1) (insert_key mirror_cmp keys e.0)
+  put_risen keys below have = record {
+    ordered = ascending-insert_key key_order e.0 keys have.ordered;
+    each = λ key. any-insert_key key_order key e.0 keys ∙ ap (λ b. is_eq (mirror_cmp key e.0) || b) (have.each key) ∙ put_rises below key;
+  }
+
+  -- the keys that have risen, and whether there are new ones, after one more mark
+  pub risen_more : (risen : Risen) → length before ≤ length now → IsAscending (λ a b. mirror_cmp a.0 b.0 ≡ Less) now → HasRisen before now risen
+      → HasRisen before (raised now e) (noted risen e.0 (rise_of (at mirror_cmp e.0 now) e.1))
+  risen_more risen longer up has = by (at mirror_cmp e.0 now) refl
+    where
+      put : Mirror
+      put = insert_entry mirror_cmp now e.0 e.1
+
+      long : (known : Option Mark) → at mirror_cmp e.0 now ≡ known → length put ≡ cond (is_none known) (suc (length now)) (length now)
+      long known is = length_put key_order e.0 e.1 now up ∙ ap (λ x. cond (is_none x) (suc (length now)) (length now)) is
+
+      above : (m : Mark) (b : Bool) → at mirror_cmp e.0 now ≡ Some m → is_below (Some m) e.1 ≡ b → HasRisen before (cond b put now) (noted risen e.0 (cond b Higher Same))
+      above m true is below = record { keys = put_risen risen.keys (ap (λ x. is_below x e.1) is ∙ below) has.keys; grew = has.grew ∙ ap (λ n. nat_lt (length before) n) (sym (long (Some m) is)) }
+      above m false is below = has
+
+      by : (known : Option Mark) → at mirror_cmp e.0 now ≡ known → HasRisen before (cond (is_below known e.1) put now) (noted risen e.0 (rise_of known e.1))
+      by None is = record { keys = put_risen risen.keys (ap (λ x. is_below x e.1) is) has.keys; grew = grown (length before) (length now) longer ∙ ap (λ n. nat_lt (length before) n) (sym (long None is)) }
+        where
+          grown : (m n : ℕ) → m ≤ n → true ≡ nat_lt m (suc n)
+          grown m n h = grind (arith, nat_tests)
+      by (Some m) is = above m (is_below (Some m) e.1) is refl
+
+-- ---- one mark alone
+
+-- a first mark makes the mirror longer, and no other does
+pub first_grows : (mirror : Mirror) (e : MirrorKey × Mark) → IsAscending (λ a b. mirror_cmp a.0 b.0 ≡ Less) mirror → (rise : Rise) → rise ≡ rise_of (at mirror_cmp e.0 mirror) e.1 → is_first rise ≡ nat_lt (length mirror) (length (raised mirror e))
+first_grows mirror e up rise is = ap is_first is ∙ by (at mirror_cmp e.0 mirror) refl
+  where
+    put : Mirror
+    put = insert_entry mirror_cmp mirror e.0 e.1
+
+    long : (known : Option Mark) → at mirror_cmp e.0 mirror ≡ known → length put ≡ cond (is_none known) (suc (length mirror)) (length mirror)
+    long known is = length_put key_order e.0 e.1 mirror up ∙ ap (λ x. cond (is_none x) (suc (length mirror)) (length mirror)) is
+
+    same : (m n : ℕ) → n ≡ m → false ≡ nat_lt m n
+    same m n h = grind (arith, nat_tests)
+
+    one : (m n : ℕ) → n ≡ suc m → true ≡ nat_lt m n
+    one m n h = grind (arith, nat_tests)
+
+    above : (m : Mark) (b : Bool) → at mirror_cmp e.0 mirror ≡ Some m → is_first (cond b Higher Same) ≡ nat_lt (length mirror) (length (cond b put mirror))
+    above m true is = same (length mirror) (length put) (long (Some m) is)
+    above m false is = same (length mirror) (length mirror) refl
+
+    by : (known : Option Mark) → at mirror_cmp e.0 mirror ≡ known → is_first (rise_of known e.1) ≡ nat_lt (length mirror) (length (cond (is_below known e.1) put mirror))
+    by None is = one (length mirror) (length put) (long None is)
+    by (Some m) is = above m (is_below (Some m) e.1) is
+
+-- and the key's mark is above the one that it had where it rose
+pub raised_rises : (mirror : Mirror) (e : MirrorKey × Mark) (rise : Rise) → rise ≡ rise_of (at mirror_cmp e.0 mirror) e.1 → is_raised rise ≡ rises mirror (raised mirror e) e.0
+raised_rises mirror e rise is = ap is_raised is ∙ raised_tells (at mirror_cmp e.0 mirror) e.1 ∙ by (is_below (at mirror_cmp e.0 mirror) e.1) refl
+  where
+    by : (b : Bool) → is_below (at mirror_cmp e.0 mirror) e.1 ≡ b → b ≡ option_map_or (λ m. is_below (at mirror_cmp e.0 mirror) m) (at mirror_cmp e.0 (cond b (insert_entry mirror_cmp mirror e.0 e.1) mirror)) false
+    by true is = sym is ∙ ap (λ mark. option_map_or (λ m. is_below (at mirror_cmp e.0 mirror) m) mark false) (sym (at_put key_order e.0 e.1 mirror))
+    by false is = none_below (at mirror_cmp e.0 mirror)
+
+-- ---- a page
+
+-- nothing rises where nothing comes
+pub none_risen : (mirror : Mirror) → HasRisen mirror mirror (record { keys = []; grew = false })
+none_risen mirror = record { keys = record { ordered = tt; each = λ key. none_below (at mirror_cmp key mirror) }; grew = same (length mirror) }
+  where
+    same : (n : ℕ) → false ≡ nat_lt n n
+    same n = grind (arith, nat_tests)
+
+raised_grows : (mirror : Mirror) (e : MirrorKey × Mark) (b : Bool) → length mirror ≤ length (cond b (insert_entry mirror_cmp mirror e.0 e.1) mirror)
+raised_grows mirror e true = (length-insert_entry mirror_cmp mirror e.0 e.1).grows
+raised_grows mirror e false = omega arith
+
+-- evidence takes no key away
+pub joined_grows : (mirror evidence : Mirror) → length mirror ≤ length (joined mirror evidence)
+joined_grows mirror [] = omega arith
+joined_grows mirror (e ∷ es) = omega (arith, raised_grows mirror e (is_below (at mirror_cmp e.0 mirror) e.1), joined_grows (raised mirror e) es)
+
+pub joined_raises : (mirror evidence : Mirror) (key : MirrorKey) → IsRaised (at mirror_cmp key mirror) (at mirror_cmp key (joined mirror evidence))
+joined_raises mirror evidence key = (joins_greatest mirror evidence).only_raises key
+
+-- evidence with one version more
+pub joined_more : (mirror : Mirror) (founds : List Found) (f : Found) → joined mirror (evidence_of (founds ++ f ∷ [])) ≡ raised (joined mirror (evidence_of founds)) (key_of f, mark_of f)
+joined_more mirror founds f =
+    ap (fold raised mirror) (map-append (λ (f : Found). (key_of f, mark_of f)) founds (f ∷ [])) ∙ fold-append raised mirror (evidence_of founds) ((key_of f, mark_of f) ∷ [])

@@ -1,0 +1,46 @@
+use Rattle.std.proofs.Common.{◌≡◌, ◌+◌, ◌++◌, [], ◌∷◌, take, sym, ap, subst, ◌∙◌, arith, refl}
+use Rattle.std.proofs.lemmas.List.{take_more, take_all}
+use Rattle.sqlite.specs.Held.{state}
+use Rattle.sqlite.specs.State.{HasCleanDisk}
+use Rattle.adr_state.specs.Mirror.{key_of, mark_of, evidence_of, joined}
+use Rattle.adr_sql.proofs.Transactions.{stays_itself, stays_then}
+use Rattle.adr_db.specs.Kept.{Keeps}
+use Rattle.adr_mirror.specs.Raises.{HasRisen, noted, rise_of, with_joined}
+use Rattle.adr_mirror.proofs.Rising.{none_risen, risen_more, joined_grows, joined_raises, joined_more}
+use Rattle.adr_mirror.proofs.Keeping.{mirror_rises}
+use Rattle.adr_mirror.proofs.evidence.join.Goals as goal
+
+pub founds-init : goal.founds-init
+founds-init g c = record {
+  same = refl;
+  stays = stays_itself g.S.Store c.args.tx.now.conn.now _;
+  turned = λ clean kept was. (subst (HasRisen kept.mirror kept.mirror) (sym c.new-risen.ensures) (none_risen kept.mirror), was);
+}
+
+-- one version more
+pub founds-preserved : goal.founds-preserved
+founds-preserved g c =
+    let founds = c.args.founds.now in
+    let i = c.founds.found-index in
+    let f = c.found-item.result in
+    let more : take (i + 1) founds ≡ take i founds ++ f ∷ [] = take_more founds i f c.founds-test.true ∙ ap (λ y. take i founds ++ y ∷ []) (sym c.found-item.is) in
+    let now = state g.S.Store c.founds.tx.conn.now in
+    let new = state g.S.Store c.join_one.new.tx.conn.now in
+    record {
+      same = c.join_one.ensures.same_reference ∙ c.founds.invariant.same;
+      stays = stays_then g.S.Store c.args.tx.now.conn.now c.founds.tx.conn.now c.join_one.new.tx.conn.now _ _ c.founds.invariant.stays c.in_ok-join_one.ensures.stays;
+      turned = λ clean kept was.
+          let early : HasCleanDisk now = omega (arith, c.join_one.ensures.stays.crash.clean) in
+          let so_far = c.founds.invariant.turned early kept was in
+          let before = with_joined (evidence_of (take i founds)) kept in
+          let step = c.in_ok-join_one.ensures.turns clean before so_far.1 in
+          let risen = risen_more kept.mirror before.mirror (key_of f, mark_of f) (joined_raises kept.mirror (evidence_of (take i founds))) c.founds.risen (joined_grows kept.mirror (evidence_of (take i founds))) (mirror_rises before now so_far.1) so_far.0 in
+          let is = sym (joined_more kept.mirror (take i founds) f) in
+          rw more (
+            subst (λ m. HasRisen kept.mirror m c.join_one.new.risen) is (rw step.0 risen),
+            subst (λ m. Keeps (record kept { mirror = m }) new) is step.1,
+          );
+    }
+
+pub returns-clause-turns : goal.returns-clause-turns
+returns-clause-turns g c = subst (λ l. HasCleanDisk (state g.S.Store c.founds.tx.conn.now) → (kept : _) → Keeps kept (state g.S.Store c.args.tx.now.conn.now) → HasRisen kept.mirror (joined kept.mirror (evidence_of l)) c.founds.risen × Keeps (with_joined (evidence_of l) kept) (state g.S.Store c.founds.tx.conn.now)) (take_all _ _ c.founds-test.false) c.founds.invariant.turned

@@ -1,0 +1,18 @@
+use Rattle.std.proofs.Common.{◌≡◌, take, Ok}
+use Rattle.sqlite.specs.Held.{state}
+use Rattle.sqlite.specs.State.{HasCleanDisk}
+use Rattle.adr_text.specs.declared.refusal.Refusal.{Refusal}
+use Rattle.adr_sql.specs.Calls.{Stays}
+use Rattle.adr_state.specs.Mirror.{evidence_of, joined}
+use Rattle.adr_db.specs.Kept.{Kept, Keeps}
+use Rattle.adr_mirror.specs.Raises.{HasRisen, with_joined}
+use Rattle.adr_mirror.proofs.evidence.join.Given as goal
+
+-- the versions so far have joined the mirror
+abbrev pub invariant-founds : goal.invariant-founds
+invariant-founds g l = record {
+  same : l.tx.conn.ghost_name ≡ l.fn.tx.conn.ghost_name;
+  stays : Stays g.S.Store l.fn.tx.conn.now l.tx.conn.now {T = Unit {0}} {E = Refusal} (Ok tt);
+  turned : HasCleanDisk (state g.S.Store l.tx.conn.now) → (kept : Kept) → Keeps kept (state g.S.Store l.fn.tx.conn.now)
+      → HasRisen kept.mirror (joined kept.mirror (evidence_of (take l.found-index l.founds))) l.risen × Keeps (with_joined (evidence_of (take l.found-index l.founds)) kept) (state g.S.Store l.tx.conn.now);
+}

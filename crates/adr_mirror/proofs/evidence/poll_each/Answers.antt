@@ -1,0 +1,33 @@
+use Rattle.std.proofs.Common.{◌≡◌, ◌+◌, ◌++◌, [], ◌∷◌, take, sym, ap, subst, ◌∙◌, arith}
+use Rattle.std.proofs.lemmas.List.{take_more, take_all}
+use Rattle.sqlite.specs.Held.{state}
+use Rattle.sqlite.specs.State.{HasCleanDisk}
+use Rattle.adr_sql.proofs.Transactions.{stays_then}
+use Rattle.adr_state.specs.Keys.{mirror_cmp}
+use Rattle.std.specs.BTreeSet.{insert_key}
+use Rattle.adr_db.specs.Kept.{Keeps}
+use Rattle.adr_mirror.specs.Raises.{with_keys_polled}
+use Rattle.adr_mirror.proofs.Keeping.{polled_more}
+use Rattle.adr_mirror.proofs.evidence.poll_each.Goals as goal
+
+-- one key more
+pub founds-preserved : goal.founds-preserved
+founds-preserved g c =
+    let founds = c.args.founds.now in
+    let i = c.founds.found-index in
+    let f = c.found-item.result in
+    let more : take (i + 1) founds ≡ take i founds ++ f ∷ [] = take_more founds i f c.founds-test.true ∙ ap (λ y. take i founds ++ y ∷ []) (sym c.found-item.is) in
+    let new = state g.S.Store c.put_polled.new.tx.conn.now in
+    record {
+      same = c.put_polled.ensures.same_reference ∙ c.founds.invariant.same;
+      stays = stays_then g.S.Store c.args.tx.now.conn.now c.founds.tx.conn.now c.put_polled.new.tx.conn.now _ _ c.founds.invariant.stays c.in_ok-put_polled.ensures.stays;
+      polled = λ clean kept was.
+          let early : HasCleanDisk (state g.S.Store c.founds.tx.conn.now) = omega (arith, c.put_polled.ensures.stays.crash.clean) in
+          let before = with_keys_polled (take i founds) kept in
+          let put = c.in_ok-put_polled.ensures.leaves clean before (c.founds.invariant.polled early kept was) in
+          let named = subst (λ k. Keeps (record kept { polled = insert_key mirror_cmp before.polled k }) new) c.in_ok-key_of.ensures put in
+          rw more (subst (λ keys. Keeps (record kept { polled = keys }) new) (sym (polled_more kept.polled (take i founds) f)) named);
+    }
+
+pub returns-clause-leaves : goal.returns-clause-leaves
+returns-clause-leaves g c = subst (λ l. HasCleanDisk (state g.S.Store c.founds.tx.conn.now) → (kept : _) → Keeps kept (state g.S.Store c.args.tx.now.conn.now) → Keeps (with_keys_polled l kept) (state g.S.Store c.founds.tx.conn.now)) (take_all _ _ c.founds-test.false) c.founds.invariant.polled

@@ -1,0 +1,3 @@
+pub mod Raises
+pub mod Missed
+pub mod Calls
