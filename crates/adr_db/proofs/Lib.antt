@@ -6,3 +6,4 @@ pub mod MirrorStatements
 pub mod PolledStatements
 pub mod Unseen
 pub mod Calls
+pub mod MapLemmas

@@ -2,6 +2,7 @@
 #![tactic(auto)]
 
 mod cells;
+mod maps;
 mod meta;
 mod mirror;
 mod polled;
@@ -9,6 +10,7 @@ mod probes;
 mod schema;
 mod statement;
 
+pub use maps::{read_mirror, read_polled_set};
 pub use meta::{Meta, put_meta, read_meta};
 pub use mirror::{MarkColumns, MirrorRow, count_marks, put_mark, read_mark, read_marks};
 pub use polled::{clear_polled, put_polled, read_polled};

@@ -10,3 +10,4 @@ pub mod Creations
 pub mod Transactions
 pub mod Commits
 pub mod Maps
+pub mod Rising
