@@ -17,7 +17,7 @@ use Rattle.adr_state.specs.Laws.{IsRaised}
 use Rattle.adr_state.specs.Marks.{is_below}
 use Rattle.adr_state.specs.Mirror.{key_of, mark_of, evidence_of, raised, joined}
 use Rattle.adr_state.specs.Scans.{has_key}
-use Rattle.adr_state.proofs.LawLemmas.{key_order, at-insert_entry, at_put, at_same, over, equal_from_is, marks_ordered, joins_greatest}
+use Rattle.adr_state.proofs.LawLemmas.{key_order, at-insert_entry, at_same, over, equal_from_is, marks_ordered, joins_greatest}
 use Rattle.adr_state.proofs.MapLemmas.{length-insert_entry}
 use Rattle.adr_mirror.specs.declared.raise.Rise.{Rise}
 use Rattle.adr_mirror.specs.declared.raise.Rise.TheVariants.{Same, Higher, First}
@@ -34,17 +34,9 @@ raised_by : (b : Bool) → is_raised (cond b Higher Same) ≡ b
 raised_by true = refl
 raised_by false = refl
 
-first_by : (b : Bool) → is_first (cond b Higher Same) ≡ false
-first_by true = refl
-first_by false = refl
-
 pub raised_tells : (known : Option Mark) (mark : Mark) → is_raised (rise_of known mark) ≡ is_below known mark
 raised_tells None mark = refl
 raised_tells (Some m) mark = raised_by (is_below (Some m) mark)
-
-pub first_tells : (known : Option Mark) (mark : Mark) → is_first (rise_of known mark) ≡ is_none known
-first_tells None mark = refl
-first_tells (Some m) mark = first_by (is_below (Some m) mark)
 
 -- no mark is above itself
 none_below : (known : Option Mark) → false ≡ option_map_or (λ m. is_below known m) known false
@@ -95,40 +87,6 @@ module _ (before now : Mirror) (e : MirrorKey × Mark) (raises : (key : MirrorKe
           grown m n h = grind (arith, nat_tests)
       by (Some m) is = above m (is_below (Some m) e.1) is refl
 
--- ---- one mark alone
-
--- a first mark makes the mirror longer, and no other does
-pub first_grows : (mirror : Mirror) (e : MirrorKey × Mark) → IsAscending (λ a b. mirror_cmp a.0 b.0 ≡ Less) mirror → (rise : Rise) → rise ≡ rise_of (at mirror_cmp e.0 mirror) e.1 → is_first rise ≡ nat_lt (length mirror) (length (raised mirror e))
-first_grows mirror e up rise is = ap is_first is ∙ by (at mirror_cmp e.0 mirror) refl
-  where
-    put : Mirror
-    put = insert_entry mirror_cmp mirror e.0 e.1
-
-    long : (known : Option Mark) → at mirror_cmp e.0 mirror ≡ known → length put ≡ cond (is_none known) (suc (length mirror)) (length mirror)
-    long known is = length_put key_order e.0 e.1 mirror up ∙ ap (λ x. cond (is_none x) (suc (length mirror)) (length mirror)) is
-
-    same : (m n : ℕ) → n ≡ m → false ≡ nat_lt m n
-    same m n h = grind (arith, nat_tests)
-
-    one : (m n : ℕ) → n ≡ suc m → true ≡ nat_lt m n
-    one m n h = grind (arith, nat_tests)
-
-    above : (m : Mark) (b : Bool) → at mirror_cmp e.0 mirror ≡ Some m → is_first (cond b Higher Same) ≡ nat_lt (length mirror) (length (cond b put mirror))
-    above m true is = same (length mirror) (length put) (long (Some m) is)
-    above m false is = same (length mirror) (length mirror) refl
-
-    by : (known : Option Mark) → at mirror_cmp e.0 mirror ≡ known → is_first (rise_of known e.1) ≡ nat_lt (length mirror) (length (cond (is_below known e.1) put mirror))
-    by None is = one (length mirror) (length put) (long None is)
-    by (Some m) is = above m (is_below (Some m) e.1) is
-
--- and the key's mark is above the one that it had where it rose
-pub raised_rises : (mirror : Mirror) (e : MirrorKey × Mark) (rise : Rise) → rise ≡ rise_of (at mirror_cmp e.0 mirror) e.1 → is_raised rise ≡ rises mirror (raised mirror e) e.0
-raised_rises mirror e rise is = ap is_raised is ∙ raised_tells (at mirror_cmp e.0 mirror) e.1 ∙ by (is_below (at mirror_cmp e.0 mirror) e.1) refl
-  where
-    by : (b : Bool) → is_below (at mirror_cmp e.0 mirror) e.1 ≡ b → b ≡ option_map_or (λ m. is_below (at mirror_cmp e.0 mirror) m) (at mirror_cmp e.0 (cond b (insert_entry mirror_cmp mirror e.0 e.1) mirror)) false
-    by true is = sym is ∙ ap (λ mark. option_map_or (λ m. is_below (at mirror_cmp e.0 mirror) m) mark false) (sym (at_put key_order e.0 e.1 mirror))
-    by false is = none_below (at mirror_cmp e.0 mirror)
-
 -- ---- a page
 
 -- nothing rises where nothing comes
@@ -138,6 +96,23 @@ none_risen mirror = record { keys = record { ordered = tt; each = λ key. none_b
     same : (n : ℕ) → false ≡ nat_lt n n
     same n = grind (arith, nat_tests)
 
+pub joined_raises : (mirror evidence : Mirror) (key : MirrorKey) → IsRaised (at mirror_cmp key mirror) (at mirror_cmp key (joined mirror evidence))
+joined_raises mirror evidence key = (joins_greatest mirror evidence).only_raises key
+
+-- what one mark alone makes of the mirror
+pub one_risen : (mirror : Mirror) (e : MirrorKey × Mark) → IsAscending (λ a b. mirror_cmp a.0 b.0 ≡ Less) mirror → (rise : Rise) → rise ≡ rise_of (at mirror_cmp e.0 mirror) e.1
+    → HasRisen mirror (raised mirror e) (record { keys = cond (is_raised rise) (e.0 ∷ []) []; grew = is_first rise })
+one_risen mirror e up rise is =
+    subst (HasRisen mirror (raised mirror e)) (ap (noted none e.0) (sym is) ∙ by rise) (risen_more mirror mirror e (λ key. joined_raises mirror [] key) none (omega arith) up (none_risen mirror))
+  where
+    none : Risen
+    none = record { keys = []; grew = false }
+
+    by : (rise : Rise) → noted none e.0 rise ≡ record { keys = cond (is_raised rise) (e.0 ∷ []) []; grew = is_first rise }
+    by Same = refl
+    by Higher = refl
+    by First = refl
+
 raised_grows : (mirror : Mirror) (e : MirrorKey × Mark) (b : Bool) → length mirror ≤ length (cond b (insert_entry mirror_cmp mirror e.0 e.1) mirror)
 raised_grows mirror e true = (length-insert_entry mirror_cmp mirror e.0 e.1).grows
 raised_grows mirror e false = omega arith
@@ -146,9 +121,6 @@ raised_grows mirror e false = omega arith
 pub joined_grows : (mirror evidence : Mirror) → length mirror ≤ length (joined mirror evidence)
 joined_grows mirror [] = omega arith
 joined_grows mirror (e ∷ es) = omega (arith, raised_grows mirror e (is_below (at mirror_cmp e.0 mirror) e.1), joined_grows (raised mirror e) es)
-
-pub joined_raises : (mirror evidence : Mirror) (key : MirrorKey) → IsRaised (at mirror_cmp key mirror) (at mirror_cmp key (joined mirror evidence))
-joined_raises mirror evidence key = (joins_greatest mirror evidence).only_raises key
 
 -- evidence with one version more
 pub joined_more : (mirror : Mirror) (founds : List Found) (f : Found) → joined mirror (evidence_of (founds ++ f ∷ [])) ≡ raised (joined mirror (evidence_of founds)) (key_of f, mark_of f)

@@ -1,5 +1,5 @@
 //! Evidence joins the mirror.
-ghost use Rattle.std.specs.Prelude.{◌≡◌, ◌⊎◌, false, nat_lt, ◌&&◌, length, IfOk, IfErr};
+ghost use Rattle.std.specs.Prelude.{◌≡◌, ◌⊎◌, false, nat_lt, ◌&&◌, if◌then◌else◌, [], ◌∷◌, length, IfOk, IfErr};
 ghost use Rattle.sqlite.specs.Held.{state};
 ghost use Rattle.sqlite.specs.State.{HasCleanDisk};
 ghost use Rattle.adr_text.specs.declared.refusal.Refusal.TheVariants.{LimitReached};
@@ -8,7 +8,7 @@ ghost use Rattle.adr_state.specs.Keys.{mirror_cmp, at};
 ghost use Rattle.adr_state.specs.Mirror.{key_of, mark_of, evidence_of, joined};
 ghost use Rattle.adr_db.specs.Calls.{Leaves, Finds, IsOfStore};
 ghost use Rattle.adr_machine.specs.Edits.{evidence, gone};
-ghost use Rattle.adr_mirror.specs.Raises.{HasRisen, HaveRisen, rise_of, rises, noted, with_raised, with_joined, with_keys_polled, with_polled_if_open};
+ghost use Rattle.adr_mirror.specs.Raises.{HasRisen, HaveRisen, rise_of, noted, with_raised, with_joined, with_keys_polled, with_polled_if_open};
 ghost use Rattle.adr_mirror.specs.Calls.{Turns, Makes, Refuses, RefusesBeyond};
 
 use crate::raise::raise;
@@ -171,7 +171,7 @@ pub fn gone<S: Alter>(
 ) -> Result<bool, Refusal>
     ensures same_reference { tx.new.conn.ghost_name ≡ tx.old.conn.ghost_name }
     ensures stays { Stays S.Store tx.old.conn.now tx.new.conn.now result }
-    ensures makes { Makes S.Store tx.old.conn.now tx.new.conn.now (λ base. gone limits.now base (record { kind = kind; id = id.now })) (λ before _ after rose. rose ≡ rises before.mirror after.mirror (record { kind = kind; id = id.now })) result }
+    ensures makes { Makes S.Store tx.old.conn.now tx.new.conn.now (λ base. gone limits.now base (record { kind = kind; id = id.now })) (λ before _ after rose. HaveRisen before.mirror after.mirror (if rose then record { kind = kind; id = id.now } ∷ [] else [])) result }
     ensures refuses { Refuses S.Store tx.old.conn.now tx.new.conn.now (λ base. gone limits.now base (record { kind = kind; id = id.now })) result }
     ensures refused { IfErr result (λ refusal. IsOfStore refusal ⊎ (refusal ≡ LimitReached)) }
 {

@@ -1,4 +1,4 @@
-use Rattle.std.proofs.Common.{◌≡◌, inl, inr, ◌⊎◌, false, cond, None, length, sym, ap, subst, ◌∙◌, arith}
+use Rattle.std.proofs.Common.{◌≡◌, inl, inr, ◌⊎◌, cond, None, [], ◌∷◌, sym, subst, ◌∙◌, arith}
 use Rattle.sqlite.specs.Held.{state}
 use Rattle.sqlite.specs.State.{HasCleanDisk}
 use Rattle.adr_text.specs.declared.refusal.Refusal.TheVariants.{LimitReached}
@@ -7,8 +7,8 @@ use Rattle.adr_state.specs.declared.keys.MirrorKey.{MirrorKey}
 use Rattle.adr_state.specs.Mirror.{raised}
 use Rattle.adr_db.specs.Bases.{kept_of}
 use Rattle.adr_machine.specs.Edits.{gone}
-use Rattle.adr_mirror.specs.Raises.{with_raised}
-use Rattle.adr_mirror.proofs.Rising.{first_grows, raised_rises}
+use Rattle.adr_mirror.specs.Raises.{HaveRisen, with_raised}
+use Rattle.adr_mirror.proofs.Rising.{one_risen}
 use Rattle.adr_mirror.proofs.Keeping.{mirror_rises, handed_on, store_refuses, own_refuses, is_set, is_beyond}
 use Rattle.adr_mirror.proofs.evidence.gone.Goals as goal
 
@@ -20,10 +20,10 @@ returns-in_err-check_keys-clause-refuses g c clean =
     let key : MirrorKey = record { kind = c.args.kind; id = c.args.id.now } in
     handed_on _ c.from_residual-in_err-check_keys.result c.in_err-check_keys.field-0.0 c.from_residual-in_err-check_keys.ensures.1 (λ base was.
     let turned = (rw c.in_ok-key.ensures at c.in_ok-rise.ensures.turns) early (kept_of base) was in
-    let grew = c.is_first.ensures ∙ first_grows base.mirror (key, Dead) (mirror_rises (kept_of base) (state g.S.Store c.args.tx.now.conn.now) was) c.in_ok-rise.rise turned.0 in
+    let risen = one_risen base.mirror (key, Dead) (mirror_rises (kept_of base) (state g.S.Store c.args.tx.now.conn.now) was) c.in_ok-rise.rise turned.0 in
     elim (c.in_err-check_keys.ensures.beyond clean) [
       | inl of_store ↦ store_refuses c.in_err-check_keys.field-0.0 _ of_store
-      | inr own ↦ let set = is_beyond limits base (raised base.mirror (key, Dead)) c.is_first.result grew (own.1 (with_raised (key, Dead) (kept_of base)) turned.1) in
+      | inr own ↦ let set = is_beyond limits base (raised base.mirror (key, Dead)) c.is_first.result (c.is_first.ensures ∙ risen.grew) (own.1 (with_raised (key, Dead) (kept_of base)) turned.1) in
           own_refuses c.in_err-check_keys.field-0.0 LimitReached (gone limits base key) own.0 set set
     ])
 
@@ -33,6 +33,12 @@ returns-clause-makes g c clean base was =
     let key : MirrorKey = record { kind = c.args.kind; id = c.args.id.now } in
     let mirror = raised base.mirror (key, Dead) in
     let turned = (rw c.in_ok-key.ensures at c.in_ok-rise.ensures.turns) early (kept_of base) was in
-    let grew = c.is_first.ensures ∙ first_grows base.mirror (key, Dead) (mirror_rises (kept_of base) (state g.S.Store c.args.tx.now.conn.now) was) c.in_ok-rise.rise turned.0 in
+    let risen = one_risen base.mirror (key, Dead) (mirror_rises (kept_of base) (state g.S.Store c.args.tx.now.conn.now) was) c.in_ok-rise.rise turned.0 in
     let within = c.in_ok-check_keys.ensures.finds clean (with_raised (key, Dead) (kept_of base)) turned.1 in
-    (None, record base { mirror = mirror }, is_set c.args.limits.now base mirror c.is_first.result grew within.0, within.1, c.is_raised.ensures ∙ raised_rises base.mirror (key, Dead) c.in_ok-rise.rise turned.0)
+    (
+      None,
+      record base { mirror = mirror },
+      is_set c.args.limits.now base mirror c.is_first.result (c.is_first.ensures ∙ risen.grew) within.0,
+      within.1,
+      subst (λ b. HaveRisen base.mirror mirror (cond b (key ∷ []) [])) (sym c.is_raised.ensures) risen.keys,
+    )
