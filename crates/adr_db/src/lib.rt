@@ -16,3 +16,4 @@ pub use mirror::{MarkColumns, MirrorRow, count_marks, put_mark, read_mark, read_
 pub use polled::{clear_polled, put_polled, read_polled};
 pub use probes::read_unseen;
 pub use schema::create;
+pub use statement::refusal_of;

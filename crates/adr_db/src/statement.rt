@@ -9,7 +9,7 @@ use sqlite::types::ValueRef;
 use sqlite::{Alter, Error, ErrorCode, Row, Transaction};
 
 /// Want of memory, or the store's refusal.
-pub(crate) fn refusal_of(error: Error) -> Refusal
+pub fn refusal_of(error: Error) -> Refusal
     ensures { IsOfStore result }
 {
     match error {

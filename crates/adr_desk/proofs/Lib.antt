@@ -1,0 +1,3 @@
+pub mod Kept
+pub mod Transactions
+pub mod Edited

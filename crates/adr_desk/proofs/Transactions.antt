@@ -1,0 +1,48 @@
+-- A transaction from its begin to its commit.
+use Rattle.std.proofs.Common.{◌≡◌, true, Ok, Err, Result, IfOk, OnOk, Option}
+use Rattle.sqlite_trees.specs.Tree.{Trees}
+use Rattle.sqlite.specs.Store.{Ghosts}
+use Rattle.sqlite.specs.Held.{Held, state}
+use Rattle.sqlite.specs.State.{State, HasCleanDisk}
+use Rattle.adr_text.specs.declared.refusal.Refusal.{Refusal}
+use Rattle.adr_state.specs.declared.base.Base.{Base}
+use Rattle.adr_sql.specs.Calls.{Stays, Commits}
+use Rattle.adr_sql.proofs.Commits.{committed}
+use Rattle.adr_sql.proofs.Transactions.{holds_now}
+use Rattle.adr_db.specs.Tables.{schema}
+use Rattle.adr_db.specs.Kept.{contents_of}
+use Rattle.adr_db.specs.Bases.{kept_of, HoldsBase}
+use Rattle.adr_desk.specs.declared.edit.Edit.{Edit}
+use Rattle.adr_desk.specs.Edits.{told}
+use Rattle.adr_desk.specs.Transactions.{Ends}
+
+-- what is held stays, where all is as it was
+pub held_now : (base : Base) (a b : State) → b.now ≡ a.now → HoldsBase base a → HoldsBase base b
+held_now base a b same was = record { rows = holds_now schema (contents_of (kept_of base)) a b same was.rows; marks = was.marks }
+
+module _ {S : Type 0} (g : Ghosts S) (old last end : Held S) where
+  abbrev begun : Held S
+  begun = record old { in_transaction = true }
+
+  pub ends_whole : {A F T E : Type 0} (x : A) (r : Result T E) (IsDone : State → Type 0) (IsLeft : Trees → Type 0)
+      → Stays g begun last {T = A} {E = F} (Ok x)
+      → (HasCleanDisk (state g last) → IsDone (state g last))
+      → ((a b : State) → b.now ≡ a.now → IsDone a → IsDone b)
+      → ((s : State) → IsDone s → IsLeft s.now.trees)
+      → Ends g last end r
+      → Commits g old end IsDone IsLeft r
+  ends_whole {T = T} x (Ok y) IsDone IsLeft stays made moves leaves ends =
+      let it = committed g old last end {T = T} x (Ok y) IsDone IsLeft stays made moves leaves ends.over ends.ok (λ clean. tt) ends.crash in
+      record { done = it.done; undone = λ clean is_open. tt; over = it.over; crash = it.crash }
+  ends_whole {T = T} x (Err e) IsDone IsLeft stays made moves leaves ends =
+      let it = committed g old last end {T = T} x (Err ends.err.0) IsDone IsLeft stays made moves leaves ends.over (λ clean. tt) ends.err.1 ends.crash in
+      record { done = λ clean. tt; undone = it.undone; over = it.over; crash = it.crash }
+
+pub told_ok : (r : Result Unit Refusal) (edit : Option Edit) (P : Option Edit → Type 0) → OnOk r (P edit) → IfOk (told r edit) P
+told_ok (Ok u) edit P h = h
+told_ok (Err e) edit P h = tt
+
+module _ {S : Type 0} (g : Ghosts S) (old end : Held S) where
+  pub told_whole : (r : Result Unit Refusal) (edit : Option Edit) (IsDone : State → Type 0) (IsLeft : Trees → Type 0) → Commits g old end IsDone IsLeft r → Commits g old end IsDone IsLeft (told r edit)
+  told_whole (Ok u) edit IsDone IsLeft h = record { done = h.done; undone = λ clean is_open. tt; over = h.over; crash = h.crash }
+  told_whole (Err e) edit IsDone IsLeft h = record { done = λ clean. tt; undone = h.undone; over = h.over; crash = h.crash }

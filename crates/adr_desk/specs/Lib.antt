@@ -1,0 +1,4 @@
+pub mod Transactions
+pub mod Images
+pub mod Desks
+pub mod Edits

@@ -1,0 +1,28 @@
+//! The tables of a new node, made in one transaction.
+ghost use Rattle.std.specs.Prelude.{◌≡◌, false, [], IfErr};
+ghost use Rattle.sqlite.specs.Held.{state};
+ghost use Rattle.adr_sql.specs.Contents.{Holds, StoresEach};
+ghost use Rattle.adr_sql.specs.Schemas.{no_schema};
+ghost use Rattle.adr_sql.specs.Calls.{Commits};
+ghost use Rattle.adr_db.specs.Tables.{schema};
+ghost use Rattle.adr_db.specs.Kept.{Keeps, nothing_kept, contents_of};
+ghost use Rattle.adr_db.specs.Calls.{IsOfStore};
+
+use crate::frame::{begin, commit};
+use adr_db::create;
+use adr_text::Refusal;
+use sqlite::{Alter, Connection};
+
+/// Makes the tables in an empty database: all of them, or none.
+pub(crate) fn create_in<S: Alter>(conn: &mut Connection<S>) -> Result<(), Refusal>
+    requires { conn.old.in_transaction ≡ false }
+    ensures whole { Commits S.Store conn.old conn.new
+        (λ s. Holds no_schema [] (state S.Store conn.old) → Keeps nothing_kept s)
+        (λ trees. Holds no_schema [] (state S.Store conn.old) → StoresEach schema.tables trees (contents_of nothing_kept))
+        result }
+    ensures refused { IfErr result IsOfStore }
+{
+    let mut tx = begin(conn);
+    create(&mut tx)?;
+    commit(tx)
+}

@@ -1,0 +1,94 @@
+//! The desk.
+ghost use Rattle.std.specs.Prelude.{◌≡◌, false, Option, Ok, is_none, IsTrue, IfOk, IfErr, OnOk, OnErr};
+ghost use Rattle.sqlite.specs.State.{HasCleanDisk, Survives};
+ghost use Rattle.sqlite.specs.Steps.{over_memory};
+ghost use Rattle.adr_state.specs.declared.base.Base.{Base};
+ghost use Rattle.adr_state.specs.States.{empty};
+ghost use Rattle.adr_db.specs.Bases.{HoldsBase};
+ghost use Rattle.adr_db.specs.Calls.{IsOfStore};
+ghost use Rattle.adr_machine.specs.declared.answer.Answer.{Answer};
+ghost use Rattle.adr_machine.specs.Steps.{IsRefusalOf};
+ghost use Rattle.adr_desk.specs.Images.{image_of};
+ghost use Rattle.adr_desk.specs.Edits.{is_without_table, table_edit, IsAnswer, LeftEdited};
+
+use crate::create::create_in;
+use crate::edit::{Edit, edit_in};
+use crate::image::image_in;
+use adr_machine::Command;
+use adr_state::{Image, Settings};
+use adr_text::{Moment, Refusal};
+use sqlite::{Alter, Connection, MemStore};
+use std::alloc::Global;
+
+/// Keeps the machine's state in a SQL database. Between calls no transaction stands.
+#[derive(Drop)]
+pub struct SqlDesk<S: Alter> {
+    settings: Settings,
+    conn: Connection<S>,
+    alloc: Global,
+    ghost over: { conn.in_transaction ≡ false },
+}
+
+impl SqlDesk<MemStore> {
+    ghost use Rattle.adr_desk.specs.Desks.{shown, settings_of};
+
+    /// A desk in memory, with the state at first.
+    pub fn open_memory(alloc: Global, settings: Settings) -> Result<SqlDesk<MemStore>, Refusal>
+        ensures state { IfOk result (λ desk. HoldsBase empty.base (shown over_memory desk)) }
+        ensures is_open { IfOk result (λ desk. IsTrue (shown over_memory desk).is_open) }
+        ensures committed { IfOk result (λ desk. (shown over_memory desk).committed ≡ (shown over_memory desk).now) }
+        ensures settings { IfOk result (λ desk. settings_of desk ≡ settings) }
+        ensures refused { IfErr result IsOfStore }
+    {
+        let mut conn = Connection::open_in_memory(alloc)?;
+        create_in(&mut conn)?;
+        Ok(SqlDesk {
+            settings,
+            conn,
+            alloc,
+        })
+    }
+}
+
+impl<S: Alter> SqlDesk<S> {
+    ghost use Rattle.adr_desk.specs.Desks.{shown, settings_of};
+
+    /// What the desk is set to.
+    pub fn settings(&self) -> &Settings
+        ensures { result.now ≡ settings_of self.now }
+    {
+        &self.settings
+    }
+
+    /// The whole state, which stays. What has no table yet is empty.
+    pub fn image(&mut self) -> Result<Image, Refusal>
+        ensures image { HasCleanDisk (shown S.Store self.new) → IfOk result (λ image. (base : Base) → HoldsBase base (shown S.Store self.old) → image ≡ image_of base) }
+        ensures held { HasCleanDisk (shown S.Store self.new) → IsTrue (shown S.Store self.new).is_open → (base : Base) → HoldsBase base (shown S.Store self.old) → HoldsBase base (shown S.Store self.new) }
+        ensures refused { IfErr result IsOfStore }
+        ensures same_settings { settings_of self.new ≡ settings_of self.old }
+        ensures crash { Survives (shown S.Store self.old) (shown S.Store self.new) (λ _. ⊥) }
+    {
+        image_in(self.alloc, &mut self.conn)
+    }
+
+    /// Applies a command to the tables, in one transaction, and answers what it made of them. None is
+    /// answered for a command whose objects have no table yet; it changes nothing. A refusal leaves all
+    /// as it was, where the store is open.
+    pub fn edit(&mut self, now: Moment, command: &Command) -> Result<Option<Edit>, Refusal>
+        ensures makes { HasCleanDisk (shown S.Store self.new) → IfOk result (λ edit. (base : Base) → HoldsBase base (shown S.Store self.old) → (said : Option Answer) × (after : Base) × (table_edit (settings_of self.old).limits now command.now base ≡ Ok (said, after)) × HoldsBase after (shown S.Store self.new) × IsAnswer base said after edit) }
+        ensures committed { HasCleanDisk (shown S.Store self.new) → OnOk result ((shown S.Store self.new).committed ≡ (shown S.Store self.new).now) }
+        ensures without { IfOk result (λ edit. is_none edit ≡ is_without_table command.now) }
+        ensures refused { HasCleanDisk (shown S.Store self.new) → IfErr result (λ refusal. (base : Base) → HoldsBase base (shown S.Store self.old) → IsRefusalOf refusal (table_edit (settings_of self.old).limits now command.now base)) }
+        ensures unchanged { HasCleanDisk (shown S.Store self.new) → IsTrue (shown S.Store self.new).is_open → OnErr result ((base : Base) → HoldsBase base (shown S.Store self.old) → HoldsBase base (shown S.Store self.new)) }
+        ensures same_settings { settings_of self.new ≡ settings_of self.old }
+        ensures crash { Survives (shown S.Store self.old) (shown S.Store self.new) (λ trees. (base : Base) → HoldsBase base (shown S.Store self.old) → LeftEdited (table_edit (settings_of self.old).limits now command.now) base trees) }
+    {
+        edit_in(
+            self.alloc,
+            &mut self.conn,
+            &self.settings.limits,
+            now,
+            command,
+        )
+    }
+}

@@ -1,0 +1,11 @@
+//! The desk over SQL: the machine's state in tables, one transaction a call.
+#![tactic(auto)]
+
+mod create;
+mod desk;
+mod edit;
+mod frame;
+mod image;
+
+pub use desk::SqlDesk;
+pub use edit::Edit;
