@@ -1,8 +1,13 @@
 -- How the maps of the machine are kept, as rows of SQL's values.
-use Rattle.std.specs.Prelude.{ℕ, pos, if◌then◌else◌, [], ◌∷◌, ◌++◌, string_bytes}
+use Rattle.std.specs.Prelude.{ℕ, pos, ◌==◌, if◌then◌else◌, [], ◌∷◌, ◌++◌, string_bytes, Result, Ok, Err}
 use Rattle.sqlite.specs.declared.types.Value.TheVariants.{Int, Text}
 use Rattle.sqlite.specs.Order.{Row, column}
+use Rattle.adr_text.specs.declared.refusal.Refusal.{Refusal}
+use Rattle.adr_text.specs.declared.refusal.Refusal.TheVariants.{OutOfMemory, Store}
+use Rattle.adr_text.specs.Moments.{moment_at}
+use Rattle.adr_schema.specs.declared.body.Body.{Body}
 use Rattle.adr_schema.specs.Canonical.{canonical_text}
+use Rattle.adr_schema.specs.ReadBack.{canonical_of}
 use Rattle.adr_schema.specs.declared.kind.Kind.{Kind}
 use Rattle.adr_schema.specs.declared.kind.Kind.TheVariants.{Program, Event}
 use Rattle.adr_state.specs.declared.base.Mark.{Mark}
@@ -48,6 +53,22 @@ abbrev pub mark_row : MirrorKey × Mark → Row
 mark_row e = key_row e.0 ++ mark_columns e.1
 
 -- ---- rows as they are read, by their columns
+
+-- what is read of a column: a value that no call wrote is the store's refusal
+abbrev pub as_stored : {A : Type 0} → Result A Refusal → Result A Refusal
+as_stored (Ok x) = Ok x
+as_stored (Err OutOfMemory) = Err OutOfMemory
+as_stored (Err e) = Err Store
+
+abbrev pub live_from : Result ℕ Refusal → Result Body Refusal → Result Mark Refusal
+live_from (Ok moment) (Ok body) = Ok (Live moment body)
+live_from (Ok moment) (Err e) = Err Store
+live_from (Err e) body = Err Store
+
+-- the mark that the columns stand for: they have no other state, no moment after the last one, and no text but a canonical one
+abbrev pub mark_from : MarkColumns → Result Mark Refusal
+mark_from columns =
+    if columns.state == 1 then live_from (moment_at (pos columns.moment)) (canonical_of (string_bytes columns.body)) else (if columns.state == 2 then Ok Dead else Err Store)
 
 abbrev pub meta_cells : Row → Row
 meta_cells row = column row 0 ∷ column row 1 ∷ column row 2 ∷ column row 3 ∷ column row 4 ∷ column row 5 ∷ column row 6 ∷ column row 7 ∷ []

@@ -2,55 +2,43 @@
 ghost use Rattle.std.specs.Prelude.{◌≡◌, Ok, List, [], map, fold, IfOk, OnOk, IfErr};
 ghost use Rattle.std.specs.BTreeMap.{insert_entry};
 ghost use Rattle.std.specs.BTreeSet.{insert_key};
-ghost use Rattle.adr_schema.specs.ReadBack.{canonical_of};
+ghost use Rattle.adr_text.specs.Refusals.{Gives};
 ghost use Rattle.adr_state.specs.declared.base.Mark.{Mark};
 ghost use Rattle.adr_state.specs.declared.keys.MirrorKey.{MirrorKey};
 ghost use Rattle.adr_state.specs.Keys.{mirror_cmp, map_of};
 ghost use Rattle.adr_sql.specs.Calls.{Stays};
-ghost use Rattle.adr_db.specs.Rows.{mark_columns, mark_row, columns_row, mirror_row};
-ghost use Rattle.adr_db.specs.Kept.{IsMark, AreMarks};
+ghost use Rattle.adr_db.specs.Rows.{mark_row, mirror_row, as_stored, mark_from};
+ghost use Rattle.adr_db.specs.Kept.{AreMarks};
 ghost use Rattle.adr_db.specs.Calls.{Finds, IsOfStore};
 
 use crate::mirror::{MarkColumns, MirrorRow, read_marks};
 use crate::polled::read_polled;
-use adr_schema::{Body, read_canonical};
+use adr_schema::read_canonical;
 use adr_state::{Mark, MirrorKey, Polled};
 use adr_text::{Moment, Refusal, Rows, Table};
 use sqlite::{Alter, Transaction};
 use std::alloc::Global;
 
-// A count after the last moment is the store's refusal.
-fn moment_of(nanos: u64) -> Result<Moment, Refusal>
-    ensures moment { IfOk result (λ moment. moment ≡ nanos) }
-    ensures refused { IfErr result IsOfStore }
+// A value that no call of this crate wrote is the store's refusal.
+fn as_stored<T>(read: Result<T, Refusal>) -> Result<T, Refusal>
+    ensures { result ≡ as_stored read }
 {
-    match Moment::at(nanos) {
-        Ok(moment) => Ok(moment),
-        Err(_) => Err(Refusal::Store),
-    }
-}
-
-// A text that is no canonical text is the store's refusal.
-fn body_of(alloc: Global, text: &str) -> Result<Body, Refusal>
-    ensures body { IfOk result (λ body. canonical_of text.now ≡ Ok body) }
-    ensures refused { IfErr result IsOfStore }
-{
-    match read_canonical(alloc, text) {
-        Ok(body) => Ok(body),
+    match read {
+        Ok(value) => Ok(value),
         Err(Refusal::OutOfMemory) => Err(Refusal::OutOfMemory),
         Err(_) => Err(Refusal::Store),
     }
 }
 
-/// The mark that is kept as these columns.
-fn mark_of(alloc: Global, columns: &MarkColumns) -> Result<Mark, Refusal>
-    ensures mark { IfOk result (λ mark. (kept : Mark) → IsMark kept → columns_row columns.now ≡ mark_columns kept → mark ≡ kept) }
+/// The mark that the columns stand for.
+fn mark_from(alloc: Global, columns: &MarkColumns) -> Result<Mark, Refusal>
+    ensures mark { Gives (λ mark. mark) result (mark_from columns.now) }
     ensures refused { IfErr result IsOfStore }
 {
     match columns.state {
         1 => Ok(Mark::Live(
-            moment_of(columns.moment)?,
-            body_of(alloc, columns.body.as_str())?,
+            as_stored(Moment::at(columns.moment))?,
+            as_stored(read_canonical(alloc, columns.body.as_str()))?,
         )),
         2 => Ok(Mark::Dead),
         _ => Err(Refusal::Store),
@@ -59,10 +47,10 @@ fn mark_of(alloc: Global, columns: &MarkColumns) -> Result<Mark, Refusal>
 
 /// Puts the key and the mark that are kept as a row.
 fn put_row(alloc: Global, marks: &mut Table<MirrorKey, Mark>, row: MirrorRow) -> Result<(), Refusal>
-    ensures puts { OnOk result ((e : MirrorKey × Mark) → IsMark e.1 → mirror_row row ≡ mark_row e → marks.new ≡ insert_entry mirror_cmp marks.old e.0 e.1) }
+    ensures puts { OnOk result ((mark : Mark) × (mark_from row.mark ≡ Ok mark) × (marks.new ≡ insert_entry mirror_cmp marks.old row.key mark)) }
     ensures refused { IfErr result IsOfStore }
 {
-    let mark = mark_of(alloc, &row.mark)?;
+    let mark = mark_from(alloc, &row.mark)?;
     marks.put(row.key, mark)?;
     Ok(())
 }
