@@ -26,13 +26,13 @@ pub struct SqlDesk<S: Alter> {
     settings: Settings,
     conn: Connection<S>,
     alloc: Global,
-    ghost over: { conn.in_transaction ≡ false },
+    ghost idle: { conn.in_transaction ≡ false },
 }
 
 impl SqlDesk<MemStore> {
     ghost use Rattle.adr_desk.specs.Desks.{shown, settings_of};
 
-    /// A desk in memory, with the state at first.
+    /// A desk in memory, with the state at first, or want of memory or the store's refusal.
     pub fn open_memory(alloc: Global, settings: Settings) -> Result<SqlDesk<MemStore>, Refusal>
         ensures state { IfOk result (λ desk. HoldsBase empty.base (shown over_memory desk)) }
         ensures is_open { IfOk result (λ desk. IsTrue (shown over_memory desk).is_open) }
@@ -60,7 +60,7 @@ impl<S: Alter> SqlDesk<S> {
         &self.settings
     }
 
-    /// The whole state, which stays. What has no table yet is empty.
+    /// The whole state, which stays, or want of memory or the store's refusal. What has no table yet is empty.
     pub fn image(&mut self) -> Result<Image, Refusal>
         ensures image { HasCleanDisk (shown S.Store self.new) → IfOk result (λ image. (base : Base) → HoldsBase base (shown S.Store self.old) → image ≡ image_of base) }
         ensures held { HasCleanDisk (shown S.Store self.new) → IsTrue (shown S.Store self.new).is_open → (base : Base) → HoldsBase base (shown S.Store self.old) → HoldsBase base (shown S.Store self.new) }

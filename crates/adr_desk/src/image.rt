@@ -56,7 +56,8 @@ fn read_image<S: Alter>(alloc: Global, tx: &mut Transaction<'_, S>) -> Result<Im
     Ok(image_with(alloc, mirror, scan, meta.serial))
 }
 
-/// The whole state, which stays.
+/// The whole state, which stays. The transaction is dropped and not committed, so a crash leaves what it
+/// could before.
 pub(crate) fn image_in<S: Alter>(alloc: Global, conn: &mut Connection<S>) -> Result<Image, Refusal>
     requires { conn.old.in_transaction ≡ false }
     ensures finds { HasCleanDisk (state S.Store conn.new) → IfOk result (λ image. (kept : Kept) → Keeps kept (state S.Store conn.old) → image ≡ image_kept kept) }
