@@ -21,12 +21,15 @@ mod play;
 mod reader;
 mod report;
 mod row;
+mod same;
 mod texts;
+mod twin;
 
 use crate::play::play;
-use crate::report::report;
+use crate::report::{report, report_twin};
 use crate::row::{Row, read_row};
 use crate::texts::{read_texts, run_texts};
+use crate::twin::Twin;
 use adr_machine::PlainDesk;
 use adr_state::Settings;
 use adr_text::Name;
@@ -65,19 +68,33 @@ fn files_of<R: Files + AllocGlobal + Clone + Drop>(
     Ok(names)
 }
 
-/// A plain desk for a row.
-fn plain_desk(alloc: Global, row: &Row) -> Result<PlainDesk> {
+/// What a desk is set to for a row.
+fn settings(alloc: Global, row: &Row) -> Result<Settings> {
     let client = Name::new(alloc, CLIENT)?;
     let limits = row.limits;
-    Ok(PlainDesk::new(alloc, Settings { client, limits }))
+    Ok(Settings { client, limits })
+}
+
+fn run_plain<R: Print + AllocGlobal>(rt: &R, row: &Row) -> Result<bool> {
+    let alloc = rt.alloc();
+    let mut desk = PlainDesk::new(alloc, settings(alloc, row)?);
+    let played = play(alloc, &mut desk, row);
+    report(rt, "plain", row, &played)
+}
+
+/// Runs a row with the tables beside the plain desk, and compares what they hold after each command.
+fn run_tables<R: Print + AllocGlobal>(rt: &R, row: &Row) -> Result<bool> {
+    let alloc = rt.alloc();
+    let mut desk = Twin::new(alloc, settings(alloc, row)?, settings(alloc, row)?)?;
+    let played = play(alloc, &mut desk, row);
+    report_twin(rt, row, &played, desk.apart)
 }
 
 /// Runs a row on each desk, prints how it went, and answers whether it passed on all.
 fn run_row<R: Print + AllocGlobal>(rt: &R, row: &Row) -> Result<bool> {
-    let alloc = rt.alloc();
-    let mut desk = plain_desk(alloc, row)?;
-    let played = play(alloc, &mut desk, row);
-    report(rt, "plain", row, &played)
+    let plain = run_plain(rt, row)?;
+    let tables = run_tables(rt, row)?;
+    Ok(plain && tables)
 }
 
 fn run_rows<R: Files + Print + AllocGlobal + Clone + Drop>(rt: &R, folder: &str) -> Result<bool> {
@@ -90,7 +107,10 @@ fn run_rows<R: Files + Print + AllocGlobal + Clone + Drop>(rt: &R, folder: &str)
     Ok(passed)
 }
 
-fn run_tables<R: Files + Print + AllocGlobal + Clone + Drop>(rt: &R, folder: &str) -> Result<bool> {
+fn run_texts_of<R: Files + Print + AllocGlobal + Clone + Drop>(
+    rt: &R,
+    folder: &str,
+) -> Result<bool> {
     let mut passed = true;
     for file in files_of(rt, folder, ".texts")? {
         let bytes = fs::read(rt, file.as_str())?;
@@ -103,8 +123,8 @@ fn run_tables<R: Files + Print + AllocGlobal + Clone + Drop>(rt: &R, folder: &st
 fn run_all<R: Env + Files + Print + AllocGlobal + Clone + Drop>(rt: &R) -> Result<bool> {
     let folder = folder(rt)?;
     let rows = run_rows(rt, folder.as_str())?;
-    let tables = run_tables(rt, folder.as_str())?;
-    Ok(rows && tables)
+    let texts = run_texts_of(rt, folder.as_str())?;
+    Ok(rows && texts)
 }
 
 fn main(rt: HostRuntime) -> Result<ExitCode> {

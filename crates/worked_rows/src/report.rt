@@ -28,3 +28,14 @@ pub fn report<R: Print>(rt: &R, desk: &str, row: &Row, played: &Played) -> Resul
     }
     Ok(false)
 }
+
+/// Prints how a row went with the tables beside the plain desk, and answers whether it passed.
+pub fn report_twin<R: Print>(rt: &R, row: &Row, played: &Played, apart: u64) -> Result<bool> {
+    let name = &row.name;
+    if played.passed(row) && apart == 0 {
+        println!(rt; "row {name} tables passed")?;
+        return Ok(true);
+    }
+    println!(rt; "row {name} tables failed, {apart} commands left something else")?;
+    Ok(false)
+}

@@ -1,0 +1,104 @@
+//! A plain desk, and a desk over SQL that is told the same commands.
+use crate::same::is_same;
+use adr_desk::{Edit, SqlDesk};
+use adr_machine::{Answer, Command, Desk, PlainDesk, Query};
+use adr_state::{Image, Settings, State};
+use adr_text::{Moment, Refusal};
+use sqlite::MemStore;
+use std::alloc::Global;
+
+/// A plain desk that answers, and the tables beside it.
+#[derive(Drop)]
+pub struct Twin {
+    alloc: Global,
+    plain: PlainDesk,
+    tables: SqlDesk<MemStore>,
+    /// How many commands left another mirror or scan in the tables, or were answered otherwise.
+    pub apart: u64,
+}
+
+impl Twin {
+    /// Both with the state at first.
+    pub fn new(alloc: Global, settings: Settings, again: Settings) -> Result<Twin, Refusal> {
+        Ok(Twin {
+            alloc,
+            plain: PlainDesk::new(alloc, settings),
+            tables: SqlDesk::open_memory(alloc, again)?,
+            apart: 0,
+        })
+    }
+}
+
+/// Whether the tables answered as the machine does, so far as they answer.
+fn agrees(said: &Result<Answer, Refusal>, edit: &Result<Option<Edit>, Refusal>) -> bool {
+    match (said, edit) {
+        (_, Ok(None)) => true,
+        (Ok(Answer::Changes(_)), Ok(Some(Edit::Raised(_)))) => true,
+        (Ok(Answer::Done), Ok(Some(Edit::Done))) => true,
+        (Ok(Answer::Probes(keys)), Ok(Some(Edit::Probes(others)))) => {
+            keys.as_slice() == others.as_slice()
+        }
+        (Err(refusal), Err(other)) => refusal == other,
+        _ => false,
+    }
+}
+
+/// Tells the tables the command, and answers whether they hold the same then.
+fn follow(
+    alloc: Global,
+    tables: &mut SqlDesk<MemStore>,
+    now: Moment,
+    command: &Command,
+    said: &Result<Answer, Refusal>,
+    image: &Image,
+) -> Result<bool, Refusal> {
+    let edit = tables.edit(now, command);
+    if !agrees(said, &edit) {
+        return Ok(false);
+    }
+    let other = tables.image()?;
+    Ok(is_same(alloc, image, &other)?)
+}
+
+fn has_followed(
+    alloc: Global,
+    tables: &mut SqlDesk<MemStore>,
+    now: Moment,
+    command: &Command,
+    said: &Result<Answer, Refusal>,
+    image: &Result<Image, Refusal>,
+) -> bool {
+    match image {
+        Ok(image) => follow(alloc, tables, now, command, said, image) == Ok(true),
+        Err(_) => false,
+    }
+}
+
+impl Desk for Twin {
+    ghost state = { λ twin. ⟦<PlainDesk as Desk>⟧.state twin.plain };
+
+    ghost settings = { λ twin. ⟦<PlainDesk as Desk>⟧.settings twin.plain };
+
+    ghost is_sound = { λ twin. ⟦<PlainDesk as Desk>⟧.is_sound twin.plain };
+
+    fn apply(&mut self, now: Moment, command: &Command) -> Result<Answer, Refusal> {
+        let said = self.plain.apply(now, command);
+        let image = self.plain.image();
+        if !has_followed(self.alloc, &mut self.tables, now, command, &said, &image) {
+            self.apart = self.apart.saturating_add(1);
+        }
+        said
+    }
+
+    fn ask(&mut self, query: &Query) -> Result<Answer, Refusal> {
+        self.plain.ask(query)
+    }
+
+    fn image(&mut self) -> Result<State, Refusal> {
+        self.plain.image()
+    }
+
+    fn settings(&self) -> &Settings {
+        self.plain.settings()
+    }
+}
