@@ -1,8 +1,8 @@
 -- A command on a lent transaction, and then its commit.
-use Rattle.std.proofs.Common.{◌≡◌, ℕ, true, Ok, Err, Result, IfOk, OnOk, Option, Some, arith, refl, sym, subst}
+use Rattle.std.proofs.Common.{◌≡◌, ℕ, true, Ok, Result, Option, arith, refl, subst}
 use Rattle.sqlite.specs.Store.{Ghosts}
 use Rattle.sqlite.specs.Held.{Held, state}
-use Rattle.sqlite.specs.State.{State, HasCleanDisk}
+use Rattle.sqlite.specs.State.{HasCleanDisk}
 use Rattle.adr_text.specs.declared.refusal.Refusal.{Refusal}
 use Rattle.adr_state.specs.declared.base.Base.{Base}
 use Rattle.adr_state.specs.declared.limits.Limits.{Limits}

@@ -1,5 +1,5 @@
 -- From what is kept to the base that it is kept of.
-use Rattle.std.proofs.Common.{◌≡◌, ◌⊎◌, inl, inr, Bool, true, false, cond, not, ◌&&◌, List, [], ◌++◌, ◌∷◌, length, fold, ℕ, Option, Some, None, Result, Ok, Err, IfOk, IfErr, OnOk, refl, sym, ap, subst, ◌∙◌, Less}
+use Rattle.std.proofs.Common.{◌≡◌, inl, inr, Bool, true, false, cond, not, ◌&&◌, List, [], ◌++◌, ◌∷◌, length, fold, ℕ, Option, Some, None, Result, Ok, Err, IfOk, IfErr, OnOk, refl, sym, ap, subst, ◌∙◌, Less}
 use Rattle.std.specs.Prelude.{is_some, nat_lt}
 use Rattle.std.specs.Result.{IsErrAnd}
 use Rattle.std.specs.BTreeMap.{insert_entry}
@@ -9,7 +9,7 @@ use Rattle.sqlite_trees.specs.Tree.{IsAscending}
 use Rattle.sqlite_trees.proofs.ListLemmas.{ascending_weaker, ascending_from_map}
 use Rattle.sqlite.specs.State.{State}
 use Rattle.adr_text.specs.declared.refusal.Refusal.{Refusal}
-use Rattle.adr_text.specs.declared.refusal.Refusal.TheVariants.{OutOfMemory, Store, LimitReached, NoScan}
+use Rattle.adr_text.specs.declared.refusal.Refusal.TheVariants.{Store, LimitReached, NoScan}
 use Rattle.adr_schema.specs.declared.body.Found.{Found}
 use Rattle.adr_state.specs.declared.base.Base.{Base}
 use Rattle.adr_state.specs.declared.base.Mark.{Mark}
@@ -27,9 +27,9 @@ use Rattle.adr_db.specs.Calls.{IsOfStore}
 use Rattle.adr_db.proofs.Rows.{keys_as_rows}
 use Rattle.adr_machine.specs.declared.answer.Answer.{Answer}
 use Rattle.adr_machine.specs.declared.answer.Answer.TheVariants as answer
-use Rattle.adr_machine.specs.Edits.{adds_beyond, mirror_set, scan_after, scan_end}
+use Rattle.adr_machine.specs.Edits.{mirror_set, scan_after, scan_end}
 use Rattle.adr_machine.specs.Steps.{IsRefusalOf}
-use Rattle.adr_mirror.specs.Raises.{with_raised, with_keys_polled, with_polled_if_open}
+use Rattle.adr_mirror.specs.Raises.{with_raised, with_polled_if_open}
 use Rattle.adr_mirror.specs.Missed.{missed_by}
 
 -- ---- results

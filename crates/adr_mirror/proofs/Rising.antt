@@ -16,7 +16,6 @@ use Rattle.adr_state.specs.Keys.{mirror_cmp, at}
 use Rattle.adr_state.specs.Laws.{IsRaised}
 use Rattle.adr_state.specs.Marks.{is_below}
 use Rattle.adr_state.specs.Mirror.{key_of, mark_of, evidence_of, raised, joined}
-use Rattle.adr_state.specs.Scans.{has_key}
 use Rattle.adr_state.proofs.LawLemmas.{key_order, at-insert_entry, at_same, over, equal_from_is, marks_ordered, joins_greatest}
 use Rattle.adr_state.proofs.MapLemmas.{length-insert_entry}
 use Rattle.adr_mirror.specs.declared.raise.Rise.{Rise}

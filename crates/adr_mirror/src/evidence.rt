@@ -15,25 +15,10 @@ use crate::raise::raise;
 use crate::risen::Risen;
 use adr_db::{count_marks, put_polled, read_meta};
 use adr_schema::{Found, Kind};
-use adr_state::{Limits, Mark, MirrorKey};
+use adr_state::{Limits, Mark, MirrorKey, key_of, mark_of};
 use adr_text::{ObjectId, Refusal, Rows};
 use sqlite::{Alter, Transaction};
 use std::alloc::{AllocError, Global};
-
-fn key_of(found: &Found) -> Result<MirrorKey, AllocError>
-    ensures { IfOk result (λ key. key ≡ key_of found.now) }
-{
-    Ok(MirrorKey {
-        kind: found.kind,
-        id: found.id.as_id().clone()?,
-    })
-}
-
-fn mark_of(found: &Found) -> Result<Mark, AllocError>
-    ensures { IfOk result (λ mark. mark ≡ mark_of found.now) }
-{
-    Ok(Mark::Live(found.moment, found.body.clone()?))
-}
 
 // One version joins the mirror, and what it makes of its key is noted.
 fn join_one<S: Alter>(

@@ -22,7 +22,7 @@ pub use changes::{Change, Operation, changes_of, restamped};
 pub use keys::{MirrorKey, ShareKey, ViewKey};
 pub use limits::{Limit, Limits, Settings};
 pub use lists::push_some;
-pub use mirror::{join, raise};
+pub use mirror::{join, key_of, mark_of, raise};
 pub use participants::Participant;
 pub use polled::{Polled, poll, probes};
 pub use state::{Image, State};

@@ -13,7 +13,8 @@ use adr_schema::Found;
 use adr_text::Table;
 use std::alloc::{AllocError, Global};
 
-pub(crate) fn key_of(found: &Found) -> Result<MirrorKey, AllocError>
+/// The key of what was found.
+pub fn key_of(found: &Found) -> Result<MirrorKey, AllocError>
     ensures { IfOk result (λ key. key ≡ key_of found.now) }
 {
     Ok(MirrorKey {
@@ -22,7 +23,8 @@ pub(crate) fn key_of(found: &Found) -> Result<MirrorKey, AllocError>
     })
 }
 
-fn mark_of(found: &Found) -> Result<Mark, AllocError>
+/// The mark that a version tells: it is live.
+pub fn mark_of(found: &Found) -> Result<Mark, AllocError>
     ensures { IfOk result (λ mark. mark ≡ mark_of found.now) }
 {
     Ok(Mark::Live(found.moment, found.body.clone()?))

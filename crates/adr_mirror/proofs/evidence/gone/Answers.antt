@@ -1,4 +1,4 @@
-use Rattle.std.proofs.Common.{◌≡◌, inl, inr, ◌⊎◌, cond, None, [], ◌∷◌, sym, subst, ◌∙◌, arith}
+use Rattle.std.proofs.Common.{◌≡◌, inl, inr, cond, None, [], ◌∷◌, sym, subst, ◌∙◌, arith}
 use Rattle.sqlite.specs.Held.{state}
 use Rattle.sqlite.specs.State.{HasCleanDisk}
 use Rattle.adr_text.specs.declared.refusal.Refusal.TheVariants.{LimitReached}
@@ -34,8 +34,7 @@ returns-clause-makes g c clean base was =
     let mirror = raised base.mirror (key, Dead) in
     let turned = (rw c.in_ok-key.ensures at c.in_ok-rise.ensures.turns) early (kept_of base) was in
     let risen = one_risen base.mirror (key, Dead) (mirror_rises (kept_of base) (state g.S.Store c.args.tx.now.conn.now) was) c.in_ok-rise.rise turned.0 in
-    let within = c.in_ok-check_keys.ensures.finds clean (with_raised (key, Dead) (kept_of base)) turned.1 in
-    (
+    let within = c.in_ok-check_keys.ensures.finds clean (with_raised (key, Dead) (kept_of base)) turned.1 in (
       None,
       record base { mirror = mirror },
       is_set c.args.limits.now base mirror c.is_first.result (c.is_first.ensures ∙ risen.grew) within.0,

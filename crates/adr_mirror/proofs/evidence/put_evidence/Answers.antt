@@ -1,4 +1,4 @@
-use Rattle.std.proofs.Common.{inl, inr, ◌⊎◌, None, sym, subst, ◌∙◌, arith}
+use Rattle.std.proofs.Common.{inl, inr, None, sym, subst, arith}
 use Rattle.sqlite.specs.Held.{state}
 use Rattle.sqlite.specs.State.{HasCleanDisk}
 use Rattle.adr_text.specs.declared.refusal.Refusal.TheVariants.{LimitReached}
