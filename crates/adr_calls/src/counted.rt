@@ -110,26 +110,17 @@ fn pushes_to_memory<L: Ledger>(
 
 #[test]
 fn reads(rt: HostRuntime) {
-    assert_eq!(rt;
-        first_pull::<Brand>(Blank::new(2)),
-        (Ok(4), [97, 98, 99, 100])
-    );
-    assert_eq!(rt;
-        pulls_of_cursor::<Brand>(Blank::new(2)),
-        [Ok(4), Ok(2), Ok(0)]
-    );
-    assert_eq!(rt;
-        pulls_of_failing::<Brand>(Blank::new(2)),
-        [Ok(1), Err(IoFault), Ok(1)]
-    );
+    assert!(rt; first_pull::<Brand>(Blank::new(2)) == (Ok(4), [97, 98, 99, 100]));
+    assert!(rt; pulls_of_cursor::<Brand>(Blank::new(2)) == [Ok(4), Ok(2), Ok(0)]);
+    assert!(rt; pulls_of_failing::<Brand>(Blank::new(2)) == [Ok(1), Err(IoFault), Ok(1)]);
 }
 
 #[test]
 fn writes(rt: HostRuntime) {
     let mut room = [0u8; 5];
     let pushed = pushes_to_room::<Brand>(&mut room, Blank::new(2));
-    assert_eq!(rt; pushed, [Ok(3), Ok(2), Err(IoFault)]);
-    assert_eq!(rt; room, [97, 98, 99, 100, 101]);
+    assert!(rt; pushed == [Ok(3), Ok(2), Err(IoFault)]);
+    assert!(rt; room == [97, 98, 99, 100, 101]);
 }
 
 #[test]
@@ -140,20 +131,14 @@ fn kth_fails(rt: HostRuntime) -> Result<(), Fail> {
         (Some(1), [Ok(3), Err(IoFault), Ok(3)]),
         (Some(3), [Ok(3), Ok(3), Ok(0)]),
     ] {
-        assert_eq!(rt;
-            pulls_of_memory::<Brand>(rt.alloc(), until, Blank::new(2))?,
-            pulled
-        );
+        assert!(rt; pulls_of_memory::<Brand>(rt.alloc(), until, Blank::new(2))? == pulled);
     }
     for (until, pushed) in [
         (None, [Ok(2), Ok(2), Ok(2)]),
         (Some(0), [Err(IoFault), Ok(2), Ok(2)]),
         (Some(2), [Ok(2), Ok(2), Err(IoFault)]),
     ] {
-        assert_eq!(rt;
-            pushes_to_memory::<Brand>(rt.alloc(), until, Blank::new(2)),
-            pushed
-        );
+        assert!(rt; pushes_to_memory::<Brand>(rt.alloc(), until, Blank::new(2)) == pushed);
     }
     Ok(())
 }

@@ -1,8 +1,6 @@
 //! The machine and its plain desk.
-use adr_machine::{
-    Answer, Command, Desk, Object, Page, PlainDesk, Query, Role, number_of, number_within, run,
-};
-use adr_schema::{Kind, read_page, read_resource, read_share, read_ven};
+use adr_machine::{Answer, Command, Desk, Object, PlainDesk, Role, number_of, run};
+use adr_schema::read_ven;
 use adr_state::{Limits, Settings, State};
 use adr_text::{Moment, Name, ObjectId, Refusal};
 use std::alloc::Global;
@@ -12,126 +10,117 @@ fn ten() -> Result<Moment, Refusal> {
     Moment::read("2024-07-01T10:00:00Z")
 }
 
-fn ven(alloc: Global) -> Result<Command, Refusal> {
+fn ven(alloc: Global, text: &str) -> Result<Command, Refusal> {
     Ok(Command::VenAdd {
         role: Role::Operator,
-        ven: read_ven(alloc, b"{\"venName\":\"alpha\"}")?,
+        ven: read_ven(alloc, text.as_bytes())?,
     })
 }
 
-fn resource(alloc: Global, text: &[u8]) -> Result<Command, Refusal> {
-    Ok(Command::ResourceAdd {
-        role: Role::Operator,
-        ven: ObjectId::new(alloc, "v1")?,
-        resource: read_resource(alloc, text)?,
-    })
-}
-
-fn share(alloc: Global, resource: &str) -> Result<Command, Refusal> {
-    Ok(Command::ShareSet {
-        role: Role::Operator,
-        program: ObjectId::new(alloc, "p1")?,
-        resource: ObjectId::new(alloc, resource)?,
-        share: read_share(alloc, b"{\"share\":1}")?,
-    })
-}
-
-const PAGE: &[u8] =
-    b"[{\"id\":\"e1\",\"modificationDateTime\":\"2024-07-01T09:00:00Z\",\"programID\":\"p1\",\"intervals\":[{\"id\":0,\"payloads\":[{\"type\":\"DISPATCH_SETPOINT\",\"values\":[101]}]}]}]";
-
-fn page(alloc: Global) -> Result<Command, Refusal> {
-    let (found, _) = read_page(alloc, Kind::Event, PAGE)?;
-    Ok(Command::Evidence {
-        found,
-        polled: true,
-    })
-}
-
-// A ven, two resources with equal shares, an event of 101, and the ven again.
-fn steps(alloc: Global) -> Result<Vec<(Moment, Command)>, Refusal> {
-    let now = ten()?;
-    let mut steps = Vec::new(alloc);
-    steps.push((now, ven(alloc)?))?;
-    steps.push((now, resource(alloc, b"{\"resourceName\":\"a1\"}")?))?;
-    steps.push((now, resource(alloc, b"{\"resourceName\":\"a2\"}")?))?;
-    steps.push((now, share(alloc, "r2")?))?;
-    steps.push((now, share(alloc, "r3")?))?;
-    steps.push((now, page(alloc)?))?;
-    steps.push((now, ven(alloc)?))?;
-    Ok(steps)
-}
-
-// What an answer is, in a number: that of the object, the share or the refusal.
-fn number_in(answer: &Result<Answer, Refusal>) -> u64 {
-    match answer {
-        Ok(Answer::Object(Object::Ven(ven))) => ven.number.get(),
-        Ok(Answer::Object(Object::Resource(resource))) => resource.number.get(),
-        Ok(Answer::Share(share)) => u64::from(share.share),
-        Ok(Answer::Changes(count)) => *count,
-        Err(refusal) => u64::from(refusal.number()),
-        _ => 99,
-    }
-}
-
-fn desk(alloc: Global) -> Result<PlainDesk, Refusal> {
+pub fn desk(alloc: Global) -> Result<PlainDesk, Refusal> {
     let client = Name::new(alloc, "aggregator")?;
     let limits = Limits::largest();
     Ok(PlainDesk::new(alloc, Settings { client, limits }))
 }
 
-// The parts of an event of one interval each.
-fn parts(answer: &Result<Answer, Refusal>) -> [i64; 2] {
-    let mut parts = [0; 2];
-    if let Ok(Answer::List(objects)) = answer {
-        for (part, object) in parts.iter_mut().zip(objects.as_slice()) {
-            if let Object::Event(event) = object {
-                *part = match event.shown.intervals.as_slice() {
-                    [interval] => interval.part.unwrap_or(0),
-                    _ => 0,
-                };
-            }
-        }
-    }
-    parts
+fn push_ven(alloc: Global, steps: &mut Vec<(Moment, Command)>, text: &str) -> Result<(), Refusal> {
+    let step = (ten()?, ven(alloc, text)?);
+    steps.push(step)?;
+    Ok(())
 }
 
-// How many stamps, marks, vens, resources and shares there are, and the serial.
-fn sizes(state: &State) -> [u64; 6] {
-    [
-        state.stamps.len() as u64,
-        state.base.mirror.len() as u64,
-        state.base.vens.len() as u64,
-        state.base.resources.len() as u64,
-        state.base.shares.len() as u64,
-        state.base.serial,
-    ]
+// A ven, the same again, and another.
+fn steps(alloc: Global) -> Result<Vec<(Moment, Command)>, Refusal> {
+    let mut steps = Vec::new(alloc);
+    push_ven(alloc, &mut steps, "{\"venName\":\"alpha\"}")?;
+    push_ven(alloc, &mut steps, "{\"venName\":\"alpha\"}")?;
+    push_ven(alloc, &mut steps, "{\"venName\":\"beta\"}")?;
+    Ok(steps)
+}
+
+// The number of the ven that an answer is, or that of its refusal.
+fn number_in(answer: &Result<Answer, Refusal>) -> u64 {
+    match answer {
+        Ok(Answer::Object(Object::Ven(ven))) => ven.number.get(),
+        Ok(_) => 99,
+        Err(refusal) => u64::from(refusal.number()),
+    }
+}
+
+fn numbers_in(answers: &[Result<Answer, Refusal>]) -> [u64; 3] {
+    match answers {
+        [first, second, third] => [number_in(first), number_in(second), number_in(third)],
+        _ => [99; 3],
+    }
+}
+
+fn ran(
+    alloc: Global,
+    desk: &mut PlainDesk,
+    steps: &[(Moment, Command)],
+) -> Result<[u64; 3], Refusal> {
+    let answers = run(alloc, desk, steps)?;
+    Ok(numbers_in(&answers))
+}
+
+fn ran_anew(alloc: Global) -> Result<[u64; 3], Refusal> {
+    let steps = steps(alloc)?;
+    ran(alloc, &mut desk(alloc)?, &steps)
 }
 
 #[test]
-fn runs_and_replies(rt: HostRuntime) -> Result<(), Fail> {
-    let mut desk = desk(rt.alloc())?;
-    let answers = run(rt.alloc(), &mut desk, &steps(rt.alloc())?)?;
-    let mut numbers = [0; 7];
-    for (number, answer) in numbers.iter_mut().zip(&answers) {
-        *number = number_in(answer);
-    }
-    assert_eq!(rt; numbers, [1, 2, 3, 1, 1, 2, 7]);
-    let role = Role::Ven(ObjectId::new(rt.alloc(), "v1")?);
-    let page = Page { skip: 0, limit: 50 };
-    let listed = desk.ask(&Query::Events { role, page });
-    assert_eq!(rt; parts(&listed), [51, 50]);
+fn runs(rt: HostRuntime) -> Result<(), Fail> {
+    assert!(rt; ran_anew(rt.alloc())? == [1, 7, 2]);
     Ok(())
+}
+
+fn apply(desk: &mut PlainDesk, now: Moment, command: &Command) -> Result<(), Refusal> {
+    desk.apply(now, command)?;
+    Ok(())
+}
+
+fn enroll(alloc: Global, desk: &mut PlainDesk) -> Result<(), Refusal> {
+    apply(desk, ten()?, &ven(alloc, "{\"venName\":\"alpha\"}")?)
+}
+
+fn desk_of_one(alloc: Global) -> Result<PlainDesk, Refusal> {
+    let mut desk = desk(alloc)?;
+    enroll(alloc, &mut desk)?;
+    Ok(desk)
+}
+
+fn image_of(mut desk: PlainDesk) -> Result<State, Refusal> {
+    desk.image()
+}
+
+fn image(alloc: Global) -> Result<State, Refusal> {
+    image_of(desk_of_one(alloc)?)
+}
+
+fn copy(alloc: Global) -> Result<State, Refusal> {
+    Ok(image(alloc)?.copy()?)
+}
+
+// How many vens there are, and the serial.
+fn sizes(state: State) -> (usize, u64) {
+    (state.base.vens.len(), state.base.serial)
 }
 
 #[test]
 fn images(rt: HostRuntime) -> Result<(), Fail> {
-    let mut desk = desk(rt.alloc())?;
-    let answer = desk.apply(ten()?, &ven(rt.alloc())?);
-    assert_eq!(rt; number_in(&answer), 1);
-    let image = desk.image()?;
-    assert_eq!(rt; sizes(&image), [0, 0, 1, 0, 0, 1]);
-    assert_eq!(rt; sizes(&image.copy()?), [0, 0, 1, 0, 0, 1]);
-    assert_eq!(rt; desk.settings().client.as_str(), "aggregator");
+    assert!(rt; sizes(image(rt.alloc())?) == (1, 1));
+    assert!(rt; sizes(copy(rt.alloc())?) == (1, 1));
+    Ok(())
+}
+
+fn most_vens(desk: &PlainDesk) -> u64 {
+    desk.settings().limits.vens.get()
+}
+
+#[test]
+fn settings(rt: HostRuntime) -> Result<(), Fail> {
+    let desk = desk(rt.alloc())?;
+    assert!(rt; most_vens(&desk) == 1_000);
     Ok(())
 }
 
@@ -152,19 +141,26 @@ const LIMITS: [(&str, u64, bool); 14] = [
     ("", 1, false),
 ];
 
-#[test]
-fn limits(rt: HostRuntime) -> Result<(), Fail> {
-    let largest = Limits::largest();
-    assert_eq!(rt; largest.reports.get(), 100_000);
-    for (name, value, taken) in LIMITS {
-        let mut limits = Limits::largest();
-        assert_eq!(rt; limits.set(name, value), taken, "{name} {value}");
-        assert!(rt; limits == largest, "{name} {value}");
-    }
+// Whether the limit is taken, and whether all are the largest then.
+fn set(name: &str, value: u64) -> (bool, bool) {
     let mut limits = Limits::largest();
-    assert!(rt; limits.set("trail", 1));
-    assert_eq!(rt; limits.trail.get(), 1);
-    Ok(())
+    let taken = limits.set(name, value);
+    (taken, limits == Limits::largest())
+}
+
+fn trail_of(value: u64) -> u64 {
+    let mut limits = Limits::largest();
+    limits.set("trail", value);
+    limits.trail.get()
+}
+
+#[test]
+fn limits(rt: HostRuntime) {
+    for (name, value, taken) in LIMITS {
+        assert!(rt; set(name, value) == (taken, true), "{name} {value}");
+    }
+    assert!(rt; trail_of(1) == 1);
+    assert!(rt; Limits::largest().reports.get() == 100_000);
 }
 
 const IDS: [(&str, Option<u64>); 10] = [
@@ -180,22 +176,17 @@ const IDS: [(&str, Option<u64>); 10] = [
     ("1", None),
 ];
 
-const DIGITS: [(&str, Option<u64>); 5] = [
-    ("50", Some(50)),
-    ("51", None),
-    ("007", Some(7)),
-    ("", None),
-    ("-1", None),
-];
+fn ven_number(alloc: Global, id: &str) -> Result<Option<u64>, Refusal> {
+    match number_of(b'v', &ObjectId::new(alloc, id)?) {
+        Some(number) => Ok(Some(number.get())),
+        None => Ok(None),
+    }
+}
 
 #[test]
-fn numbers(rt: HostRuntime) -> Result<(), Fail> {
+fn numbers_of_ids(rt: HostRuntime) -> Result<(), Fail> {
     for (id, number) in IDS {
-        let found = number_of(b'v', &ObjectId::new(rt.alloc(), id)?);
-        assert_eq!(rt; found.map(|n| n.get()), number, "{id}");
-    }
-    for (text, number) in DIGITS {
-        assert_eq!(rt; number_within(50, text.as_bytes()), number, "{text}");
+        assert!(rt; ven_number(rt.alloc(), id)? == number, "{id}");
     }
     Ok(())
 }

@@ -1,17 +1,17 @@
 //! Objects: lists at their limits, and what is written.
 use adr_schema::{
-    Body, EventObject, Kind, Number, Period, Priority, ResourceObject, ShareObject, ShownEvent,
-    ShownInterval, Stamps, Text, VenObject, read_page, resource_id, shown_id, ven_id, write_event,
-    write_events, write_problem, write_resource, write_share, write_ven,
+    Body, EventObject, Kind, Number, ShownEvent, ShownInterval, Stamps, read_page, resource_id,
+    shown_id, ven_id, write_events,
 };
 use adr_text::{Moment, Name, ObjectId, Refusal, Rows};
 use std::alloc::{AllocError, Global};
+use std::slice::from_ref;
 use std::test::Fail;
 
-// What the one object on a page is: 0 where its body is read, else the number of its reason; 9 where
+// What the one event on a page is: 0 where its body is read, else the number of its reason; 9 where
 // there is not exactly one.
-fn outcome(alloc: Global, kind: Kind, page: &str) -> Result<u8, Refusal> {
-    let (found, _) = read_page(alloc, kind, page.as_bytes())?;
+fn outcome(alloc: Global, page: &str) -> Result<u8, Refusal> {
+    let (found, _) = read_page(alloc, Kind::Event, page.as_bytes())?;
     match found.as_slice() {
         [version] => match &version.body {
             Body::Opaque(reason) => Ok(reason.number()),
@@ -24,65 +24,48 @@ fn outcome(alloc: Global, kind: Kind, page: &str) -> Result<u8, Refusal> {
 // The same of an event with these members.
 fn event(alloc: Global, members: &str) -> Result<u8, Refusal> {
     let page = format!(in alloc;
-        "[{{\"id\":\"e1\",\"modificationDateTime\":\"2024-07-01T09:00:00Z\",{members}}}]"
+        "[{{\"id\":\"e1\",\"modificationDateTime\":\"2024-07-01T09:00:00Z\",\"programID\":\"p1\",{members}}}]"
     )?;
-    outcome(alloc, Kind::Event, page.as_str())
+    outcome(alloc, page.as_str())
 }
 
-// The same of an event of program p1 with these further members.
-fn event_with(alloc: Global, members: &str) -> Result<u8, Refusal> {
-    let all = format!(in alloc; "\"programID\":\"p1\",{members}")?;
-    event(alloc, all.as_str())
-}
-
-// The same of an event with these intervals.
-fn event_of(alloc: Global, intervals: &str) -> Result<u8, Refusal> {
-    let all = format!(in alloc; "\"programID\":\"p1\",\"intervals\":{intervals}")?;
-    event(alloc, all.as_str())
-}
-
-// So many intervals, each with an id of its own.
-fn intervals_text(alloc: Global, count: u32) -> Result<String, AllocError> {
-    let mut text = String::new(alloc);
-    for id in 0..count {
-        let separator = if id == 0 { "[" } else { "," };
-        text.push_str(separator)?;
-        text.push_str(format!(in alloc; "{{\"id\":{id}}}")?.as_str())?;
+// So many intervals, each with an id of its own, behind one more.
+fn intervals(alloc: Global, more: u32) -> Result<String, AllocError> {
+    let mut text = String::from_str(alloc, "\"intervals\":[{\"id\":-1}")?;
+    for id in 0..more {
+        text.push_str(format!(in alloc; ",{{\"id\":{id}}}")?.as_str())?;
     }
     text.push(']')?;
     Ok(text)
 }
 
-// So many names, all of them one.
-fn targets_text(alloc: Global, count: u32) -> Result<String, AllocError> {
-    let mut text = String::from_str(alloc, "[{\"type\":\"RESOURCE_NAME\",\"values\":")?;
-    for k in 0..count {
-        text.push_str(if k == 0 { "[\"a\"" } else { ",\"a\"" })?;
-    }
-    text.push_str("]}]")?;
-    Ok(text)
+// So many names, all of them one, behind one more.
+fn targets(alloc: Global, more: usize) -> Result<String, AllocError> {
+    let names = ",\"a\"".repeat(alloc, more)?;
+    format!(in alloc; "\"targets\":[{{\"type\":\"RESOURCE_NAME\",\"values\":[\"a\"{names}]}}]")
 }
 
-// A page that is no UTF-8 is none.
-#[test]
-fn bytes_that_are_no_text(rt: HostRuntime) {
-    let page = read_page(rt.alloc(), Kind::Event, b"[\"\xff\"]");
-    assert!(rt; matches!(page, Err(Refusal::BadShape)));
+fn event_of_intervals(alloc: Global, more: u32) -> Result<u8, Refusal> {
+    event(alloc, intervals(alloc, more)?.as_str())
 }
 
-// An event has at most 1,000 intervals and lists at most 10,000 names, each as often as it is listed.
+fn event_of_targets(alloc: Global, more: usize) -> Result<u8, Refusal> {
+    event(alloc, targets(alloc, more)?.as_str())
+}
+
+// An event has at most 1,000 intervals.
 #[test]
-fn lengths_of_lists(rt: HostRuntime) -> Result<(), Fail> {
-    let alloc = rt.alloc();
-    for (count, reason) in [(1, 0), (1000, 0), (1001, 5)] {
-        let intervals = intervals_text(alloc, count)?;
-        assert_eq!(rt; event_of(alloc, intervals.as_str())?, reason, "{count}");
-    }
-    for (count, reason) in [(10000, 0), (10001, 5)] {
-        let targets = targets_text(alloc, count)?;
-        let members = format!(in alloc; "\"targets\":{targets}")?;
-        assert_eq!(rt; event_with(alloc, members.as_str())?, reason, "{count}");
-    }
+fn lengths_of_intervals(rt: HostRuntime) -> Result<(), Fail> {
+    assert!(rt; event_of_intervals(rt.alloc(), 999)? == 0);
+    assert!(rt; event_of_intervals(rt.alloc(), 1000)? == 5);
+    Ok(())
+}
+
+// An event lists at most 10,000 names, each as often as it is listed.
+#[test]
+fn lengths_of_targets(rt: HostRuntime) -> Result<(), Fail> {
+    assert!(rt; event_of_targets(rt.alloc(), 9999)? == 0);
+    assert!(rt; event_of_targets(rt.alloc(), 10000)? == 5);
     Ok(())
 }
 
@@ -94,114 +77,62 @@ fn stamps() -> Result<Stamps, Refusal> {
     })
 }
 
-// What resource 3 of ven alpha, named a1, is shown of an event that sets it 34.
-fn shown(alloc: Global) -> Result<EventObject, Refusal> {
+fn one_interval(alloc: Global, part: i64) -> Result<Rows<ShownInterval>, AllocError> {
     let mut intervals = Rows::new(alloc);
     intervals.push(ShownInterval {
         id: 0,
         period: None,
-        part: Some(34),
+        part: Some(part),
     })?;
+    Ok(intervals)
+}
+
+fn content(alloc: Global) -> Result<ShownEvent, Refusal> {
+    Ok(ShownEvent {
+        program: ObjectId::new(alloc, "p1")?,
+        name: None,
+        priority: None,
+        period: None,
+        intervals: one_interval(alloc, 34)?,
+        ven_name: Name::new(alloc, "alpha")?,
+        resource_name: Name::new(alloc, "a1")?,
+    })
+}
+
+// What resource 3 of ven alpha, named a1, is shown of an event that sets it 34.
+fn shown(alloc: Global) -> Result<EventObject, Refusal> {
     Ok(EventObject {
         resource: Number::new(3),
         event: ObjectId::new(alloc, "e1")?,
-        shown: ShownEvent {
-            program: ObjectId::new(alloc, "p1")?,
-            name: None,
-            priority: None,
-            period: None,
-            intervals,
-            ven_name: Name::new(alloc, "alpha")?,
-            resource_name: Name::new(alloc, "a1")?,
-        },
+        shown: content(alloc)?,
         stamps: stamps()?,
     })
 }
 
-const SHOWN: &str =
-    "{\"createdDateTime\":\"2024-07-01T10:00:00Z\",\"id\":\"r3-e1\",\"intervals\":[{\"id\":0,\"payloads\":[{\"type\":\"DISPATCH_SETPOINT\",\"values\":[34]}]}],\"modificationDateTime\":\"2024-07-01T10:00:00Z\",\"objectType\":\"EVENT\",\"programID\":\"p1\",\"targets\":[{\"type\":\"VEN_NAME\",\"values\":[\"alpha\"]},{\"type\":\"RESOURCE_NAME\",\"values\":[\"a1\"]}]}";
+fn written(alloc: Global) -> Result<String, Refusal> {
+    let event = shown(alloc)?;
+    Ok(write_events(alloc, from_ref(&event))?)
+}
+
+const WRITTEN: &str =
+    "[{\"createdDateTime\":\"2024-07-01T10:00:00Z\",\"id\":\"r3-e1\",\"intervals\":[{\"id\":0,\"payloads\":[{\"type\":\"DISPATCH_SETPOINT\",\"values\":[34]}]}],\"modificationDateTime\":\"2024-07-01T10:00:00Z\",\"objectType\":\"EVENT\",\"programID\":\"p1\",\"targets\":[{\"type\":\"VEN_NAME\",\"values\":[\"alpha\"]},{\"type\":\"RESOURCE_NAME\",\"values\":[\"a1\"]}]}]";
 
 #[test]
 fn written_events(rt: HostRuntime) -> Result<(), Fail> {
-    let alloc = rt.alloc();
-    let event = shown(alloc)?;
-    assert!(rt; write_event(alloc, &event)?.as_str() == SHOWN);
-    let list = format!(in alloc; "[{SHOWN}]")?;
-    assert!(rt; write_events(alloc, &[event])?.as_str() == list.as_str());
-    assert!(rt; write_events(alloc, &[])?.as_str() == "[]");
+    assert!(rt; written(rt.alloc())?.as_str() == WRITTEN);
+    assert!(rt; write_events(rt.alloc(), &[])?.as_str() == "[]");
     Ok(())
 }
 
-// Each member that may be absent is there, in its place; an interval without a part has no payload.
-#[test]
-fn written_event_of_all_members(rt: HostRuntime) -> Result<(), Fail> {
-    let alloc = rt.alloc();
-    let mut event = shown(alloc)?;
-    event.shown.name = Some(Text::new(alloc, "n")?);
-    event.shown.priority = Some(Priority::new(3)?);
-    event.shown.period = Some(Period {
-        start: Text::new(alloc, "s")?,
-        duration: Some(Text::new(alloc, "d")?),
-        randomize_start: None,
-    });
-    event.shown.intervals = Rows::new(alloc);
-    event.shown.intervals.push(ShownInterval {
-        id: -1,
-        period: None,
-        part: None,
-    })?;
-    let text =
-        "{\"createdDateTime\":\"2024-07-01T10:00:00Z\",\"eventName\":\"n\",\"id\":\"r3-e1\",\"intervalPeriod\":{\"duration\":\"d\",\"start\":\"s\"},\"intervals\":[{\"id\":-1,\"payloads\":[]}],\"modificationDateTime\":\"2024-07-01T10:00:00Z\",\"objectType\":\"EVENT\",\"priority\":3,\"programID\":\"p1\",\"targets\":[{\"type\":\"VEN_NAME\",\"values\":[\"alpha\"]},{\"type\":\"RESOURCE_NAME\",\"values\":[\"a1\"]}]}";
-    assert!(rt; write_event(alloc, &event)?.as_str() == text);
-    Ok(())
-}
-
-#[test]
-fn written_sites(rt: HostRuntime) -> Result<(), Fail> {
-    let alloc = rt.alloc();
-    let ven = VenObject {
-        number: Number::new(1),
-        name: Name::new(alloc, "alpha")?,
-        stamps: stamps()?,
-    };
-    assert!(rt;
-        write_ven(alloc, &ven)?.as_str()
-            == "{\"createdDateTime\":\"2024-07-01T10:00:00Z\",\"id\":\"v1\",\"modificationDateTime\":\"2024-07-01T10:00:00Z\",\"objectType\":\"VEN\",\"venName\":\"alpha\"}"
-    );
-    let resource = ResourceObject {
-        number: Number::new(3),
-        ven: Number::new(1),
-        name: Name::new(alloc, "a1")?,
-        stamps: stamps()?,
-    };
-    assert!(rt;
-        write_resource(alloc, &resource)?.as_str()
-            == "{\"createdDateTime\":\"2024-07-01T10:00:00Z\",\"id\":\"r3\",\"modificationDateTime\":\"2024-07-01T10:00:00Z\",\"objectType\":\"RESOURCE\",\"resourceName\":\"a1\",\"venID\":\"v1\"}"
-    );
-    let share = ShareObject {
-        program: ObjectId::new(alloc, "p2")?,
-        resource: Number::new(3),
-        share: 1,
-    };
-    assert!(rt;
-        write_share(alloc, &share)?.as_str()
-            == "{\"programID\":\"p2\",\"resourceID\":\"r3\",\"share\":1}"
-    );
-    assert!(rt;
-        write_problem(alloc, Refusal::Forbidden)?.as_str()
-            == "{\"detail\":\"not allowed for this token\",\"status\":403,\"title\":\"Forbidden\"}"
-    );
-    Ok(())
+fn shown_of_three(alloc: Global) -> Result<String, Refusal> {
+    Ok(shown_id(alloc, Number::new(3), &ObjectId::new(alloc, "e-1")?)?)
 }
 
 #[test]
 fn written_ids(rt: HostRuntime) -> Result<(), Fail> {
-    let alloc = rt.alloc();
     let last = Number::new(18446744073709551615);
-    assert!(rt; ven_id(alloc, Number::new(0))?.as_str() == "v0");
-    assert!(rt; resource_id(alloc, last)?.as_str() == "r18446744073709551615");
-    assert!(rt;
-        shown_id(alloc, Number::new(3), &ObjectId::new(alloc, "e-1")?)?.as_str() == "r3-e-1"
-    );
+    assert!(rt; ven_id(rt.alloc(), Number::new(0))?.as_str() == "v0");
+    assert!(rt; resource_id(rt.alloc(), last)?.as_str() == "r18446744073709551615");
+    assert!(rt; shown_of_three(rt.alloc())?.as_str() == "r3-e-1");
     Ok(())
 }

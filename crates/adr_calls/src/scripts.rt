@@ -1,80 +1,80 @@
 //! Scripts over sources and sinks that fail, and in pieces.
 ghost use Rattle.std.specs.Prelude.{◌≡◌, ◌<◌};
 
-use adr_machine::PlainDesk;
+use crate::machine::desk;
 use adr_script::{ScriptFault, run_script};
-use adr_state::{Limits, Settings};
-use adr_text::{KthFails, Name, Refusal, Writer};
+use adr_text::{KthFails, Refusal, Sink, Writer};
 use std::alloc::{AllocError, Global};
 use std::marker::Brand;
 use std::sync::ledger::{Blank, Ledger};
 use std::test::Fail;
 
 // Two vens, three resources with equal shares, an event of 100, and two listings.
-fn script() -> &'static [u8] {
-    concat!(
-        "2024-07-01T10:00:00Z operator POST /vens {\"venName\":\"alpha\"}\n",
-        "2024-07-01T10:00:00Z operator POST /vens {\"venName\":\"beta\"}\n",
-        "2024-07-01T10:00:00Z operator POST /vens/v1/resources {\"resourceName\":\"a1\"}\n",
-        "2024-07-01T10:00:00Z operator POST /vens/v1/resources {\"resourceName\":\"a2\"}\n",
-        "2024-07-01T10:00:00Z operator POST /vens/v2/resources {\"resourceName\":\"b1\"}\n",
-        "2024-07-01T10:00:00Z operator PUT /shares/p1/r3 {\"share\":1}\n",
-        "2024-07-01T10:00:00Z operator PUT /shares/p1/r4 {\"share\":1}\n",
-        "2024-07-01T10:00:00Z operator PUT /shares/p1/r5 {\"share\":1}\n",
-        "2024-07-01T10:00:00Z node page events [{\"id\":\"e1\",\"modificationDateTime\":\"2024-07-01T09:00:00Z\",\"programID\":\"p1\",\"intervals\":[{\"id\":0,\"payloads\":[{\"type\":\"DISPATCH_SETPOINT\",\"values\":[100]}]}]}]\n",
-        "2024-07-01T10:00:00Z ven:v1 GET /events?limit=1\n",
-        "2024-07-01T10:00:00Z operator GET /events?skip=2\n",
-    )
-    .as_bytes()
-}
+const SCRIPT: &str = concat!(
+    "2024-07-01T10:00:00Z operator POST /vens {\"venName\":\"alpha\"}\n",
+    "2024-07-01T10:00:00Z operator POST /vens {\"venName\":\"beta\"}\n",
+    "2024-07-01T10:00:00Z operator POST /vens/v1/resources {\"resourceName\":\"a1\"}\n",
+    "2024-07-01T10:00:00Z operator POST /vens/v1/resources {\"resourceName\":\"a2\"}\n",
+    "2024-07-01T10:00:00Z operator POST /vens/v2/resources {\"resourceName\":\"b1\"}\n",
+    "2024-07-01T10:00:00Z operator PUT /shares/p1/r3 {\"share\":1}\n",
+    "2024-07-01T10:00:00Z operator PUT /shares/p1/r4 {\"share\":1}\n",
+    "2024-07-01T10:00:00Z operator PUT /shares/p1/r5 {\"share\":1}\n",
+    "2024-07-01T10:00:00Z node page events [{\"id\":\"e1\",\"modificationDateTime\":\"2024-07-01T09:00:00Z\",\"programID\":\"p1\",\"intervals\":[{\"id\":0,\"payloads\":[{\"type\":\"DISPATCH_SETPOINT\",\"values\":[100]}]}]}]\n",
+    "2024-07-01T10:00:00Z ven:v1 GET /events?limit=1\n",
+    "2024-07-01T10:00:00Z operator GET /events?skip=2\n",
+);
 
 // What it prints.
-fn printed() -> &'static [u8] {
-    concat!(
-        "201 {\"createdDateTime\":\"2024-07-01T10:00:00Z\",\"id\":\"v1\",\"modificationDateTime\":\"2024-07-01T10:00:00Z\",\"objectType\":\"VEN\",\"venName\":\"alpha\"}\n",
-        "201 {\"createdDateTime\":\"2024-07-01T10:00:00Z\",\"id\":\"v2\",\"modificationDateTime\":\"2024-07-01T10:00:00Z\",\"objectType\":\"VEN\",\"venName\":\"beta\"}\n",
-        "201 {\"createdDateTime\":\"2024-07-01T10:00:00Z\",\"id\":\"r3\",\"modificationDateTime\":\"2024-07-01T10:00:00Z\",\"objectType\":\"RESOURCE\",\"resourceName\":\"a1\",\"venID\":\"v1\"}\n",
-        "201 {\"createdDateTime\":\"2024-07-01T10:00:00Z\",\"id\":\"r4\",\"modificationDateTime\":\"2024-07-01T10:00:00Z\",\"objectType\":\"RESOURCE\",\"resourceName\":\"a2\",\"venID\":\"v1\"}\n",
-        "201 {\"createdDateTime\":\"2024-07-01T10:00:00Z\",\"id\":\"r5\",\"modificationDateTime\":\"2024-07-01T10:00:00Z\",\"objectType\":\"RESOURCE\",\"resourceName\":\"b1\",\"venID\":\"v2\"}\n",
-        "200 {\"programID\":\"p1\",\"resourceID\":\"r3\",\"share\":1}\n",
-        "200 {\"programID\":\"p1\",\"resourceID\":\"r4\",\"share\":1}\n",
-        "200 {\"programID\":\"p1\",\"resourceID\":\"r5\",\"share\":1}\n",
-        "changes 3 skipped 0\n",
-        "200 [{\"createdDateTime\":\"2024-07-01T10:00:00Z\",\"id\":\"r3-e1\",\"intervals\":[{\"id\":0,\"payloads\":[{\"type\":\"DISPATCH_SETPOINT\",\"values\":[34]}]}],\"modificationDateTime\":\"2024-07-01T10:00:00Z\",\"objectType\":\"EVENT\",\"programID\":\"p1\",\"targets\":[{\"type\":\"VEN_NAME\",\"values\":[\"alpha\"]},{\"type\":\"RESOURCE_NAME\",\"values\":[\"a1\"]}]}]\n",
-        "200 [{\"createdDateTime\":\"2024-07-01T10:00:00Z\",\"id\":\"r5-e1\",\"intervals\":[{\"id\":0,\"payloads\":[{\"type\":\"DISPATCH_SETPOINT\",\"values\":[33]}]}],\"modificationDateTime\":\"2024-07-01T10:00:00Z\",\"objectType\":\"EVENT\",\"programID\":\"p1\",\"targets\":[{\"type\":\"VEN_NAME\",\"values\":[\"beta\"]},{\"type\":\"RESOURCE_NAME\",\"values\":[\"b1\"]}]}]\n",
-    )
-    .as_bytes()
-}
-
-fn desk(alloc: Global) -> Result<PlainDesk, Refusal> {
-    let client = Name::new(alloc, "aggregator")?;
-    let limits = Limits::largest();
-    Ok(PlainDesk::new(alloc, Settings { client, limits }))
-}
+const PRINTED: &str = concat!(
+    "201 {\"createdDateTime\":\"2024-07-01T10:00:00Z\",\"id\":\"v1\",\"modificationDateTime\":\"2024-07-01T10:00:00Z\",\"objectType\":\"VEN\",\"venName\":\"alpha\"}\n",
+    "201 {\"createdDateTime\":\"2024-07-01T10:00:00Z\",\"id\":\"v2\",\"modificationDateTime\":\"2024-07-01T10:00:00Z\",\"objectType\":\"VEN\",\"venName\":\"beta\"}\n",
+    "201 {\"createdDateTime\":\"2024-07-01T10:00:00Z\",\"id\":\"r3\",\"modificationDateTime\":\"2024-07-01T10:00:00Z\",\"objectType\":\"RESOURCE\",\"resourceName\":\"a1\",\"venID\":\"v1\"}\n",
+    "201 {\"createdDateTime\":\"2024-07-01T10:00:00Z\",\"id\":\"r4\",\"modificationDateTime\":\"2024-07-01T10:00:00Z\",\"objectType\":\"RESOURCE\",\"resourceName\":\"a2\",\"venID\":\"v1\"}\n",
+    "201 {\"createdDateTime\":\"2024-07-01T10:00:00Z\",\"id\":\"r5\",\"modificationDateTime\":\"2024-07-01T10:00:00Z\",\"objectType\":\"RESOURCE\",\"resourceName\":\"b1\",\"venID\":\"v2\"}\n",
+    "200 {\"programID\":\"p1\",\"resourceID\":\"r3\",\"share\":1}\n",
+    "200 {\"programID\":\"p1\",\"resourceID\":\"r4\",\"share\":1}\n",
+    "200 {\"programID\":\"p1\",\"resourceID\":\"r5\",\"share\":1}\n",
+    "changes 3 skipped 0\n",
+    "200 [{\"createdDateTime\":\"2024-07-01T10:00:00Z\",\"id\":\"r3-e1\",\"intervals\":[{\"id\":0,\"payloads\":[{\"type\":\"DISPATCH_SETPOINT\",\"values\":[34]}]}],\"modificationDateTime\":\"2024-07-01T10:00:00Z\",\"objectType\":\"EVENT\",\"programID\":\"p1\",\"targets\":[{\"type\":\"VEN_NAME\",\"values\":[\"alpha\"]},{\"type\":\"RESOURCE_NAME\",\"values\":[\"a1\"]}]}]\n",
+    "200 [{\"createdDateTime\":\"2024-07-01T10:00:00Z\",\"id\":\"r5-e1\",\"intervals\":[{\"id\":0,\"payloads\":[{\"type\":\"DISPATCH_SETPOINT\",\"values\":[33]}]}],\"modificationDateTime\":\"2024-07-01T10:00:00Z\",\"objectType\":\"EVENT\",\"programID\":\"p1\",\"targets\":[{\"type\":\"VEN_NAME\",\"values\":[\"beta\"]},{\"type\":\"RESOURCE_NAME\",\"values\":[\"b1\"]}]}]\n",
+);
 
 // Runs the bytes from an empty state, in pieces of at most `most`, where the read after `until`
 // others fails.
-fn read_from<K: Ledger, L: Ledger>(
+fn run_into<K: Ledger, S: Sink>(
     alloc: Global,
     script: Vec<u8>,
     most: usize,
     until: Option<u64>,
-    out: &mut Vec<u8>,
+    sink: &mut S,
     reads: Blank,
-    writes: Blank,
 ) -> Result<Result<u64, ScriptFault>, Refusal>
     requires most { 0 < most }
     requires read_name { reads.name ≡ K.name }
     requires read_parts { reads.parts ≡ K.parts }
     requires read_two { 1 < reads.parts }
+{
+    let mut desk = desk(alloc)?;
+    let mut source = KthFails::<K>::new(script, Vec::new(alloc), most, until, reads);
+    Ok(run_script(alloc, &mut desk, &mut source, sink))
+}
+
+// The same, written behind `out`.
+fn run_to_memory<L: Ledger>(
+    alloc: Global,
+    script: Vec<u8>,
+    most: usize,
+    until: Option<u64>,
+    out: &mut Vec<u8>,
+    writes: Blank,
+) -> Result<Result<u64, ScriptFault>, Refusal>
+    requires most { 0 < most }
     requires write_name { writes.name ≡ L.name }
     requires write_parts { writes.parts ≡ L.parts }
     requires write_two { 1 < writes.parts }
 {
-    let mut desk = desk(alloc)?;
-    let mut source = KthFails::<K>::new(script, Vec::new(alloc), most, until, reads);
     let mut sink = Writer::<&mut Vec<u8>, L>::new(out, writes);
-    Ok(run_script(alloc, &mut desk, &mut source, &mut sink))
+    run_into::<Brand, _>(alloc, script, most, until, &mut sink, Blank::new(2))
 }
 
 fn reads(
@@ -87,161 +87,145 @@ fn reads(
     requires most { 0 < most }
 {
     let script = script.to_vec(alloc)?;
-    read_from::<Brand, Brand>(
-        alloc,
-        script,
-        most,
-        until,
-        out,
-        Blank::new(2),
-        Blank::new(2),
-    )
+    run_to_memory::<Brand>(alloc, script, most, until, out, Blank::new(2))
 }
 
-// The same where the write after `until` others fails.
-fn write_to<K: Ledger, L: Ledger>(
+// The same in whole pieces, written at most `most` bytes a time, where the write after `until` others
+// fails.
+fn run_to_failing<L: Ledger>(
     alloc: Global,
     script: Vec<u8>,
     most: usize,
     until: Option<u64>,
-    reads: Blank,
     writes: Blank,
 ) -> Result<Result<u64, ScriptFault>, Refusal>
     requires most { 0 < most }
-    requires read_name { reads.name ≡ K.name }
-    requires read_parts { reads.parts ≡ K.parts }
-    requires read_two { 1 < reads.parts }
     requires write_name { writes.name ≡ L.name }
     requires write_parts { writes.parts ≡ L.parts }
     requires write_two { 1 < writes.parts }
 {
-    let mut desk = desk(alloc)?;
-    let mut source = KthFails::<K>::new(script, Vec::new(alloc), 4096, None, reads);
     let mut sink = KthFails::<L>::new(Vec::new(alloc), Vec::new(alloc), most, until, writes);
-    Ok(run_script(alloc, &mut desk, &mut source, &mut sink))
+    run_into::<Brand, _>(alloc, script, 4096, None, &mut sink, Blank::new(2))
 }
 
 fn writes(
     alloc: Global,
-    script: &[u8],
     most: usize,
     until: Option<u64>,
 ) -> Result<Result<u64, ScriptFault>, Refusal>
     requires most { 0 < most }
 {
-    let script = script.to_vec(alloc)?;
-    write_to::<Brand, Brand>(alloc, script, most, until, Blank::new(2), Blank::new(2))
+    let script = SCRIPT.as_bytes().to_vec(alloc)?;
+    run_to_failing::<Brand>(alloc, script, most, until, Blank::new(2))
 }
 
-#[test]
-fn prints_what_each_line_says(rt: HostRuntime) -> Result<(), Fail> {
-    let mut out = Vec::new(rt.alloc());
-    let ended = reads(rt.alloc(), script(), 4096, None, &mut out)?;
-    assert!(rt; ended == Ok(11));
-    assert_eq!(rt; out.as_slice(), printed());
-    Ok(())
+// Whether the script, read in pieces of at most `most`, prints all that it has to.
+fn prints_all(alloc: Global, most: usize) -> Result<bool, Refusal>
+    requires most { 0 < most }
+{
+    let mut out = Vec::new(alloc);
+    let ended = reads(alloc, SCRIPT.as_bytes(), most, None, &mut out)?;
+    Ok(ended == Ok(11) && out.as_slice() == PRINTED.as_bytes())
 }
 
 #[test]
 fn in_any_pieces(rt: HostRuntime) -> Result<(), Fail> {
     for most in 1..40 {
-        let mut out = Vec::new(rt.alloc());
-        let ended = reads(rt.alloc(), script(), most, None, &mut out)?;
-        assert!(rt; ended == Ok(11), "{most}");
-        assert!(rt; out.as_slice() == printed(), "{most}");
+        assert!(rt; prints_all(rt.alloc(), most)?, "{most}");
     }
     Ok(())
+}
+
+// How the script ends where the read after `until` others fails; none where it printed something else
+// than it has to.
+fn ends_where_a_read_fails(
+    alloc: Global,
+    until: u64,
+) -> Result<Option<Result<u64, ScriptFault>>, Refusal> {
+    let mut out = Vec::new(alloc);
+    let ended = reads(alloc, SCRIPT.as_bytes(), 64, Some(until), &mut out)?;
+    if PRINTED.as_bytes().starts_with(&out) {
+        Ok(Some(ended))
+    } else {
+        Ok(None)
+    }
 }
 
 #[test]
 fn each_read_fails(rt: HostRuntime) -> Result<(), Fail> {
     // 821 bytes in pieces of 64 are 13 reads, and one more finds the end.
     for k in 0..14 {
-        let mut out = Vec::new(rt.alloc());
-        let ended = reads(rt.alloc(), script(), 64, Some(k), &mut out)?;
-        assert!(rt; ended == Err(ScriptFault::Read), "{k}");
-        assert!(rt; printed().starts_with(out.as_slice()), "{k}");
+        let ended = ends_where_a_read_fails(rt.alloc(), k)?;
+        assert!(rt; ended == Some(Err(ScriptFault::Read)), "{k}");
     }
-    let mut out = Vec::new(rt.alloc());
-    let ended = reads(rt.alloc(), script(), 64, Some(14), &mut out)?;
-    assert!(rt; ended == Ok(11));
+    assert!(rt; ends_where_a_read_fails(rt.alloc(), 14)? == Some(Ok(11)));
     Ok(())
 }
 
 #[test]
 fn each_write_fails(rt: HostRuntime) -> Result<(), Fail> {
     for k in 0..11 {
-        let ended = writes(rt.alloc(), script(), 4096, Some(k))?;
-        assert!(rt; ended == Err(ScriptFault::Write), "{k}");
+        assert!(rt;
+            writes(rt.alloc(), 4096, Some(k))? == Err(ScriptFault::Write),
+            "{k}"
+        );
     }
-    let ended = writes(rt.alloc(), script(), 4096, Some(11))?;
-    assert!(rt; ended == Ok(11));
-    let ended = writes(rt.alloc(), script(), 1, Some(100))?;
-    assert!(rt; ended == Err(ScriptFault::Write));
-    let ended = writes(rt.alloc(), script(), 1, None)?;
-    assert!(rt; ended == Ok(11));
+    assert!(rt; writes(rt.alloc(), 4096, Some(11))? == Ok(11));
+    assert!(rt; writes(rt.alloc(), 1, Some(100))? == Err(ScriptFault::Write));
+    assert!(rt; writes(rt.alloc(), 1, None)? == Ok(11));
     Ok(())
 }
 
-#[test]
-fn the_last_line_may_lack_its_end(rt: HostRuntime) -> Result<(), Fail> {
-    let mut out = Vec::new(rt.alloc());
-    let ended = reads(rt.alloc(), b"x\n\ny", 4096, None, &mut out)?;
-    assert!(rt; ended == Ok(2));
-    assert_eq!(rt; out.as_slice(), b"bad line\nbad line\n".as_slice());
-    Ok(())
+// A script that has so many of a byte in it.
+fn long(
+    alloc: Global,
+    head: &str,
+    byte: u8,
+    count: usize,
+    tail: &str,
+) -> Result<Vec<u8>, AllocError> {
+    let mut script = head.as_bytes().to_vec(alloc)?;
+    script.resize(script.len().saturating_add(count), byte)?;
+    script.extend_from_slice(tail.as_bytes())?;
+    Ok(script)
 }
 
-#[test]
-fn an_empty_script(rt: HostRuntime) -> Result<(), Fail> {
-    let mut out = Vec::new(rt.alloc());
-    assert!(rt; reads(rt.alloc(), b"", 4096, None, &mut out)? == Ok(0));
-    assert!(rt; reads(rt.alloc(), b"\n\n\n", 4096, None, &mut out)? == Ok(0));
-    assert!(rt; out.is_empty());
-    Ok(())
+// Whether a script ends so, and prints so many lines that are bad.
+fn ends(
+    alloc: Global,
+    script: &[u8],
+    wanted: Result<u64, ScriptFault>,
+    bad: usize,
+) -> Result<bool, Refusal> {
+    let mut out = Vec::new(alloc);
+    let ended = reads(alloc, script, 4096, None, &mut out)?;
+    Ok(ended == wanted && out.as_slice() == "bad line\n".repeat(alloc, bad)?.as_bytes())
 }
 
-// So many of a byte.
-fn many(alloc: Global, byte: u8, count: usize) -> Result<Vec<u8>, AllocError> {
-    vec![in alloc; byte; count]
-}
+// The last line may lack its end; empty lines are passed over; a line has at most a mebibyte, and a
+// script at most a million lines, empty ones too.
+const LONG: [(&str, u8, usize, &str, Result<u64, ScriptFault>, usize); 7] = [
+    ("x\n\ny", b'y', 0, "", Ok(2), 2),
+    ("", b'x', 0, "", Ok(0), 0),
+    ("\n\n\n", b'x', 0, "", Ok(0), 0),
+    ("", b'x', 1_048_576, "\ny", Ok(2), 2),
+    ("x\n", b'x', 1_048_577, "", Err(ScriptFault::LineTooLong), 1),
+    ("x\n", b'\n', 999_999, "", Ok(1), 1),
+    (
+        "x\n",
+        b'\n',
+        1_000_000,
+        "",
+        Err(ScriptFault::ScriptTooLong),
+        1,
+    ),
+];
 
 #[test]
-fn a_line_may_have_a_mebibyte(rt: HostRuntime) -> Result<(), Fail> {
-    let mut out = Vec::new(rt.alloc());
-    let mut script = many(rt.alloc(), b'x', 1_048_576)?;
-    script.extend_from_slice(b"\ny")?;
-    assert!(rt; reads(rt.alloc(), &script, 4096, None, &mut out)? == Ok(2));
-    Ok(())
-}
-
-#[test]
-fn a_longer_line_ends_the_run(rt: HostRuntime) -> Result<(), Fail> {
-    let mut out = Vec::new(rt.alloc());
-    let mut script = b"x\n".to_vec(rt.alloc())?;
-    script.extend_from_slice(&many(rt.alloc(), b'x', 1_048_577)?)?;
-    let ended = reads(rt.alloc(), &script, 4096, None, &mut out)?;
-    assert!(rt; ended == Err(ScriptFault::LineTooLong));
-    assert_eq!(rt; out.as_slice(), b"bad line\n".as_slice());
-    Ok(())
-}
-
-#[test]
-fn a_script_may_have_a_million_lines(rt: HostRuntime) -> Result<(), Fail> {
-    let mut out = Vec::new(rt.alloc());
-    let mut script = b"x\n".to_vec(rt.alloc())?;
-    script.extend_from_slice(&many(rt.alloc(), b'\n', 999_999)?)?;
-    assert!(rt; reads(rt.alloc(), &script, 4096, None, &mut out)? == Ok(1));
-    Ok(())
-}
-
-#[test]
-fn one_more_line_ends_the_run(rt: HostRuntime) -> Result<(), Fail> {
-    let mut out = Vec::new(rt.alloc());
-    let mut script = b"x\n".to_vec(rt.alloc())?;
-    script.extend_from_slice(&many(rt.alloc(), b'\n', 1_000_000)?)?;
-    let ended = reads(rt.alloc(), &script, 4096, None, &mut out)?;
-    assert!(rt; ended == Err(ScriptFault::ScriptTooLong));
-    assert_eq!(rt; out.as_slice(), b"bad line\n".as_slice());
+fn long_scripts(rt: HostRuntime) -> Result<(), Fail> {
+    for (head, byte, count, tail, ended, bad) in LONG {
+        let script = long(rt.alloc(), head, byte, count, tail)?;
+        assert!(rt; ends(rt.alloc(), &script, ended, bad)?, "{count}");
+    }
     Ok(())
 }

@@ -5,9 +5,10 @@ use adr_db::{
 };
 use adr_schema::{Body, Kind};
 use adr_state::{Mark, MirrorKey};
-use adr_text::{Moment, Name, ObjectId, Refusal, Rows};
+use adr_text::{Moment, Name, ObjectId, Refusal};
 use sqlite::{Alter, Connection, Transaction};
-use std::alloc::Global;
+use std::alloc::{AllocError, Global};
+use std::slice::from_ref;
 use std::test::Fail;
 
 fn key(alloc: Global, kind: Kind, id: &str) -> Result<MirrorKey, Refusal> {
@@ -39,12 +40,17 @@ fn poll<S: Alter>(alloc: Global, tx: &mut Transaction<'_, S>, id: &str) -> Resul
     put_polled(tx, &key(alloc, Kind::Event, id)?)
 }
 
-// Two live events, of which one is polled, a live program, and an event that was deleted.
-fn fill<S: Alter>(alloc: Global, tx: &mut Transaction<'_, S>) -> Result<(), Refusal> {
+// Two live events, and one that was deleted.
+fn fill_events<S: Alter>(alloc: Global, tx: &mut Transaction<'_, S>) -> Result<(), Refusal> {
     put_live(alloc, tx, Kind::Event, "e2")?;
     put_live(alloc, tx, Kind::Event, "e1")?;
     put_live(alloc, tx, Kind::Event, "e0")?;
-    put_dead(alloc, tx, "e0")?;
+    put_dead(alloc, tx, "e0")
+}
+
+// One of the events is polled, and there is a live program.
+fn fill<S: Alter>(alloc: Global, tx: &mut Transaction<'_, S>) -> Result<(), Refusal> {
+    fill_events(alloc, tx)?;
     put_live(alloc, tx, Kind::Program, "p1")?;
     poll(alloc, tx, "e1")?;
     poll(alloc, tx, "e1")
@@ -54,45 +60,75 @@ fn commit<S: Alter>(tx: Transaction<'_, S>) -> Result<(), Refusal> {
     tx.commit().map_err(|_| Refusal::Store)
 }
 
-// The keys, each behind a space.
-fn line(alloc: Global, keys: &Rows<MirrorKey>) -> Result<String, Refusal> {
-    let mut line = String::new(alloc);
-    for key in keys.as_slice() {
+// Adds the ids of keys, each behind a space.
+fn push_ids(line: &mut String, keys: &[MirrorKey]) -> Result<(), AllocError> {
+    for key in keys {
         line.push_str(" ")?;
         line.push_str(key.id.as_str())?;
     }
-    Ok(line)
+    line.push_str(";")
 }
 
-fn all<S: Alter>(alloc: Global, tx: &mut Transaction<'_, S>) -> Result<String, Refusal> {
-    let mut keys = Rows::new(alloc);
-    for row in read_marks(alloc, tx)?.into_vec() {
-        keys.push(row.key)?;
+fn push_all<S: Alter>(
+    alloc: Global,
+    tx: &mut Transaction<'_, S>,
+    line: &mut String,
+) -> Result<(), Refusal> {
+    for row in read_marks(alloc, tx)?.as_slice() {
+        push_ids(line, from_ref(&row.key))?;
     }
-    line(alloc, &keys)
+    Ok(())
 }
 
-fn polled<S: Alter>(alloc: Global, tx: &mut Transaction<'_, S>) -> Result<String, Refusal> {
-    line(alloc, &read_polled(alloc, tx)?)
+fn push_polled<S: Alter>(
+    alloc: Global,
+    tx: &mut Transaction<'_, S>,
+    line: &mut String,
+) -> Result<(), Refusal> {
+    let keys = read_polled(alloc, tx)?;
+    push_ids(line, keys.as_slice())?;
+    Ok(())
 }
 
-fn unseen<S: Alter>(
+fn push_unseen<S: Alter>(
     alloc: Global,
     tx: &mut Transaction<'_, S>,
     limit: Option<u32>,
-) -> Result<String, Refusal> {
-    line(alloc, &read_unseen(alloc, tx, limit)?)
+    line: &mut String,
+) -> Result<(), Refusal> {
+    let keys = read_unseen(alloc, tx, limit)?;
+    push_ids(line, keys.as_slice())?;
+    Ok(())
+}
+
+fn push_count<S: Alter>(
+    alloc: Global,
+    tx: &mut Transaction<'_, S>,
+    line: &mut String,
+) -> Result<(), Refusal> {
+    let count = count_marks(tx)?;
+    line.push_str(format!(in alloc; "{count}:")?.as_str())?;
+    Ok(())
+}
+
+fn push_first_unseen<S: Alter>(
+    alloc: Global,
+    tx: &mut Transaction<'_, S>,
+    line: &mut String,
+) -> Result<(), Refusal> {
+    push_unseen(alloc, tx, None, line)?;
+    push_unseen(alloc, tx, Some(1), line)
 }
 
 // How many marks there are, and the ids of the keys: all, those polled, those unseen, and the first of
 // these.
 fn shown<S: Alter>(alloc: Global, tx: &mut Transaction<'_, S>) -> Result<String, Refusal> {
-    let count = count_marks(tx)?;
-    let all = all(alloc, tx)?;
-    let polled = polled(alloc, tx)?;
-    let unseen_ones = unseen(alloc, tx, None)?;
-    let first = unseen(alloc, tx, Some(1))?;
-    Ok(format!(in alloc; "{count}:{all};{polled};{unseen_ones};{first}")?)
+    let mut line = String::new(alloc);
+    push_count(alloc, tx, &mut line)?;
+    push_all(alloc, tx, &mut line)?;
+    push_polled(alloc, tx, &mut line)?;
+    push_first_unseen(alloc, tx, &mut line)?;
+    Ok(line)
 }
 
 // What is kept of a key.
@@ -161,7 +197,7 @@ fn rows_of_each_table(rt: HostRuntime) -> Result<(), Fail> {
     let meta = dropped(&mut conn)?;
     assert_eq!(rt; (meta.serial, meta.scan, meta.made), (7, true, 0));
     let [shown, marks] = second(alloc, &mut conn)?;
-    assert_eq!(rt; shown.as_str(), "4: p1 e0 e1 e2; e1; p1 e2; p1");
+    assert_eq!(rt; shown.as_str(), "4: p1; e0; e1; e2; e1; p1 e2; p1;");
     assert_eq!(rt;
         marks.as_str(),
         "1 1000000000 {\"program\":\"dr\"};2 0 ;none"

@@ -1,7 +1,4 @@
 use Rattle.adr_calls.proofs.scripts.reads.Given as goal
 
-abbrev pub ghosts-read_from-K-Ledger : goal.ghosts-read_from-K-Ledger
-ghosts-read_from-K-Ledger a = record { name = a.reads.name; parts = a.reads.parts }
-
-abbrev pub ghosts-read_from-L-Ledger : goal.ghosts-read_from-L-Ledger
-ghosts-read_from-L-Ledger a = record { name = a.writes.name; parts = a.writes.parts }
+abbrev pub ghosts-run_to_memory : goal.ghosts-run_to_memory
+ghosts-run_to_memory a = record { name = a.writes.name; parts = a.writes.parts }
