@@ -1,5 +1,5 @@
 -- The mirror after a run is the join of all accepted evidence.
-use Rattle.std.proofs.Common.{◌≡◌, ℕ, Bool, true, false, cond, ◌⊎◌, inl, inr, List, [], ◌∷◌, ◌++◌, fold, Option, Some, None, Result, Ok, Err, IfOk, refl, sym, ap, ◌∙◌, ◌==◌, not, ◌&&◌, length}
+use Rattle.std.proofs.Common.{◌≡◌, ℕ, Bool, true, false, cond, ◌⊎◌, inl, inr, List, [], ◌∷◌, Option, Some, None, Result, Ok, Err, IfOk, refl, sym, ap, ◌∙◌, ◌==◌, not, ◌&&◌, length}
 use Rattle.std.specs.Prelude.{nat_le, nat_lt, is_none}
 use Rattle.std.specs.List.{Contains}
 use Rattle.std.proofs.lemmas.List.Sums.{fold-append}
@@ -28,9 +28,9 @@ use Rattle.adr_machine.specs.declared.command.Command.{Command}
 use Rattle.adr_machine.specs.declared.command.Command.TheVariants.{Evidence, Gone, ScanBegin, ScanEnd, VenAdd, ResourceAdd, ShareSet}
 use Rattle.adr_machine.specs.Roles.{is_operator}
 use Rattle.adr_machine.specs.Edits.{mirror_set, adds_beyond, scan_after, scan_end, has_ven, enrolling, enrolled_by, has_resource, ven_at, adding, resource_of_ven, resource_at, share_of_resource, sharing, share_put, edit}
-use Rattle.adr_machine.specs.Steps.{committed, step}
+use Rattle.adr_machine.specs.Steps.{committed}
 use Rattle.adr_machine.specs.Runs.{state_after, state_of, step_at}
-use Rattle.adr_machine.specs.Laws.{evidence_in, accepted_in, accepted_evidence, IsGreatestOf, MirrorIsGreatest}
+use Rattle.adr_machine.specs.Laws.{evidence_in, accepted_in, accepted_evidence, MirrorIsGreatest}
 
 -- an edit that goes well leaves this mirror
 abbrev Leaves : List (MirrorKey × Mark) → Result (Option Answer × Base) Refusal → Type 0

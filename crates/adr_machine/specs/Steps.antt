@@ -1,5 +1,5 @@
 -- One step of the machine, and its replies to queries.
-use Rattle.std.specs.Prelude.{◌≡◌, ℕ, Bool, true, List, [], length, filter, take, drop, Option, None, Some, option_map, option_and_then, Result, Ok, Err}
+use Rattle.std.specs.Prelude.{◌≡◌, ℕ, Bool, true, List, length, filter, take, drop, Option, None, Some, option_map, option_and_then, Result, Ok, Err}
 use Rattle.std.specs.List.{filter_map}
 use Rattle.std.specs.Ordering.{nat_cmp}
 use Rattle.std.specs.Option.{option_map_or}
@@ -40,11 +40,15 @@ abbrev pub answer_or_count : Option Answer → ℕ → Answer
 answer_or_count (Some a) count = a
 answer_or_count None count = answer.Changes count
 
--- the base after an edit, with the stamps after the changes from the view before to the view after
+-- how many keys change from the view before an edit to the view after it, and the stamps then
+abbrev pub changed : State → ℕ → Base → ℕ × List (ViewKey × Stamps)
+changed s now base = (length (changes (view s.base) (view base)), restamped s.stamps (view s.base) (view base) now)
+
+-- the base after an edit, with the stamps after its changes; the answer is their number where there is none yet
 abbrev pub committed : State → ℕ → Option Answer → Base → Answer × State
 committed s now a base = (
-  answer_or_count a (length (changes (view s.base) (view base))),
-  record { base = base; stamps = restamped s.stamps (view s.base) (view base) now },
+  answer_or_count a (changed s now base).0,
+  record { base = base; stamps = (changed s now base).1 },
 )
 
 -- an edit, and then its commit; a refusal changes nothing

@@ -1,13 +1,14 @@
 //! Steps: an edit, and then its commit.
 ghost use Rattle.std.specs.Prelude.{◌≡◌, ◌≢◌, Ok, Err, IfOk, IfErr};
 ghost use Rattle.adr_text.specs.declared.refusal.Refusal.TheVariants.{Store};
-ghost use Rattle.adr_machine.specs.Steps.{answer_or_count, committed, step, IsRefusalOf};
+ghost use Rattle.adr_machine.specs.Steps.{answer_or_count, changed, committed, step, IsRefusalOf};
 
 use crate::answer::Answer;
 use crate::command::Command;
 use crate::edits::edited;
-use adr_state::{Base, Settings, State, changes_of, restamped, view_of};
-use adr_text::{Moment, Refusal};
+use adr_schema::Stamps;
+use adr_state::{Base, Settings, State, ViewKey, changes_of, restamped, view_of};
+use adr_text::{Moment, Refusal, Table};
 use std::alloc::{AllocError, Global};
 
 fn answer_or_count(answer: Option<Answer>, count: usize) -> Answer
@@ -17,6 +18,22 @@ fn answer_or_count(answer: Option<Answer>, count: usize) -> Answer
         Some(answer) => answer,
         None => Answer::Changes(count as u64),
     }
+}
+
+/// How many keys of the view changed, and the stamps after the changes.
+fn changed(
+    alloc: Global,
+    state: &State,
+    now: Moment,
+    base: &Base,
+) -> Result<(usize, Table<ViewKey, Stamps>), AllocError>
+    ensures { IfOk result (λ next. next ≡ changed state.now now base.now) }
+{
+    let before = view_of(alloc, &state.base)?;
+    let after = view_of(alloc, base)?;
+    let changes = changes_of(alloc, &before, &after)?;
+    let stamps = restamped(alloc, &state.stamps, &before, &after, now)?;
+    Ok((changes.len(), stamps))
 }
 
 /// The base after an edit, with its stamps, and the answer.
@@ -29,14 +46,8 @@ fn committed(
 ) -> Result<(Answer, State), AllocError>
     ensures { IfOk result (λ next. next ≡ committed state.now now answer base) }
 {
-    let before = view_of(alloc, &state.base)?;
-    let after = view_of(alloc, &base)?;
-    let changes = changes_of(alloc, &before, &after)?;
-    let stamps = restamped(alloc, &state.stamps, &before, &after, now)?;
-    Ok((
-        answer_or_count(answer, changes.len()),
-        State { base, stamps },
-    ))
+    let (count, stamps) = changed(alloc, state, now, &base)?;
+    Ok((answer_or_count(answer, count), State { base, stamps }))
 }
 
 /// What a step answers and leaves, aside.
