@@ -13,6 +13,4 @@ mod scripts;
 #[cfg(test)]
 mod splits;
 #[cfg(test)]
-mod tables;
-#[cfg(test)]
 mod texts;
