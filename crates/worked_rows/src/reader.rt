@@ -77,11 +77,11 @@ fn one_line(alloc: Global, kind: Kind, text: &[u8]) -> Result<String, Refusal> {
     version_line(alloc, &read_one(alloc, kind, text)?)
 }
 
-fn notice_line(alloc: Global, text: &[u8]) -> Result<String, Refusal> {
-    match read_notice(alloc, text)? {
-        NoticeIn::Found(version) => version_line(alloc, &version),
+fn told_line(alloc: Global, notice: &NoticeIn) -> Result<String, Refusal> {
+    match notice {
+        NoticeIn::Found(version) => version_line(alloc, version),
         NoticeIn::Gone { kind, id } => {
-            let kind = kind_word(kind);
+            let kind = kind_word(*kind);
             let id = id.as_id().as_str();
             Ok(format!(in alloc; "gone {kind} {id}")?)
         }
@@ -89,9 +89,13 @@ fn notice_line(alloc: Global, text: &[u8]) -> Result<String, Refusal> {
     }
 }
 
+fn notice_line(alloc: Global, text: &[u8]) -> Result<String, Refusal> {
+    told_line(alloc, &read_notice(alloc, text)?)
+}
+
 /// The canonical text of the body that a canonical text is read as.
-fn canonical_line(alloc: Global, text: &[u8]) -> Result<String, Refusal> {
-    let body = read_canonical(alloc, text_of(text)?)?;
+fn canonical_line(alloc: Global, text: &str) -> Result<String, Refusal> {
+    let body = read_canonical(alloc, text)?;
     Ok(canonical(alloc, &body)?)
 }
 
@@ -141,7 +145,7 @@ fn line(alloc: Global, reader: Reader, text: &[u8]) -> Result<String, Refusal> {
         Reader::Page(kind) => page_line(alloc, kind, text),
         Reader::One(kind) => one_line(alloc, kind, text),
         Reader::Notice => notice_line(alloc, text),
-        Reader::Canonical => canonical_line(alloc, text),
+        Reader::Canonical => canonical_line(alloc, text_of(text)?),
         Reader::Ven => ven_line(alloc, text),
         Reader::Resource => resource_line(alloc, text),
         Reader::Share => share_line(alloc, text),
