@@ -5,6 +5,7 @@ pub mod References
 pub mod Puts
 pub mod Selections
 pub mod Removals
+pub mod Upserts
 pub mod Counts
 pub mod Creations
 pub mod Transactions

@@ -24,6 +24,7 @@ use Rattle.adr_sql.specs.Contents.{Contents, rows_of_table, with_table, Holds}
 use Rattle.adr_sql.proofs.Keys.{are_full, ties}
 use Rattle.adr_sql.proofs.Places.{stores_at}
 use Rattle.adr_sql.proofs.Puts.{IsKept, IsPutText, AreValues, put_runs}
+use Rattle.adr_sql.proofs.Upserts.{IsKeyed, IsUpsertText, upsert_runs}
 use Rattle.adr_sql.proofs.Selections.{IsSelectText, whole_rows, equalities, read_runs}
 use Rattle.adr_sql.proofs.Removals.{IsRemoveText, remove_at_runs}
 use Rattle.adr_sql.proofs.Rows.{key_order_total}
@@ -135,6 +136,17 @@ pub rows_without_none : (key : Row) (rows : List Row) → rows_without 0 key row
 rows_without_none key [] = refl
 rows_without_none key (row ∷ rows) = rows_without_none key rows
 
+-- a row in its place is an entry inserted, and a key
+module _ (schema : Schema) (at : ℕ) (table : Table) where
+  entry_inserted : {K V : Type 0} (cmp : K → K → Ordering) (row_of : K × V → Row) (key_of : K → Row) → IsCodec (length table.primary) cmp row_of key_of → (k : K) (v : V) (es : List (K × V)) (new : State) (all : Contents) → rows_of_table all at ≡ map row_of es
+      → Holds schema (with_table all at (with_row (length table.primary) (row_of (k, v)) (rows_of_table all at))) new → Holds schema (with_table all at (map row_of (insert_entry cmp es k v))) new
+  entry_inserted cmp row_of key_of codec k v es new all is h =
+      subst (λ rows. Holds schema (with_table all at rows) new) (ap (with_row (length table.primary) (row_of (k, v))) is ∙ put_entry (length table.primary) cmp row_of key_of codec k v es) h
+
+  key_inserted : {K : Type 0} (cmp : K → K → Ordering) (row_of : K → Row) → IsCodec {K = K} {V = Unit {0}} (length table.primary) cmp (λ e. row_of e.0) row_of → (k : K) (ks : List K) (new : State) (all : Contents) → rows_of_table all at ≡ map row_of ks
+      → Holds schema (with_table all at (with_row (length table.primary) (row_of k) (rows_of_table all at))) new → Holds schema (with_table all at (map row_of (insert_key cmp ks k))) new
+  key_inserted cmp row_of codec k ks new all is h = subst (λ rows. Holds schema (with_table all at rows) new) (ap (with_row (length table.primary) (row_of k)) is ∙ put_key (length table.primary) cmp row_of codec k ks) h
+
 module _ (schema : Schema) (at : ℕ) (table : Table) (it : IsKept schema at table) (sql : List ℕ) (params : Row) where
   -- all rows go
   pub clear_runs : (text : IsRemoveText schema at table end [] sql) → (old new : State) (count : ℕ) (all : Contents) → Executes sql params old new (Ok count) → Holds schema all old → Holds schema (with_table all at []) new
@@ -148,9 +160,7 @@ module _ (schema : Schema) (at : ℕ) (table : Table) (it : IsKept schema at tab
   module _ {K V : Type 0} (cmp : K → K → Ordering) (row_of : K × V → Row) (key_of : K → Row) (codec : IsCodec (length table.primary) cmp row_of key_of) where
     pub put_entry_runs : (k : K) (v : V) (es : List (K × V)) → IsPutText schema at table sql params (row_of (k, v)) → AreValues table (row_of (k, v)) → (old new : State) (count : ℕ) (all : Contents) → rows_of_table all at ≡ map row_of es
         → Executes sql params old new (Ok count) → Holds schema all old → Holds schema (with_table all at (map row_of (insert_entry cmp es k v))) new
-    put_entry_runs k v es text are old new count all is h was =
-        subst (λ rows. Holds schema (with_table all at rows) new) (ap (with_row (length table.primary) (row_of (k, v))) is ∙ put_entry (length table.primary) cmp row_of key_of codec k v es)
-        (put_runs schema at table it sql params (row_of (k, v)) text are old new count all h was)
+    put_entry_runs k v es text are old new count all is h was = entry_inserted schema at table cmp row_of key_of codec k v es new all is (put_runs schema at table it sql params (row_of (k, v)) text are old new count all h was)
 
     pub remove_entry_runs : (k : K) (es : List (K × V)) → IsRemoveText schema at table end (equalities 0 (length table.primary)) sql → params ≡ key_of k → are_full 0 (length table.primary) params ≡ true → (old new : State) (count : ℕ) (all : Contents)
         → rows_of_table all at ≡ map row_of es → Executes sql params old new (Ok count) → Holds schema all old → Holds schema (with_table all at (map row_of (remove_entry (is_at (cmp k)) es))) new
@@ -171,6 +181,15 @@ module _ (schema : Schema) (at : ℕ) (table : Table) (it : IsKept schema at tab
   -- a set
   pub put_key_runs : {K : Type 0} (cmp : K → K → Ordering) (row_of : K → Row) → IsCodec {K = K} {V = Unit {0}} (length table.primary) cmp (λ e. row_of e.0) row_of → (k : K) (ks : List K) → IsPutText schema at table sql params (row_of k) → AreValues table (row_of k)
       → (old new : State) (count : ℕ) (all : Contents) → rows_of_table all at ≡ map row_of ks → Executes sql params old new (Ok count) → Holds schema all old → Holds schema (with_table all at (map row_of (insert_key cmp ks k))) new
-  put_key_runs cmp row_of codec k ks text are old new count all is h was =
-      subst (λ rows. Holds schema (with_table all at rows) new) (ap (with_row (length table.primary) (row_of k)) is ∙ put_key (length table.primary) cmp row_of codec k ks)
-      (put_runs schema at table it sql params (row_of k) text are old new count all h was)
+  put_key_runs cmp row_of codec k ks text are old new count all is h was = key_inserted schema at table cmp row_of codec k ks new all is (put_runs schema at table it sql params (row_of k) text are old new count all h was)
+
+-- a put that writes over the row of the key where it stands
+module _ (schema : Schema) (at : ℕ) (table : Table) (it : IsKeyed schema at table) (sql : List ℕ) (params : Row) where
+  pub upsert_entry_runs : {K V : Type 0} (cmp : K → K → Ordering) (row_of : K × V → Row) (key_of : K → Row) → IsCodec (length table.primary) cmp row_of key_of → (k : K) (v : V) (es : List (K × V)) → IsUpsertText schema at table sql params (row_of (k, v)) → AreValues table (row_of (k, v))
+      → (old new : State) (count : ℕ) (all : Contents) → rows_of_table all at ≡ map row_of es → Executes sql params old new (Ok count) → Holds schema all old → Holds schema (with_table all at (map row_of (insert_entry cmp es k v))) new
+  upsert_entry_runs cmp row_of key_of codec k v es text are old new count all is h was = entry_inserted schema at table cmp row_of key_of codec k v es new all is (upsert_runs schema at table it sql params (row_of (k, v)) text are old new count all h was)
+
+  -- a set
+  pub upsert_key_runs : {K : Type 0} (cmp : K → K → Ordering) (row_of : K → Row) → IsCodec {K = K} {V = Unit {0}} (length table.primary) cmp (λ e. row_of e.0) row_of → (k : K) (ks : List K) → IsUpsertText schema at table sql params (row_of k) → AreValues table (row_of k)
+      → (old new : State) (count : ℕ) (all : Contents) → rows_of_table all at ≡ map row_of ks → Executes sql params old new (Ok count) → Holds schema all old → Holds schema (with_table all at (map row_of (insert_key cmp ks k))) new
+  upsert_key_runs cmp row_of codec k ks text are old new count all is h was = key_inserted schema at table cmp row_of codec k ks new all is (upsert_runs schema at table it sql params (row_of k) text are old new count all h was)

@@ -126,7 +126,7 @@ fits_kept Integer (Int n) h = cast_int n
 fits_kept Text (Words t) h = refl
 fits_kept _ _ h = absurd cc
 
-fit_kept : (cs : List Column) (row : Row) → fit cs row ≡ true → cast_all cs row ≡ row
+pub fit_kept : (cs : List Column) (row : Row) → fit cs row ≡ true → cast_all cs row ≡ row
 fit_kept [] [] h = refl
 fit_kept (c ∷ cs) (v ∷ row) h = let p = and_parts _ _ h in ap₂ ◌∷◌ (fits_kept c.kind v p.0) (fit_kept cs row p.1)
 fit_kept _ _ h = absurd cc

@@ -1,13 +1,17 @@
--- A table to which no reference points: a write to it sets off nothing. And what every write shares.
-use Rattle.std.proofs.Common.{◌≡◌, ◌⊎◌, inl, inr, ℕ, ℤ, Bool, true, false, not, ◌==◌, cond, List, [], ◌∷◌, ◌++◌, length, Ok, Err, Result, Option, Some, None, refl, ap₂}
+-- A write that sets off no action: to a table to which no reference points, or one whose references follow no change of a key. And
+-- what every write shares.
+use Rattle.std.proofs.Common.{◌≡◌, ◌⊎◌, inl, inr, ℕ, ℤ, Bool, true, false, not, ◌||◌, ◌==◌, cond, List, [], ◌∷◌, ◌++◌, length, Ok, Err, Result, Option, Some, None, refl, ap, ap₂}
 use Rattle.std.specs.List.{list_all, flat_map, filter_map, cons_option}
-use Rattle.std.proofs.lemmas.Bool.{and_parts, not-true}
+use Rattle.std.proofs.lemmas.Bool.{and_parts, not-true, or_cases}
 use Rattle.sqlite_value.specs.declared.value.Value.{Value}
 use Rattle.sqlite_value.specs.declared.value.Value.TheVariants.{Null, Int}
 use Rattle.sqlite_value.specs.Order.{Row}
 use Rattle.sqlite_sql.specs.Ops.{unary}
 use Rattle.sqlite_schema.specs.declared.schema.Kind.TheVariants.{Integer}
 use Rattle.sqlite_schema.specs.declared.schema.Keys.{Keys}
+use Rattle.sqlite_schema.specs.declared.schema.Keys.TheVariants.{Enforced, Deferred, Off}
+use Rattle.sqlite_schema.specs.declared.schema.Action.{Action}
+use Rattle.sqlite_schema.specs.declared.schema.Action.TheVariants.{NoAction}
 use Rattle.sqlite_schema.specs.declared.schema.Reference.{Reference}
 use Rattle.sqlite_schema.specs.declared.schema.Table.{Table}
 use Rattle.sqlite_schema.specs.declared.schema.Schema.{Schema}
@@ -64,5 +68,42 @@ no_work schema depth tree h keys olds news = each schema.tables h
         ap₂ cons_option (unmoved depth tree (pairs olds news) child ref (deed_for keys (length news == 0) ref) (parent_key schema.tables ref) parts.0) (none child refs parts.1)
 
     each : (tables : List Table) → list_all (λ t. list_all (λ ref. not (points tree (parent_key schema.tables ref))) t.references) tables ≡ true → flat_map (λ child. filter_map (work_for schema keys depth tree olds news child) child.references) tables ≡ []
+    each [] h = refl
+    each (t ∷ tables) h = let parts = and_parts _ _ h in ap₂ ◌++◌ (none t t.references parts.0) (each tables parts.1)
+
+-- ---- references that follow no change of a key
+
+abbrev is_no_action : Action → Bool
+is_no_action NoAction = true
+is_no_action _ = false
+
+-- no reference to the table with this tree is ON UPDATE something
+abbrev pub is_unfollowed : Schema → ℕ → Bool
+is_unfollowed schema tree = list_all (λ t. list_all (λ ref. is_no_action ref.on_update || not (points tree (parent_key schema.tables ref))) t.references) schema.tables
+
+no_action : (a : Action) → is_no_action a ≡ true → a ≡ NoAction
+no_action NoAction h = refl
+no_action _ h = absurd cc
+
+no_deed : (keys : Keys) (ref : Reference) → ref.on_update ≡ NoAction → deed_for keys false ref ≡ None
+no_deed Enforced ref h = rw h refl
+no_deed Deferred ref h = rw h refl
+no_deed Off ref h = refl
+
+-- so to write one row anew sets off nothing
+pub no_follow : (schema : Schema) (depth tree : ℕ) → is_unfollowed schema tree ≡ true → (keys : Keys) (olds : List Row) (new : Row) → works schema keys depth tree olds (new ∷ []) ≡ []
+no_follow schema depth tree h keys olds new = each schema.tables h
+  where
+    one : (child : Table) (ref : Reference) → (is_no_action ref.on_update || not (points tree (parent_key schema.tables ref))) ≡ true → work_for schema keys depth tree olds (new ∷ []) child ref ≡ None
+    one child ref h = elim (or_cases (is_no_action ref.on_update) (not (points tree (parent_key schema.tables ref))) h) [
+      | inl quiet ↦ ap (λ d. work_by depth tree (pairs olds (new ∷ [])) child ref d (parent_key schema.tables ref)) (no_deed keys ref (no_action ref.on_update quiet))
+      | inr other ↦ unmoved depth tree (pairs olds (new ∷ [])) child ref (deed_for keys false ref) (parent_key schema.tables ref) other
+    ]
+
+    none : (child : Table) (refs : List Reference) → list_all (λ ref. is_no_action ref.on_update || not (points tree (parent_key schema.tables ref))) refs ≡ true → filter_map (work_for schema keys depth tree olds (new ∷ []) child) refs ≡ []
+    none child [] h = refl
+    none child (ref ∷ refs) h = let parts = and_parts _ _ h in ap₂ cons_option (one child ref parts.0) (none child refs parts.1)
+
+    each : (tables : List Table) → list_all (λ t. list_all (λ ref. is_no_action ref.on_update || not (points tree (parent_key schema.tables ref))) t.references) tables ≡ true → flat_map (λ child. filter_map (work_for schema keys depth tree olds (new ∷ []) child) child.references) tables ≡ []
     each [] h = refl
     each (t ∷ tables) h = let parts = and_parts _ _ h in ap₂ ◌++◌ (none t t.references parts.0) (each tables parts.1)

@@ -45,7 +45,7 @@ has_along : {X : Type 0} (xs ys : List X) (x : X) → IsPermutation xs ys → Ha
 has_along xs ys x same h = has_contained ys x (Contains-permutation xs ys x same (contains_had xs x h))
 
 -- to take out the rowids of the rows that pass is to filter those out
-taken_out : (p : Row → Bool) (rows : List Row) (ids : List ℤ) → IsTable rows → AllByRecursion (λ r. IsTrue (is_int (rowid r))) rows
+pub taken_out : (p : Row → Bool) (rows : List Row) (ids : List ℤ) → IsTable rows → AllByRecursion (λ r. IsTrue (is_int (rowid r))) rows
     → ((id : ℤ) → Has ids id → (r : Row) × Has rows r × (p r ≡ true) × (id ≡ id_in (rowid r))) → ((r : Row) → Has rows r → p r ≡ true → Has ids (id_in (rowid r)))
     → without_all rows ids ≡ filter (λ r. not (p r)) rows
 taken_out p rows ids up numbered sound complete =
