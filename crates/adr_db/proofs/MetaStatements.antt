@@ -11,17 +11,18 @@ use Rattle.sqlite.specs.Listing.{understood}
 use Rattle.sqlite_tied.specs.Compute.{everything}
 use Rattle.adr_sql.specs.Keys.{with_row}
 use Rattle.adr_sql.specs.Contents.{Contents, rows_of_table, with_table, Holds}
-use Rattle.adr_sql.proofs.Puts.{IsPutText, AreValues, put_runs}
+use Rattle.adr_sql.proofs.Puts.{AreValues}
+use Rattle.adr_sql.proofs.Upserts.{IsUpsertText, upsert_runs}
 use Rattle.adr_sql.proofs.Selections.{IsSelectText, whole_rows}
 use Rattle.adr_sql.proofs.Maps.{number_key, read_all_runs}
 use Rattle.adr_db.specs.declared.meta.Meta.{Meta}
 use Rattle.adr_db.specs.Tables.{schema}
 use Rattle.adr_db.specs.Rows.{number, meta_row}
 use Rattle.adr_db.specs.Kept.{Kept, Keeps, AreMarks, contents_of, with_meta}
-use Rattle.adr_db.proofs.Tables.{meta, meta_is}
+use Rattle.adr_db.proofs.Tables.{meta, meta_is, meta_keyed}
 
 abbrev pub put_text : List ℕ
-put_text = codes "INSERT OR REPLACE INTO meta (k, version, serial, scan, made, sent, given_up, dropped) VALUES (1, 1, ?1, ?2, ?3, ?4, ?5, ?6)"
+put_text = codes "INSERT INTO meta (k, version, serial, scan, made, sent, given_up, dropped) VALUES (1, 1, ?1, ?2, ?3, ?4, ?5, ?6) ON CONFLICT (k) DO UPDATE SET k = excluded.k, version = excluded.version, serial = excluded.serial, scan = excluded.scan, made = excluded.made, sent = excluded.sent, given_up = excluded.given_up, dropped = excluded.dropped"
 
 abbrev pub read_text : List ℕ
 read_text = codes "SELECT k, version, serial, scan, made, sent, given_up, dropped FROM meta ORDER BY k"
@@ -30,15 +31,24 @@ read_text = codes "SELECT k, version, serial, scan, made, sent, given_up, droppe
 abbrev pub numbers : Meta → Row
 numbers m = number m.serial ∷ Int (cond m.scan (pos 1) (pos 0)) ∷ number m.made ∷ number m.sent ∷ number m.given_up ∷ number m.dropped ∷ []
 
-puts : (m : Meta) → IsPutText schema 0 meta put_text (numbers m) (meta_row m)
+puts : (m : Meta) → IsUpsertText schema 0 meta put_text (numbers m) (meta_row m)
 unfolding understood everything
-puts m = record { terms = lit Null ∷ lit (number 1) ∷ lit (number 1) ∷ col 0 0 ∷ col 0 1 ∷ col 0 2 ∷ col 0 3 ∷ col 0 4 ∷ col 0 5 ∷ []; command = refl; alone = (refl, refl); given = refl }
+puts m = record {
+  terms = lit Null ∷ lit (number 1) ∷ lit (number 1) ∷ col 0 0 ∷ col 0 1 ∷ col 0 2 ∷ col 0 3 ∷ col 0 4 ∷ col 0 5 ∷ [];
+  met = 6;
+  sets = col 0 8 ∷ col 0 9 ∷ col 0 10 ∷ col 0 11 ∷ col 0 12 ∷ col 0 13 ∷ col 0 14 ∷ col 0 15 ∷ [];
+  command = refl;
+  alone = (refl, refl);
+  given = refl;
+  meets = λ id next r. refl;
+  writes = λ id next r. refl;
+}
 
 values : (m : Meta) → AreValues meta (meta_row m)
 values m = record { mended = refl; fits = refl; full = refl; width = refl }
 
 pub meta_put : (m : Meta) (old new : State) (count : ℕ) (all : Contents) → Executes put_text (numbers m) old new (Ok count) → Holds schema all old → Holds schema (with_table all 0 (with_row 1 (meta_row m) (rows_of_table all 0))) new
-meta_put m = put_runs schema 0 meta meta_is put_text (numbers m) (meta_row m) (puts m) (values m)
+meta_put m = upsert_runs schema 0 meta meta_keyed put_text (numbers m) (meta_row m) (puts m) (values m)
 
 -- the new row takes the place of the old one
 one_row : (m n : Meta) → with_row 1 (meta_row m) (meta_row n ∷ []) ≡ meta_row m ∷ []

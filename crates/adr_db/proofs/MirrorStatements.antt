@@ -15,18 +15,19 @@ use Rattle.adr_state.specs.declared.base.Mark.{Mark}
 use Rattle.adr_state.specs.declared.keys.MirrorKey.{MirrorKey}
 use Rattle.adr_state.specs.Keys.{mirror_cmp, at}
 use Rattle.adr_sql.specs.Codecs.{entry_at}
-use Rattle.adr_sql.proofs.Puts.{IsPutText, AreValues}
+use Rattle.adr_sql.proofs.Puts.{AreValues}
+use Rattle.adr_sql.proofs.Upserts.{IsUpsertText}
 use Rattle.adr_sql.proofs.Selections.{IsSelectText, whole_rows}
 use Rattle.adr_sql.proofs.Counts.{IsCountText, count_runs}
-use Rattle.adr_sql.proofs.Maps.{put_entry_runs, read_entry_runs, read_all_runs, rows_at_none}
+use Rattle.adr_sql.proofs.Maps.{upsert_entry_runs, read_entry_runs, read_all_runs, rows_at_none}
 use Rattle.adr_db.specs.Tables.{schema}
 use Rattle.adr_db.specs.Rows.{number, kind_number, key_row, mark_columns, mark_row}
 use Rattle.adr_db.specs.Kept.{Kept, Keeps, IsMark, AreMarks, contents_of, with_mark}
-use Rattle.adr_db.proofs.Tables.{mirror, mirror_is}
+use Rattle.adr_db.proofs.Tables.{mirror, mirror_is, mirror_keyed}
 use Rattle.adr_db.proofs.Rows.{mirror_codec}
 
 abbrev pub put_text : List ℕ
-put_text = codes "INSERT OR REPLACE INTO mirror (kind, id, state, moment, body) VALUES (?1, ?2, ?3, ?4, ?5)"
+put_text = codes "INSERT INTO mirror (kind, id, state, moment, body) VALUES (?1, ?2, ?3, ?4, ?5) ON CONFLICT (kind, id) DO UPDATE SET kind = excluded.kind, id = excluded.id, state = excluded.state, moment = excluded.moment, body = excluded.body"
 
 abbrev pub read_one_text : List ℕ
 read_one_text = codes "SELECT kind, id, state, moment, body FROM mirror WHERE kind = ?1 AND id = ?2 ORDER BY kind, id"
@@ -44,9 +45,18 @@ module _ (kind : ℕ) (id : List ℕ) (state moment : ℕ) (body : List ℕ) whe
   abbrev pub row : Row
   row = number kind ∷ Text id ∷ number state ∷ number moment ∷ Text body ∷ []
 
-  puts : IsPutText schema 1 mirror put_text row row
+  puts : IsUpsertText schema 1 mirror put_text row row
   unfolding understood everything
-  puts = record { terms = lit Null ∷ col 0 0 ∷ col 0 1 ∷ col 0 2 ∷ col 0 3 ∷ col 0 4 ∷ []; command = refl; alone = (refl, refl); given = refl }
+  puts = record {
+    terms = lit Null ∷ col 0 0 ∷ col 0 1 ∷ col 0 2 ∷ col 0 3 ∷ col 0 4 ∷ [];
+    met = 5;
+    sets = col 0 7 ∷ col 0 8 ∷ col 0 9 ∷ col 0 10 ∷ col 0 11 ∷ [];
+    command = refl;
+    alone = (refl, refl);
+    given = refl;
+    meets = λ id next r. refl;
+    writes = λ id next r. refl;
+  }
 
   values : AreValues mirror row
   values = record { mended = refl; fits = refl; full = refl; width = refl }
@@ -65,11 +75,11 @@ pub mark_put : (key : MirrorKey) (mark : Mark) → IsMark mark → (state moment
     → Executes put_text (row (kind_number key.kind) key.id state moment body) old new (Ok count) → (kept : Kept) → Keeps kept old → Keeps (with_mark key mark kept) new
 mark_put key mark is state moment body same old new count h kept was =
     let row_is : row (kind_number key.kind) key.id state moment body ≡ mark_row (key, mark) = ap (λ (cells : Row). key_row key ++ cells) same in
-    let text = subst (λ r. IsPutText schema 1 mirror put_text r r) row_is (puts (kind_number key.kind) key.id state moment body) in
+    let text = subst (λ r. IsUpsertText schema 1 mirror put_text r r) row_is (puts (kind_number key.kind) key.id state moment body) in
     let fits = subst (AreValues mirror) row_is (values (kind_number key.kind) key.id state moment body) in
     let ran = subst (λ r. Executes put_text r old new (Ok count)) row_is h in
     record {
-      rows = put_entry_runs schema 1 mirror mirror_is put_text (mark_row (key, mark)) mirror_cmp mark_row key_row mirror_codec key mark kept.mirror text fits old new count (contents_of kept) refl ran was.rows;
+      rows = upsert_entry_runs schema 1 mirror mirror_keyed put_text (mark_row (key, mark)) mirror_cmp mark_row key_row mirror_codec key mark kept.mirror text fits old new count (contents_of kept) refl ran was.rows;
       marks = marks_put kept.mirror key mark was.marks is;
     }
 

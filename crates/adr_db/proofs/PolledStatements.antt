@@ -10,18 +10,19 @@ use Rattle.sqlite.specs.Listing.{understood}
 use Rattle.sqlite_tied.specs.Compute.{everything}
 use Rattle.adr_state.specs.declared.keys.MirrorKey.{MirrorKey}
 use Rattle.adr_state.specs.Keys.{mirror_cmp}
-use Rattle.adr_sql.proofs.Puts.{IsPutText, AreValues}
+use Rattle.adr_sql.proofs.Puts.{AreValues}
+use Rattle.adr_sql.proofs.Upserts.{IsUpsertText}
 use Rattle.adr_sql.proofs.Removals.{IsRemoveText}
 use Rattle.adr_sql.proofs.Selections.{IsSelectText, whole_rows}
-use Rattle.adr_sql.proofs.Maps.{put_key_runs, clear_runs, read_all_runs}
+use Rattle.adr_sql.proofs.Maps.{upsert_key_runs, clear_runs, read_all_runs}
 use Rattle.adr_db.specs.Tables.{schema}
 use Rattle.adr_db.specs.Rows.{key_row}
 use Rattle.adr_db.specs.Kept.{Kept, Keeps, contents_of, with_polled, with_none_polled}
-use Rattle.adr_db.proofs.Tables.{polled, polled_is}
+use Rattle.adr_db.proofs.Tables.{polled, polled_is, polled_keyed}
 use Rattle.adr_db.proofs.Rows.{polled_codec}
 
 abbrev pub put_text : List ℕ
-put_text = codes "INSERT OR REPLACE INTO polled (kind, id) VALUES (?1, ?2)"
+put_text = codes "INSERT INTO polled (kind, id) VALUES (?1, ?2) ON CONFLICT (kind, id) DO UPDATE SET kind = excluded.kind, id = excluded.id"
 
 abbrev pub clear_text : List ℕ
 clear_text = codes "DELETE FROM polled"
@@ -29,16 +30,25 @@ clear_text = codes "DELETE FROM polled"
 abbrev pub read_text : List ℕ
 read_text = codes "SELECT kind, id FROM polled ORDER BY kind, id"
 
-puts : (key : MirrorKey) → IsPutText schema 2 polled put_text (key_row key) (key_row key)
+puts : (key : MirrorKey) → IsUpsertText schema 2 polled put_text (key_row key) (key_row key)
 unfolding understood everything
-puts key = record { terms = lit Null ∷ col 0 0 ∷ col 0 1 ∷ []; command = refl; alone = (refl, refl); given = refl }
+puts key = record {
+  terms = lit Null ∷ col 0 0 ∷ col 0 1 ∷ [];
+  met = 2;
+  sets = col 0 4 ∷ col 0 5 ∷ [];
+  command = refl;
+  alone = (refl, refl);
+  given = refl;
+  meets = λ id next r. refl;
+  writes = λ id next r. refl;
+}
 
 values : (key : MirrorKey) → AreValues polled (key_row key)
 values key = record { mended = refl; fits = refl; full = refl; width = refl }
 
 pub polled_put : (key : MirrorKey) (old new : State) (count : ℕ) → Executes put_text (key_row key) old new (Ok count) → (kept : Kept) → Keeps kept old → Keeps (with_polled key kept) new
 polled_put key old new count h kept was = record {
-  rows = put_key_runs schema 2 polled polled_is put_text (key_row key) mirror_cmp key_row polled_codec key kept.polled (puts key) (values key) old new count (contents_of kept) refl h was.rows;
+  rows = upsert_key_runs schema 2 polled polled_keyed put_text (key_row key) mirror_cmp key_row polled_codec key kept.polled (puts key) (values key) old new count (contents_of kept) refl h was.rows;
   marks = was.marks;
 }
 

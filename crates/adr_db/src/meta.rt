@@ -60,7 +60,7 @@ pub(crate) fn write_meta<S: Alter>(tx: &mut Transaction<'_, S>, meta: &Meta) -> 
     let dropped = number(meta.dropped)?;
     run(
         tx,
-        "INSERT OR REPLACE INTO meta (k, version, serial, scan, made, sent, given_up, dropped) VALUES (1, 1, ?1, ?2, ?3, ?4, ?5, ?6)",
+        "INSERT INTO meta (k, version, serial, scan, made, sent, given_up, dropped) VALUES (1, 1, ?1, ?2, ?3, ?4, ?5, ?6) ON CONFLICT (k) DO UPDATE SET k = excluded.k, version = excluded.version, serial = excluded.serial, scan = excluded.scan, made = excluded.made, sent = excluded.sent, given_up = excluded.given_up, dropped = excluded.dropped",
         &[serial, meta.scan.to_sql(), made, sent, given_up, dropped],
     )
 }

@@ -68,7 +68,7 @@ fn put_columns<S: Alter>(
     let moment = number(columns.moment)?;
     run(
         tx,
-        "INSERT OR REPLACE INTO mirror (kind, id, state, moment, body) VALUES (?1, ?2, ?3, ?4, ?5)",
+        "INSERT INTO mirror (kind, id, state, moment, body) VALUES (?1, ?2, ?3, ?4, ?5) ON CONFLICT (kind, id) DO UPDATE SET kind = excluded.kind, id = excluded.id, state = excluded.state, moment = excluded.moment, body = excluded.body",
         &[
             number_of(key.kind).to_sql(),
             key.id.as_str().to_sql(),

@@ -21,7 +21,7 @@ pub fn put_polled<S: Alter>(tx: &mut Transaction<'_, S>, key: &MirrorKey) -> Res
 {
     run(
         tx,
-        "INSERT OR REPLACE INTO polled (kind, id) VALUES (?1, ?2)",
+        "INSERT INTO polled (kind, id) VALUES (?1, ?2) ON CONFLICT (kind, id) DO UPDATE SET kind = excluded.kind, id = excluded.id",
         &[number_of(key.kind).to_sql(), key.id.as_str().to_sql()],
     )
 }
