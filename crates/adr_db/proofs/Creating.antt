@@ -8,7 +8,7 @@ use Rattle.adr_db.specs.Tables.{tables}
 
 abbrev pub texts : List (List ℕ)
 texts =
-    codes "CREATE TABLE meta (k INT NOT NULL, version INT NOT NULL, serial INT NOT NULL, scan INT NOT NULL, made INT NOT NULL, sent INT NOT NULL, given_up INT NOT NULL, dropped INT NOT NULL, PRIMARY KEY (k)) STRICT"
+    codes "CREATE TABLE meta (k INT NOT NULL, version INT NOT NULL, serial INT NOT NULL, scan INT NOT NULL, made INT NOT NULL, sent INT NOT NULL, given_up INT NOT NULL, dropped INT NOT NULL, keys INT NOT NULL, PRIMARY KEY (k)) STRICT"
     ∷ codes "CREATE TABLE mirror (kind INT NOT NULL, id TEXT NOT NULL, state INT NOT NULL, moment INT NOT NULL, body TEXT NOT NULL, PRIMARY KEY (kind, id)) STRICT"
     ∷ codes "CREATE TABLE polled (kind INT NOT NULL, id TEXT NOT NULL, PRIMARY KEY (kind, id)) STRICT"
     ∷ []

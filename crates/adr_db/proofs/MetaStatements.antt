@@ -22,21 +22,21 @@ use Rattle.adr_db.specs.Kept.{Kept, Keeps, AreMarks, contents_of, with_meta}
 use Rattle.adr_db.proofs.Tables.{meta, meta_is, meta_keyed}
 
 abbrev pub put_text : List ℕ
-put_text = codes "INSERT INTO meta (k, version, serial, scan, made, sent, given_up, dropped) VALUES (1, 1, ?1, ?2, ?3, ?4, ?5, ?6) ON CONFLICT (k) DO UPDATE SET k = excluded.k, version = excluded.version, serial = excluded.serial, scan = excluded.scan, made = excluded.made, sent = excluded.sent, given_up = excluded.given_up, dropped = excluded.dropped"
+put_text = codes "INSERT INTO meta (k, version, serial, scan, made, sent, given_up, dropped, keys) VALUES (1, 1, ?1, ?2, ?3, ?4, ?5, ?6, ?7) ON CONFLICT (k) DO UPDATE SET k = excluded.k, version = excluded.version, serial = excluded.serial, scan = excluded.scan, made = excluded.made, sent = excluded.sent, given_up = excluded.given_up, dropped = excluded.dropped, keys = excluded.keys"
 
 abbrev pub read_text : List ℕ
-read_text = codes "SELECT k, version, serial, scan, made, sent, given_up, dropped FROM meta ORDER BY k"
+read_text = codes "SELECT k, version, serial, scan, made, sent, given_up, dropped, keys FROM meta ORDER BY k"
 
 -- the parameters: all but the key and the version
 abbrev pub numbers : Meta → Row
-numbers m = number m.serial ∷ Int (cond m.scan (pos 1) (pos 0)) ∷ number m.made ∷ number m.sent ∷ number m.given_up ∷ number m.dropped ∷ []
+numbers m = number m.serial ∷ Int (cond m.scan (pos 1) (pos 0)) ∷ number m.made ∷ number m.sent ∷ number m.given_up ∷ number m.dropped ∷ number m.keys ∷ []
 
 puts : (m : Meta) → IsUpsertText schema 0 meta put_text (numbers m) (meta_row m)
 unfolding understood everything
 puts m = record {
-  terms = lit Null ∷ lit (number 1) ∷ lit (number 1) ∷ col 0 0 ∷ col 0 1 ∷ col 0 2 ∷ col 0 3 ∷ col 0 4 ∷ col 0 5 ∷ [];
-  met = 6;
-  sets = col 0 8 ∷ col 0 9 ∷ col 0 10 ∷ col 0 11 ∷ col 0 12 ∷ col 0 13 ∷ col 0 14 ∷ col 0 15 ∷ [];
+  terms = lit Null ∷ lit (number 1) ∷ lit (number 1) ∷ col 0 0 ∷ col 0 1 ∷ col 0 2 ∷ col 0 3 ∷ col 0 4 ∷ col 0 5 ∷ col 0 6 ∷ [];
+  met = 7;
+  sets = col 0 9 ∷ col 0 10 ∷ col 0 11 ∷ col 0 12 ∷ col 0 13 ∷ col 0 14 ∷ col 0 15 ∷ col 0 16 ∷ col 0 17 ∷ [];
   command = refl;
   alone = (refl, refl);
   given = refl;
@@ -60,7 +60,7 @@ keeps_meta m kept new are h = record { rows = subst (λ rows. Holds schema (with
 reads : IsSelectText schema meta (whole_rows 0 meta) end read_text
 unfolding understood everything
 reads = record {
-  names = codes "k" ∷ codes "version" ∷ codes "serial" ∷ codes "scan" ∷ codes "made" ∷ codes "sent" ∷ codes "given_up" ∷ codes "dropped" ∷ [];
+  names = codes "k" ∷ codes "version" ∷ codes "serial" ∷ codes "scan" ∷ codes "made" ∷ codes "sent" ∷ codes "given_up" ∷ codes "dropped" ∷ codes "keys" ∷ [];
   command = refl;
   alone = (refl, refl);
   unlisted = refl;

@@ -1,8 +1,7 @@
 -- The statements on the table `mirror`.
-use Rattle.std.proofs.Common.{◌≡◌, ℕ, List, [], ◌∷◌, ◌++◌, codes, map, length, min, ◌<◌, arith, Ok, refl, ap, subst, ◌∙◌, Ordering, Less, Equal, Greater}
+use Rattle.std.proofs.Common.{◌≡◌, ℕ, List, [], ◌∷◌, ◌++◌, codes, map, Ok, refl, ap, subst, Ordering, Less, Equal, Greater}
 use Rattle.std.specs.Ordering.{match_ordering}
 use Rattle.std.specs.BTreeMap.{insert_entry}
-use Rattle.std.proofs.lemmas.List.{length-map}
 use Rattle.sqlite_value.specs.declared.value.Value.TheVariants.{Null, Text}
 use Rattle.sqlite_value.specs.Order.{Row}
 use Rattle.sqlite_sql.specs.Term.{lit, col}
@@ -18,8 +17,7 @@ use Rattle.adr_sql.specs.Codecs.{entry_at}
 use Rattle.adr_sql.proofs.Puts.{AreValues}
 use Rattle.adr_sql.proofs.Upserts.{IsUpsertText}
 use Rattle.adr_sql.proofs.Selections.{IsSelectText, whole_rows}
-use Rattle.adr_sql.proofs.Counts.{IsCountText, count_runs}
-use Rattle.adr_sql.proofs.Maps.{upsert_entry_runs, read_entry_runs, read_all_runs, rows_at_none}
+use Rattle.adr_sql.proofs.Maps.{upsert_entry_runs, read_entry_runs, read_all_runs}
 use Rattle.adr_db.specs.Tables.{schema}
 use Rattle.adr_db.specs.Rows.{number, kind_number, key_row, mark_columns, mark_row}
 use Rattle.adr_db.specs.Kept.{Kept, Keeps, IsMark, AreMarks, contents_of, with_mark}
@@ -34,9 +32,6 @@ read_one_text = codes "SELECT kind, id, state, moment, body FROM mirror WHERE ki
 
 abbrev pub read_all_text : List ℕ
 read_all_text = codes "SELECT kind, id, state, moment, body FROM mirror ORDER BY kind, id"
-
-abbrev pub count_text : List ℕ
-count_text = codes "SELECT count(*) FROM mirror"
 
 abbrev columns : List (List ℕ)
 columns = codes "kind" ∷ codes "id" ∷ codes "state" ∷ codes "moment" ∷ codes "body" ∷ []
@@ -103,19 +98,3 @@ read_all_is_plain = reads_all.alone
 
 pub marks_read : (old new : State) (rows : List Row) (kept : Kept) → Shown read_all_text [] old new rows → Keeps kept old → rows ≡ map mark_row kept.mirror
 marks_read old new rows kept h was = read_all_runs schema 1 mirror mirror_is read_all_text [] reads_all old new rows (contents_of kept) h was.rows
-
-counts : IsCountText schema 0 mirror count_text
-unfolding understood everything
-counts = record { names = codes "count(*)" ∷ []; command = refl; alone = (refl, refl); unlisted = refl }
-
-pub count_is_plain : IsPlain (understood schema count_text)
-count_is_plain = counts.alone
-
--- a count below the largest is the number itself
-pub uncapped : (n count : ℕ) → n < 9223372036854775807 → n ≡ min count 9223372036854775807 → n ≡ count
-uncapped n count small is = omega (arith, is, small)
-
-pub marks_counted : (old new : State) (rows : List Row) (kept : Kept) → Shown count_text [] old new rows → Keeps kept old → rows ≡ (number (min (length kept.mirror) 9223372036854775807) ∷ []) ∷ []
-marks_counted old new rows kept h was =
-    count_runs schema 1 0 mirror mirror_is.place count_text [] counts refl old new rows (contents_of kept) h was.rows
-    ∙ ap (λ n. (number (min n 9223372036854775807) ∷ []) ∷ []) (ap length (rows_at_none [] (map mark_row kept.mirror)) ∙ length-map kept.mirror mark_row)

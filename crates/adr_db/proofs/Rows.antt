@@ -108,10 +108,11 @@ meta_kept a b h =
     let sent = first_same _ _ _ _ made.1 in
     let given_up = first_same _ _ _ _ sent.1 in
     let dropped = first_same _ _ _ _ given_up.1 in
-    fields (number_kept _ _ serial.0) (flag_kept _ _ scan.0) (number_kept _ _ made.0) (number_kept _ _ sent.0) (number_kept _ _ given_up.0) (number_kept _ _ dropped.0)
+    let keys = first_same _ _ _ _ dropped.1 in
+    fields (number_kept _ _ serial.0) (flag_kept _ _ scan.0) (number_kept _ _ made.0) (number_kept _ _ sent.0) (number_kept _ _ given_up.0) (number_kept _ _ dropped.0) (number_kept _ _ keys.0)
   where
-    fields : a.serial ≡ b.serial → a.scan ≡ b.scan → a.made ≡ b.made → a.sent ≡ b.sent → a.given_up ≡ b.given_up → a.dropped ≡ b.dropped → a ≡ b
-    fields p q r s t u = λ i. record { serial = p i; scan = q i; made = r i; sent = s i; given_up = t i; dropped = u i }
+    fields : a.serial ≡ b.serial → a.scan ≡ b.scan → a.made ≡ b.made → a.sent ≡ b.sent → a.given_up ≡ b.given_up → a.dropped ≡ b.dropped → a.keys ≡ b.keys → a ≡ b
+    fields p q r s t u v = λ i. record { serial = p i; scan = q i; made = r i; sent = s i; given_up = t i; dropped = u i; keys = v i }
 
 -- ---- a row as it is read
 

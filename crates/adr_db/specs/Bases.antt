@@ -1,5 +1,5 @@
 -- What is kept of a base of the machine. What has no table yet is no part of it.
-use Rattle.std.specs.Prelude.{Option, None, Some, is_some, List, []}
+use Rattle.std.specs.Prelude.{Option, None, Some, is_some, List, [], length}
 use Rattle.sqlite.specs.State.{State}
 use Rattle.adr_state.specs.declared.base.Base.{Base}
 use Rattle.adr_state.specs.declared.keys.MirrorKey.{MirrorKey}
@@ -10,8 +10,9 @@ abbrev pub keys_polled : Option (List MirrorKey) → List MirrorKey
 keys_polled None = []
 keys_polled (Some keys) = keys
 
+-- the numbers of the node say how many keys the mirror has
 abbrev pub kept_of : Base → Kept
-kept_of base = record { meta = record first_meta { serial = base.serial; scan = is_some base.scan }; mirror = base.mirror; polled = keys_polled base.scan }
+kept_of base = record { meta = record first_meta { serial = base.serial; scan = is_some base.scan; keys = length base.mirror }; mirror = base.mirror; polled = keys_polled base.scan }
 
 abbrev pub HoldsBase : Base → State → Type 0
 HoldsBase base s = Keeps (kept_of base) s

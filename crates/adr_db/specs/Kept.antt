@@ -43,7 +43,7 @@ pub record Keeps (kept : Kept) (s : State) : Type 0 where
 -- ---- what is kept of a new node, and the changes of it
 
 abbrev pub first_meta : Meta
-first_meta = record { serial = 0; scan = false; made = 0; sent = 0; given_up = 0; dropped = 0 }
+first_meta = record { serial = 0; scan = false; made = 0; sent = 0; given_up = 0; dropped = 0; keys = 0 }
 
 abbrev pub nothing_kept : Kept
 nothing_kept = record { meta = first_meta; mirror = []; polled = [] }

@@ -32,6 +32,7 @@ meta_row m =
     ∷ number m.sent
     ∷ number m.given_up
     ∷ number m.dropped
+    ∷ number m.keys
     ∷ []
 
 -- 1 a program, 2 an event
@@ -71,7 +72,7 @@ mark_from columns =
     if columns.state == 1 then live_from (moment_at (pos columns.moment)) (canonical_of (string_bytes columns.body)) else (if columns.state == 2 then Ok Dead else Err Store)
 
 abbrev pub meta_cells : Row → Row
-meta_cells row = column row 0 ∷ column row 1 ∷ column row 2 ∷ column row 3 ∷ column row 4 ∷ column row 5 ∷ column row 6 ∷ column row 7 ∷ []
+meta_cells row = column row 0 ∷ column row 1 ∷ column row 2 ∷ column row 3 ∷ column row 4 ∷ column row 5 ∷ column row 6 ∷ column row 7 ∷ column row 8 ∷ []
 
 abbrev pub key_cells : Row → Row
 key_cells row = column row 0 ∷ column row 1 ∷ []

@@ -16,6 +16,7 @@ meta_table =
     ∷ column (codes "sent") Integer
     ∷ column (codes "given_up") Integer
     ∷ column (codes "dropped") Integer
+    ∷ column (codes "keys") Integer
     ∷ []) ((1 ∷ []) ∷ []) (1 ∷ []) []
 
 -- what is known of each upstream key

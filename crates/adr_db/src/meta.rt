@@ -28,6 +28,8 @@ pub struct Meta {
     pub sent: u64,
     pub given_up: u64,
     pub dropped: u64,
+    /// How many keys the mirror has. To count its rows is to go through all of them.
+    pub keys: u64,
 }
 
 impl Meta {
@@ -42,6 +44,7 @@ impl Meta {
             sent: 0,
             given_up: 0,
             dropped: 0,
+            keys: 0,
         }
     }
 }
@@ -58,10 +61,19 @@ pub(crate) fn write_meta<S: Alter>(tx: &mut Transaction<'_, S>, meta: &Meta) -> 
     let sent = number(meta.sent)?;
     let given_up = number(meta.given_up)?;
     let dropped = number(meta.dropped)?;
+    let keys = number(meta.keys)?;
     run(
         tx,
-        "INSERT INTO meta (k, version, serial, scan, made, sent, given_up, dropped) VALUES (1, 1, ?1, ?2, ?3, ?4, ?5, ?6) ON CONFLICT (k) DO UPDATE SET k = excluded.k, version = excluded.version, serial = excluded.serial, scan = excluded.scan, made = excluded.made, sent = excluded.sent, given_up = excluded.given_up, dropped = excluded.dropped",
-        &[serial, meta.scan.to_sql(), made, sent, given_up, dropped],
+        "INSERT INTO meta (k, version, serial, scan, made, sent, given_up, dropped, keys) VALUES (1, 1, ?1, ?2, ?3, ?4, ?5, ?6, ?7) ON CONFLICT (k) DO UPDATE SET k = excluded.k, version = excluded.version, serial = excluded.serial, scan = excluded.scan, made = excluded.made, sent = excluded.sent, given_up = excluded.given_up, dropped = excluded.dropped, keys = excluded.keys",
+        &[
+            serial,
+            meta.scan.to_sql(),
+            made,
+            sent,
+            given_up,
+            dropped,
+            keys,
+        ],
     )
 }
 
@@ -113,6 +125,7 @@ fn meta_in(row: &Row) -> Result<Meta, Refusal>
         sent: column(row, 5)?,
         given_up: column(row, 6)?,
         dropped: column(row, 7)?,
+        keys: column(row, 8)?,
     })
 }
 
@@ -125,7 +138,7 @@ pub fn read_meta<S: Alter>(tx: &mut Transaction<'_, S>) -> Result<Meta, Refusal>
 {
     let rows = rows_of(
         tx,
-        "SELECT k, version, serial, scan, made, sent, given_up, dropped FROM meta ORDER BY k",
+        "SELECT k, version, serial, scan, made, sent, given_up, dropped, keys FROM meta ORDER BY k",
         &[],
     )?;
     match rows.first() {

@@ -1,7 +1,5 @@
 //! The table `mirror`: what is known of each upstream key.
-ghost use Rattle.std.specs.Prelude.{◌≡◌, ◌<◌, pos, [], ◌∷◌, length, map, option_map, IfOk, OnOk, IfErr};
-ghost use Rattle.sqlite.specs.Order.{column};
-ghost use Rattle.sqlite.specs.declared.types.Value.TheVariants.{Int};
+ghost use Rattle.std.specs.Prelude.{◌≡◌, map, option_map, IfOk, OnOk, IfErr};
 ghost use Rattle.adr_state.specs.Keys.{mirror_cmp, at};
 ghost use Rattle.adr_sql.specs.Calls.{Stays};
 ghost use Rattle.adr_db.specs.Rows.{mark_columns, mark_row, columns_row, columns_cells, mirror_row, mirror_cells};
@@ -164,32 +162,4 @@ pub fn read_marks<S: Alter>(
         &[],
     )?;
     rows_in(alloc, &rows)
-}
-
-// The store counts no further.
-const MOST_COUNTED: u64 = 9_223_372_036_854_775_807;
-
-fn count_in(row: &Row) -> Result<u64, Refusal>
-    ensures count { IfOk result (λ n. (column row.now 0 ≡ Int (pos n)) × (n < 9223372036854775807)) }
-    ensures refused { IfErr result IsOfStore }
-{
-    let count: u64 = column(row, 0)?;
-    if count < MOST_COUNTED {
-        return Ok(count);
-    }
-    Err(Refusal::Store)
-}
-
-/// How many keys the mirror has; the store's refusal where they are 9,223,372,036,854,775,807 or more.
-pub fn count_marks<S: Alter>(tx: &mut Transaction<'_, S>) -> Result<u64, Refusal>
-    ensures same_reference { tx.new.conn.ghost_name ≡ tx.old.conn.ghost_name }
-    ensures stays { Stays S.Store tx.old.conn.now tx.new.conn.now result }
-    ensures finds { Finds S.Store tx.old.conn.now tx.new.conn.now (λ kept n. n ≡ length kept.mirror) result }
-    ensures refused { IfErr result IsOfStore }
-{
-    let rows = rows_of(tx, "SELECT count(*) FROM mirror", &[])?;
-    match rows.first() {
-        Some(row) => count_in(row),
-        None => Err(Refusal::Store),
-    }
 }

@@ -22,7 +22,7 @@ fn create_empty<S: Alter>(tx: &mut Transaction<'_, S>) -> Result<(), Refusal>
     ensures refused { IfErr result IsOfStore }
 {
     let texts = [
-        "CREATE TABLE meta (k INT NOT NULL, version INT NOT NULL, serial INT NOT NULL, scan INT NOT NULL, made INT NOT NULL, sent INT NOT NULL, given_up INT NOT NULL, dropped INT NOT NULL, PRIMARY KEY (k)) STRICT",
+        "CREATE TABLE meta (k INT NOT NULL, version INT NOT NULL, serial INT NOT NULL, scan INT NOT NULL, made INT NOT NULL, sent INT NOT NULL, given_up INT NOT NULL, dropped INT NOT NULL, keys INT NOT NULL, PRIMARY KEY (k)) STRICT",
         "CREATE TABLE mirror (kind INT NOT NULL, id TEXT NOT NULL, state INT NOT NULL, moment INT NOT NULL, body TEXT NOT NULL, PRIMARY KEY (kind, id)) STRICT",
         "CREATE TABLE polled (kind INT NOT NULL, id TEXT NOT NULL, PRIMARY KEY (kind, id)) STRICT",
     ];

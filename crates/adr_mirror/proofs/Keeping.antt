@@ -1,15 +1,16 @@
 -- From what is kept to the base that it is kept of.
-use Rattle.std.proofs.Common.{◌≡◌, inl, inr, Bool, true, false, cond, not, ◌&&◌, List, [], ◌++◌, ◌∷◌, length, fold, ℕ, Option, Some, None, Result, Ok, Err, IfOk, IfErr, OnOk, refl, sym, ap, subst, ◌∙◌, Less}
+use Rattle.std.proofs.Common.{◌≡◌, inl, inr, Bool, true, false, cond, ◌&&◌, ◌+◌, List, [], ◌++◌, ◌∷◌, length, ℕ, Option, Some, None, Result, Ok, Err, IfOk, IfErr, OnOk, refl, sym, ap, ap₂, subst, ◌∙◌, arith, Less}
 use Rattle.std.specs.Prelude.{is_some, nat_lt}
 use Rattle.std.specs.Result.{IsErrAnd}
 use Rattle.std.specs.BTreeMap.{insert_entry}
 use Rattle.std.specs.BTreeSet.{insert_key}
+use Rattle.std.proofs.lemmas.Bool.Decides.{nat_tests}
 use Rattle.std.proofs.lemmas.List.Sums.{fold-append}
 use Rattle.sqlite_trees.specs.Tree.{IsAscending}
 use Rattle.sqlite_trees.proofs.ListLemmas.{ascending_weaker, ascending_from_map}
 use Rattle.sqlite.specs.State.{State}
 use Rattle.adr_text.specs.declared.refusal.Refusal.{Refusal}
-use Rattle.adr_text.specs.declared.refusal.Refusal.TheVariants.{Store, LimitReached, NoScan}
+use Rattle.adr_text.specs.declared.refusal.Refusal.TheVariants.{LimitReached, NoScan}
 use Rattle.adr_schema.specs.declared.body.Found.{Found}
 use Rattle.adr_state.specs.declared.base.Base.{Base}
 use Rattle.adr_state.specs.declared.base.Mark.{Mark}
@@ -29,7 +30,7 @@ use Rattle.adr_machine.specs.declared.answer.Answer.{Answer}
 use Rattle.adr_machine.specs.declared.answer.Answer.TheVariants as answer
 use Rattle.adr_machine.specs.Edits.{mirror_set, scan_after, scan_end}
 use Rattle.adr_machine.specs.Steps.{IsRefusalOf}
-use Rattle.adr_mirror.specs.Raises.{with_raised, with_polled_if_open}
+use Rattle.adr_mirror.specs.Raises.{are_beyond, with_raised, with_keys_added, with_polled_if_open}
 use Rattle.adr_mirror.specs.Missed.{missed_by}
 
 -- ---- results
@@ -68,17 +69,28 @@ keeps_same kept e s h was = subst (λ b. Keeps (record kept { mirror = cond b (i
 pub keeps_raised : (kept : Kept) (e : MirrorKey × Mark) (s : State) → is_below (at mirror_cmp e.0 kept.mirror) e.1 ≡ true → Keeps (with_mark e.0 e.1 kept) s → Keeps (with_raised e kept) s
 keeps_raised kept e s h was = subst (λ b. Keeps (record kept { mirror = cond b (insert_entry mirror_cmp kept.mirror e.0 e.1) kept.mirror }) s) (sym h) was
 
+-- keys that were added, as the machine tests them
+beyond_is : (limit n added m : ℕ) → n + added ≡ m → are_beyond limit n added ≡ (nat_lt n m && nat_lt limit m)
+beyond_is limit n added m is = ap₂ ◌&&◌ (grown n added m is) (ap (nat_lt limit) is)
+  where
+    grown : (n added m : ℕ) → n + added ≡ m → nat_lt 0 added ≡ nat_lt n m
+    grown n added m is = grind (arith, nat_tests)
+
 -- a mirror that does not grow beyond the limit is taken
-pub is_set : (limits : Limits) (base : Base) (mirror : List (MirrorKey × Mark)) (grew : Bool) → grew ≡ nat_lt (length base.mirror) (length mirror) → (grew && nat_lt limits.keys (length mirror)) ≡ false
+pub is_set : (limits : Limits) (base : Base) (mirror : List (MirrorKey × Mark)) (added : ℕ) → length base.mirror + added ≡ length mirror → are_beyond limits.keys (length base.mirror) added ≡ false
     → mirror_set limits base mirror ≡ Ok (None, record base { mirror = mirror })
-is_set limits base mirror grew is h =
-    ap (λ b. cond b (Err LimitReached) (Ok (None, record base { mirror = mirror }))) (ap (λ b. b && nat_lt limits.keys (length mirror)) (sym is) ∙ h)
+is_set limits base mirror added is h =
+    ap (λ b. cond b (Err LimitReached) (Ok (None, record base { mirror = mirror }))) (sym (beyond_is limits.keys (length base.mirror) added (length mirror) is) ∙ h)
 
 -- and one that does is refused
-pub is_beyond : (limits : Limits) (base : Base) (mirror : List (MirrorKey × Mark)) (grew : Bool) → grew ≡ nat_lt (length base.mirror) (length mirror) → (grew && nat_lt limits.keys (length mirror)) ≡ true
+pub is_beyond : (limits : Limits) (base : Base) (mirror : List (MirrorKey × Mark)) (added : ℕ) → length base.mirror + added ≡ length mirror → are_beyond limits.keys (length base.mirror) added ≡ true
     → mirror_set limits base mirror ≡ Err LimitReached
-is_beyond limits base mirror grew is h =
-    ap (λ b. cond b (Err LimitReached) (Ok (None, record base { mirror = mirror }))) (ap (λ b. b && nat_lt limits.keys (length mirror)) (sym is) ∙ h)
+is_beyond limits base mirror added is h =
+    ap (λ b. cond b (Err LimitReached) (Ok (None, record base { mirror = mirror }))) (sym (beyond_is limits.keys (length base.mirror) added (length mirror) is) ∙ h)
+
+-- the numbers of the node say how many keys there are, once those that were added are counted
+pub keys_counted : (base : Base) (mirror : List (MirrorKey × Mark)) (added : ℕ) (s : State) → length base.mirror + added ≡ length mirror → Keeps (with_keys_added added (record (kept_of base) { mirror = mirror })) s → Keeps (kept_of (record base { mirror = mirror })) s
+keys_counted base mirror added s is h = subst (λ n. Keeps (record (kept_of (record base { mirror = mirror })) { meta = record (kept_of base).meta { keys = n } }) s) is h
 
 -- ---- scans
 
@@ -87,7 +99,7 @@ polled_more polled founds f = fold-append (λ keys found. insert_key mirror_cmp 
 
 -- what is kept after a page is that of the base after it
 pub kept_after : (base : Base) (scan : Option (List MirrorKey)) (founds : List Found) (polled : Bool) (mirror : List (MirrorKey × Mark))
-    → with_polled_if_open founds polled (record (kept_of (record base { scan = scan })) { mirror = mirror }) ≡ kept_of (record base { mirror = mirror; scan = scan_after (record base { scan = scan }) founds polled })
+    → with_polled_if_open founds polled (kept_of (record base { mirror = mirror; scan = scan })) ≡ kept_of (record base { mirror = mirror; scan = scan_after (record base { scan = scan }) founds polled })
 kept_after base None founds true mirror = refl
 kept_after base None founds false mirror = refl
 kept_after base (Some keys) founds true mirror = refl

@@ -1,11 +1,10 @@
 -- Which marks rise as evidence joins the mirror.
-use Rattle.std.proofs.Common.{◌≡◌, ℕ, suc, ◌+◌, ◌≤◌, Bool, true, false, cond, ◌||◌, ◌++◌, inl, inr, List, [], ◌∷◌, map, fold, take, length, Option, Some, None, refl, sym, ap, subst, ◌∙◌, arith, Less}
-use Rattle.std.specs.Prelude.{nat_lt, is_none}
+use Rattle.std.proofs.Common.{◌≡◌, ℕ, suc, ◌+◌, Bool, true, false, cond, ◌||◌, ◌++◌, inl, inr, List, [], ◌∷◌, fold, length, Option, Some, None, refl, sym, ap, subst, ◌∙◌, arith, Less}
+use Rattle.std.specs.Prelude.{is_none}
 use Rattle.std.specs.Ordering.{is_eq}
 use Rattle.std.specs.Option.{option_map_or}
 use Rattle.std.specs.BTreeMap.{insert_entry}
 use Rattle.std.specs.BTreeSet.{insert_key}
-use Rattle.std.proofs.lemmas.Bool.Decides.{nat_tests}
 use Rattle.std.proofs.lemmas.List.{map-append}
 use Rattle.std.proofs.lemmas.List.Sums.{fold-append}
 use Rattle.sqlite_trees.specs.Tree.{IsAscending}
@@ -17,11 +16,10 @@ use Rattle.adr_state.specs.Laws.{IsRaised}
 use Rattle.adr_state.specs.Marks.{is_below}
 use Rattle.adr_state.specs.Mirror.{key_of, mark_of, evidence_of, raised, joined}
 use Rattle.adr_state.proofs.LawLemmas.{key_order, at-insert_entry, at_same, over, equal_from_is, marks_ordered, joins_greatest}
-use Rattle.adr_state.proofs.MapLemmas.{length-insert_entry}
 use Rattle.adr_mirror.specs.declared.raise.Rise.{Rise}
 use Rattle.adr_mirror.specs.declared.raise.Rise.TheVariants.{Same, Higher, First}
 use Rattle.adr_mirror.specs.declared.risen.Risen.{Risen}
-use Rattle.adr_mirror.specs.Raises.{is_raised, is_first, rise_of, rises, noted, HaveRisen, HasRisen}
+use Rattle.adr_mirror.specs.Raises.{is_raised, added_by, rise_of, rises, noted, HaveRisen, HasRisen}
 use Rattle.adr_mirror.proofs.Orders.{length_put, any-insert_key, ascending-insert_key}
 
 abbrev pub Mirror : Type 0
@@ -64,10 +62,10 @@ module _ (before now : Mirror) (e : MirrorKey × Mark) (raises : (key : MirrorKe
     each = λ key. any-insert_key key_order key e.0 keys ∙ ap (λ b. is_eq (mirror_cmp key e.0) || b) (have.each key) ∙ put_rises below key;
   }
 
-  -- the keys that have risen, and whether there are new ones, after one more mark
-  pub risen_more : (risen : Risen) → length before ≤ length now → IsAscending (λ a b. mirror_cmp a.0 b.0 ≡ Less) now → HasRisen before now risen
+  -- the keys that have risen, and how many are new, after one more mark
+  pub risen_more : (risen : Risen) → IsAscending (λ a b. mirror_cmp a.0 b.0 ≡ Less) now → HasRisen before now risen
       → HasRisen before (raised now e) (noted risen e.0 (rise_of (at mirror_cmp e.0 now) e.1))
-  risen_more risen longer up has = by (at mirror_cmp e.0 now) refl
+  risen_more risen up has = by (at mirror_cmp e.0 now) refl
     where
       put : Mirror
       put = insert_entry mirror_cmp now e.0 e.1
@@ -76,50 +74,38 @@ module _ (before now : Mirror) (e : MirrorKey × Mark) (raises : (key : MirrorKe
       long known is = length_put key_order e.0 e.1 now up ∙ ap (λ x. cond (is_none x) (suc (length now)) (length now)) is
 
       above : (m : Mark) (b : Bool) → at mirror_cmp e.0 now ≡ Some m → is_below (Some m) e.1 ≡ b → HasRisen before (cond b put now) (noted risen e.0 (cond b Higher Same))
-      above m true is below = record { keys = put_risen risen.keys (ap (λ x. is_below x e.1) is ∙ below) has.keys; grew = has.grew ∙ ap (λ n. nat_lt (length before) n) (sym (long (Some m) is)) }
+      above m true is below = record { keys = put_risen risen.keys (ap (λ x. is_below x e.1) is ∙ below) has.keys; added = has.added ∙ sym (long (Some m) is) }
       above m false is below = has
 
       by : (known : Option Mark) → at mirror_cmp e.0 now ≡ known → HasRisen before (cond (is_below known e.1) put now) (noted risen e.0 (rise_of known e.1))
-      by None is = record { keys = put_risen risen.keys (ap (λ x. is_below x e.1) is) has.keys; grew = grown (length before) (length now) longer ∙ ap (λ n. nat_lt (length before) n) (sym (long None is)) }
+      by None is = record { keys = put_risen risen.keys (ap (λ x. is_below x e.1) is) has.keys; added = one_more (length before) risen.added (length now) has.added ∙ sym (long None is) }
         where
-          grown : (m n : ℕ) → m ≤ n → true ≡ nat_lt m (suc n)
-          grown m n h = grind (arith, nat_tests)
+          one_more : (m added n : ℕ) → m + added ≡ n → m + (added + 1) ≡ suc n
+          one_more m added n h = omega (arith, h)
       by (Some m) is = above m (is_below (Some m) e.1) is refl
 
 -- ---- a page
 
 -- nothing rises where nothing comes
-pub none_risen : (mirror : Mirror) → HasRisen mirror mirror (record { keys = []; grew = false })
-none_risen mirror = record { keys = record { ordered = tt; each = λ key. none_below (at mirror_cmp key mirror) }; grew = same (length mirror) }
-  where
-    same : (n : ℕ) → false ≡ nat_lt n n
-    same n = grind (arith, nat_tests)
+pub none_risen : (mirror : Mirror) → HasRisen mirror mirror (record { keys = []; added = 0 })
+none_risen mirror = record { keys = record { ordered = tt; each = λ key. none_below (at mirror_cmp key mirror) }; added = omega arith }
 
 pub joined_raises : (mirror evidence : Mirror) (key : MirrorKey) → IsRaised (at mirror_cmp key mirror) (at mirror_cmp key (joined mirror evidence))
 joined_raises mirror evidence key = (joins_greatest mirror evidence).only_raises key
 
 -- what one mark alone makes of the mirror
 pub one_risen : (mirror : Mirror) (e : MirrorKey × Mark) → IsAscending (λ a b. mirror_cmp a.0 b.0 ≡ Less) mirror → (rise : Rise) → rise ≡ rise_of (at mirror_cmp e.0 mirror) e.1
-    → HasRisen mirror (raised mirror e) (record { keys = cond (is_raised rise) (e.0 ∷ []) []; grew = is_first rise })
+    → HasRisen mirror (raised mirror e) (record { keys = cond (is_raised rise) (e.0 ∷ []) []; added = added_by rise })
 one_risen mirror e up rise is =
-    subst (HasRisen mirror (raised mirror e)) (ap (noted none e.0) (sym is) ∙ by rise) (risen_more mirror mirror e (λ key. joined_raises mirror [] key) none (omega arith) up (none_risen mirror))
+    subst (HasRisen mirror (raised mirror e)) (ap (noted none e.0) (sym is) ∙ by rise) (risen_more mirror mirror e (λ key. joined_raises mirror [] key) none up (none_risen mirror))
   where
     none : Risen
-    none = record { keys = []; grew = false }
+    none = record { keys = []; added = 0 }
 
-    by : (rise : Rise) → noted none e.0 rise ≡ record { keys = cond (is_raised rise) (e.0 ∷ []) []; grew = is_first rise }
+    by : (rise : Rise) → noted none e.0 rise ≡ record { keys = cond (is_raised rise) (e.0 ∷ []) []; added = added_by rise }
     by Same = refl
     by Higher = refl
     by First = refl
-
-raised_grows : (mirror : Mirror) (e : MirrorKey × Mark) (b : Bool) → length mirror ≤ length (cond b (insert_entry mirror_cmp mirror e.0 e.1) mirror)
-raised_grows mirror e true = (length-insert_entry mirror_cmp mirror e.0 e.1).grows
-raised_grows mirror e false = omega arith
-
--- evidence takes no key away
-pub joined_grows : (mirror evidence : Mirror) → length mirror ≤ length (joined mirror evidence)
-joined_grows mirror [] = omega arith
-joined_grows mirror (e ∷ es) = omega (arith, raised_grows mirror e (is_below (at mirror_cmp e.0 mirror) e.1), joined_grows (raised mirror e) es)
 
 -- evidence with one version more
 pub joined_more : (mirror : Mirror) (founds : List Found) (f : Found) → joined mirror (evidence_of (founds ++ f ∷ [])) ≡ raised (joined mirror (evidence_of founds)) (key_of f, mark_of f)

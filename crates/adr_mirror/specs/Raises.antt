@@ -1,5 +1,5 @@
 -- What marks make of the mirror, one after another, and what is kept after them.
-use Rattle.std.specs.Prelude.{◌≡◌, Bool, true, false, ◌&&◌, nat_lt, List, [], length, Option, None, Some, if◌then◌else◌}
+use Rattle.std.specs.Prelude.{◌≡◌, ℕ, ◌+◌, Bool, true, false, ◌&&◌, nat_lt, List, [], length, Option, None, Some, if◌then◌else◌}
 use Rattle.std.specs.Option.{option_map_or}
 use Rattle.std.specs.BTreeSet.{insert_key}
 use Rattle.std.specs.declared.cmp.Ordering.TheVariants.{Less}
@@ -28,10 +28,11 @@ is_raised Same = false
 is_raised Higher = true
 is_raised First = true
 
-abbrev pub is_first : Rise → Bool
-is_first Same = false
-is_first Higher = false
-is_first First = true
+-- how many keys it adds
+abbrev pub added_by : Rise → ℕ
+added_by Same = 0
+added_by Higher = 0
+added_by First = 1
 
 -- whether the mark of a key is above the one that it had
 abbrev pub rises : List (MirrorKey × Mark) → List (MirrorKey × Mark) → MirrorKey → Bool
@@ -42,16 +43,20 @@ pub record HaveRisen (before after : List (MirrorKey × Mark)) (keys : List Mirr
   pub ordered : IsAscending (λ j k. mirror_cmp j k ≡ Less) keys
   pub each : (key : MirrorKey) → has_key keys key ≡ rises before after key
 
--- those, and whether there are keys now that were not there
+-- those, and how many keys there are now that were not there
 pub record HasRisen (before after : List (MirrorKey × Mark)) (risen : Risen) : Type 0 where
   pub keys : HaveRisen before after risen.keys
-  pub grew : risen.grew ≡ nat_lt (length before) (length after)
+  pub added : length before + risen.added ≡ length after
 
 -- with what a mark made of its key
 abbrev pub noted : Risen → MirrorKey → Rise → Risen
 noted risen key Same = risen
 noted risen key Higher = record risen { keys = insert_key mirror_cmp risen.keys key }
-noted risen key First = record { keys = insert_key mirror_cmp risen.keys key; grew = true }
+noted risen key First = record { keys = insert_key mirror_cmp risen.keys key; added = risen.added + 1 }
+
+-- keys were added, and they are more than the limit then
+abbrev pub are_beyond : ℕ → ℕ → ℕ → Bool
+are_beyond limit keys added = nat_lt 0 added && nat_lt limit (keys + added)
 
 -- ---- what is kept then
 
@@ -60,6 +65,10 @@ with_raised e kept = record kept { mirror = raised kept.mirror e }
 
 abbrev pub with_joined : List (MirrorKey × Mark) → Kept → Kept
 with_joined evidence kept = record kept { mirror = joined kept.mirror evidence }
+
+-- the numbers of the node say how many keys there are
+abbrev pub with_keys_added : ℕ → Kept → Kept
+with_keys_added added kept = record kept { meta = record kept.meta { keys = kept.meta.keys + added } }
 
 abbrev pub with_keys_polled : List Found → Kept → Kept
 with_keys_polled founds kept = record kept { polled = keys_found kept.polled founds }

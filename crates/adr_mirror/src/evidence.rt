@@ -1,5 +1,5 @@
 //! Evidence joins the mirror.
-ghost use Rattle.std.specs.Prelude.{◌≡◌, ◌⊎◌, false, nat_lt, ◌&&◌, if◌then◌else◌, [], ◌∷◌, length, IfOk, IfErr};
+ghost use Rattle.std.specs.Prelude.{◌≡◌, ◌⊎◌, ◌+◌, false, true, nat_lt, if◌then◌else◌, [], ◌∷◌, IfOk, IfErr};
 ghost use Rattle.sqlite.specs.Held.{state};
 ghost use Rattle.sqlite.specs.State.{HasCleanDisk};
 ghost use Rattle.adr_text.specs.declared.refusal.Refusal.TheVariants.{LimitReached};
@@ -8,12 +8,12 @@ ghost use Rattle.adr_state.specs.Keys.{mirror_cmp, at};
 ghost use Rattle.adr_state.specs.Mirror.{key_of, mark_of, evidence_of, joined};
 ghost use Rattle.adr_db.specs.Calls.{Leaves, Finds, IsOfStore};
 ghost use Rattle.adr_machine.specs.Edits.{evidence, gone};
-ghost use Rattle.adr_mirror.specs.Raises.{HasRisen, HaveRisen, rise_of, noted, with_raised, with_joined, with_keys_polled, with_polled_if_open};
+ghost use Rattle.adr_mirror.specs.Raises.{HasRisen, HaveRisen, rise_of, noted, are_beyond, with_raised, with_joined, with_keys_added, with_keys_polled, with_polled_if_open};
 ghost use Rattle.adr_mirror.specs.Calls.{Turns, Makes, Refuses, RefusesBeyond};
 
 use crate::raise::raise;
 use crate::risen::Risen;
-use adr_db::{count_marks, put_polled, read_meta};
+use adr_db::{put_meta, put_polled, read_meta};
 use adr_schema::{Found, Kind};
 use adr_state::{Limits, Mark, MirrorKey, key_of, mark_of};
 use adr_text::{ObjectId, Refusal, Rows};
@@ -57,25 +57,37 @@ fn join<S: Alter>(
     Ok(risen)
 }
 
-/// Refuses a mirror that grew beyond the limit of keys.
-fn check_keys<S: Alter>(
+// The keys with those that were added, unless they are more than the limit.
+fn keys_with(limits: &Limits, keys: u64, added: u64) -> Result<u64, Refusal>
+    ensures within { IfOk result (λ all. (all ≡ keys + added) × (nat_lt limits.now.keys all ≡ false)) }
+    ensures beyond { IfErr result (λ refusal. (refusal ≡ LimitReached) × (nat_lt limits.now.keys (keys + added) ≡ true)) }
+{
+    let most = limits.keys.get();
+    // Tested so that no sum can wrap.
+    if most < keys || most - keys < added {
+        return Err(Refusal::LimitReached);
+    }
+    Ok(keys + added)
+}
+
+/// Counts the keys that were added to the mirror, and refuses it where they are more than the limit then.
+fn count_keys<S: Alter>(
     tx: &mut Transaction<'_, S>,
     limits: &Limits,
-    grew: bool,
+    added: u64,
 ) -> Result<(), Refusal>
     ensures same_reference { tx.new.conn.ghost_name ≡ tx.old.conn.ghost_name }
     ensures stays { Stays S.Store tx.old.conn.now tx.new.conn.now result }
-    ensures finds { Finds S.Store tx.old.conn.now tx.new.conn.now (λ kept _. (grew && nat_lt limits.now.keys (length kept.mirror)) ≡ false) result }
-    ensures beyond { HasCleanDisk (state S.Store tx.new.conn.now) → IfErr result (RefusesBeyond (λ kept. grew && nat_lt limits.now.keys (length kept.mirror)) (state S.Store tx.old.conn.now)) }
+    ensures turns { Turns S.Store tx.old.conn.now tx.new.conn.now (with_keys_added added) (λ kept _. are_beyond limits.now.keys kept.meta.keys added ≡ false) result }
+    ensures beyond { HasCleanDisk (state S.Store tx.new.conn.now) → IfErr result (RefusesBeyond (λ kept. are_beyond limits.now.keys kept.meta.keys added) (state S.Store tx.old.conn.now)) }
     ensures refused { IfErr result (λ refusal. IsOfStore refusal ⊎ (refusal ≡ LimitReached)) }
 {
-    if !grew {
+    if added == 0 {
         return Ok(());
     }
-    let count = count_marks(tx)?;
-    if limits.keys.get() < count {
-        return Err(Refusal::LimitReached);
-    }
+    let mut meta = read_meta(tx)?;
+    meta.keys = keys_with(limits, meta.keys, added)?;
+    put_meta(tx, &meta)?;
     Ok(())
 }
 
@@ -131,7 +143,7 @@ pub fn put_evidence<S: Alter>(
     ensures refused { IfErr result (λ refusal. IsOfStore refusal ⊎ (refusal ≡ LimitReached)) }
 {
     let risen = join(alloc, tx, founds)?;
-    check_keys(tx, limits, risen.grew)?;
+    count_keys(tx, limits, risen.added)?;
     poll(tx, founds, polled)?;
     Ok(risen.list(alloc)?)
 }
@@ -162,6 +174,6 @@ pub fn gone<S: Alter>(
 {
     let key = key_at(kind, id)?;
     let rise = raise(alloc, tx, &key, &Mark::Dead)?;
-    check_keys(tx, limits, rise.is_first())?;
+    count_keys(tx, limits, rise.added())?;
     Ok(rise.is_raised())
 }

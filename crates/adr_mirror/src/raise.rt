@@ -3,7 +3,7 @@ ghost use Rattle.std.specs.Prelude.{◌≡◌, IfErr};
 ghost use Rattle.adr_sql.specs.Calls.{Stays};
 ghost use Rattle.adr_state.specs.Keys.{mirror_cmp, at};
 ghost use Rattle.adr_db.specs.Calls.{IsOfStore};
-ghost use Rattle.adr_mirror.specs.Raises.{is_raised, is_first, rise_of, with_raised};
+ghost use Rattle.adr_mirror.specs.Raises.{is_raised, added_by, rise_of, with_raised};
 ghost use Rattle.adr_mirror.specs.Calls.{Turns};
 
 use crate::known::rise_of;
@@ -35,13 +35,13 @@ impl Rise {
         }
     }
 
-    /// Whether the key is new.
-    pub fn is_first(self) -> bool
-        ensures { result ≡ is_first self }
+    /// How many keys it adds.
+    pub fn added(self) -> u64
+        ensures { result ≡ added_by self }
     {
         match self {
-            Rise::First => true,
-            Rise::Same | Rise::Higher => false,
+            Rise::First => 1,
+            Rise::Same | Rise::Higher => 0,
         }
     }
 }

@@ -1,5 +1,5 @@
 //! What a page made of the mirror: the keys whose mark rose.
-ghost use Rattle.std.specs.Prelude.{◌≡◌, [], false, IfOk, OnOk};
+ghost use Rattle.std.specs.Prelude.{◌≡◌, [], IfOk, OnOk};
 ghost use Rattle.adr_mirror.specs.Raises.{noted};
 
 use crate::raise::Rise;
@@ -7,21 +7,21 @@ use adr_state::{MirrorKey, Polled};
 use adr_text::Rows;
 use std::alloc::{AllocError, Global};
 
-/// The keys whose mark rose, and whether one of them is new to the mirror.
+/// The keys whose mark rose, and how many of them are new to the mirror.
 #[derive(Drop)]
 pub(crate) struct Risen {
     pub keys: Polled,
-    pub grew: bool,
+    pub added: u64,
 }
 
 impl Risen {
     /// None yet.
     pub fn new(alloc: Global) -> Risen
-        ensures { result ≡ record { keys = []; grew = false } }
+        ensures { result ≡ record { keys = []; added = 0 } }
     {
         Risen {
             keys: Polled::new(alloc),
-            grew: false,
+            added: 0,
         }
     }
 
@@ -33,7 +33,8 @@ impl Risen {
             Rise::Same => Ok(()),
             Rise::Higher => self.keys.insert(key),
             Rise::First => {
-                self.grew = true;
+                // Memory does not hold as many keys as would pass a u64.
+                self.added = self.added.checked_add(1).ok_or(AllocError)?;
                 self.keys.insert(key)
             }
         }

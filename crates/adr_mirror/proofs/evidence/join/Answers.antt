@@ -6,7 +6,7 @@ use Rattle.adr_state.specs.Mirror.{key_of, mark_of, evidence_of, joined}
 use Rattle.adr_sql.proofs.Transactions.{stays_itself, stays_then}
 use Rattle.adr_db.specs.Kept.{Keeps}
 use Rattle.adr_mirror.specs.Raises.{HasRisen, with_joined}
-use Rattle.adr_mirror.proofs.Rising.{none_risen, risen_more, joined_grows, joined_raises, joined_more}
+use Rattle.adr_mirror.proofs.Rising.{none_risen, risen_more, joined_raises, joined_more}
 use Rattle.adr_mirror.proofs.Keeping.{mirror_rises}
 use Rattle.adr_mirror.proofs.evidence.join.Goals as goal
 
@@ -34,7 +34,7 @@ founds-preserved g c =
           let so_far = c.founds.invariant.turned early kept was in
           let before = with_joined (evidence_of (take i founds)) kept in
           let step = c.in_ok-join_one.ensures.turns clean before so_far.1 in
-          let risen = risen_more kept.mirror before.mirror (key_of f, mark_of f) (joined_raises kept.mirror (evidence_of (take i founds))) c.founds.risen (joined_grows kept.mirror (evidence_of (take i founds))) (mirror_rises before now so_far.1) so_far.0 in
+          let risen = risen_more kept.mirror before.mirror (key_of f, mark_of f) (joined_raises kept.mirror (evidence_of (take i founds))) c.founds.risen (mirror_rises before now so_far.1) so_far.0 in
           let is = sym (joined_more kept.mirror (take i founds) f) in
           rw more (
             subst (λ m. HasRisen kept.mirror m c.join_one.new.risen) is (rw step.0 risen),
