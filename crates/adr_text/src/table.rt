@@ -1,7 +1,8 @@
 //! A map that contracts see as its rows in the order of the keys.
-ghost use Rattle.std.specs.Prelude.{◌≡◌, ◌==◌, [], OnOk, OnErr, length};
+ghost use Rattle.std.specs.Prelude.{◌≡◌, ◌≤◌, ◌==◌, [], IsSome, OnOk, OnErr, length};
 ghost use Rattle.std.specs.Option.{option_copied};
 ghost use Rattle.std.specs.Map.{lookup, remove_entry, keys_of};
+ghost use Rattle.std.specs.Map.Calls.{CalledAtPair, TakesPair, CallableOnEachPair, RetainsPairs};
 ghost use Rattle.std.specs.List.Sorted.{IsStrictlySortedBy};
 ghost use Rattle.std.specs.BTreeMap.{is_at, insert_entry};
 
@@ -60,6 +61,27 @@ impl<K: Ord + Drop, V: Drop> Table<K, V> {
         ensures removed { self.new ≡ remove_entry (is_at (K.cmp key.now)) self.old }
     {
         self.rows.remove(key)
+    }
+
+    /// Sets the value of a key that is there, in its place. It takes no memory, and there are as many
+    /// rows as before.
+    pub fn replace(&mut self, key: K, value: V)
+        requires { IsSome (lookup (is_at (K.cmp key)) self.old) }
+        ensures value { self.new ≡ insert_entry K.cmp self.old key value }
+        ensures count { length self.new ≡ length self.old }
+    {
+        let Ok(_) = self.rows.insert(key, value) else {
+            unreachable!()
+        };
+    }
+
+    /// Keeps the rows that pass the test.
+    pub fn retain<F: FnMut(&K, &mut V) -> bool>(&mut self, keep: F)
+        requires { CallableOnEachPair (CalledAtPair F.FnMut) (TakesPair F.FnMut) keep self.old }
+        ensures kept { RetainsPairs (CalledAtPair F.FnMut) keep self.old self.new }
+        ensures count { length self.new ≤ length self.old }
+    {
+        self.rows.retain(keep);
     }
 
     /// How many rows there are.
