@@ -28,7 +28,6 @@ use Rattle.adr_schema.specs.declared.shown.ShownEvent.{ShownEvent}
 use Rattle.adr_state.specs.declared.base.Mark.{Mark}
 use Rattle.adr_state.specs.declared.base.Mark.TheVariants.{Live, Dead}
 use Rattle.adr_state.specs.declared.keys.MirrorKey.{MirrorKey}
-use Rattle.adr_state.specs.declared.view.Content.{Content}
 use Rattle.adr_state.specs.declared.view.Content.TheVariants.{Program, Event}
 use Rattle.adr_state.specs.Same.{is_same_option, is_same_list}
 use Rattle.adr_state.specs.Changes.{is_same_period, is_same_interval, is_same_head, is_same_tail, is_same_event}

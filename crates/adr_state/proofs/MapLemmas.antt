@@ -1,6 +1,7 @@
--- How long a map is after a put.
-use Rattle.std.proofs.Common.{◌≡◌, ℕ, suc, ◌+◌, ◌<◌, ◌≤◌, List, [], ◌∷◌, length, Result, Ok, Err, OnOk, OnErr, Ordering, Less, Equal, Greater, arith}
+-- How long a map is after a put and after a removal.
+use Rattle.std.proofs.Common.{◌≡◌, ℕ, suc, ◌+◌, ◌<◌, ◌≤◌, List, [], ◌∷◌, length, Bool, true, false, cond, Result, Ok, Err, OnOk, OnErr, Ordering, Less, Equal, Greater, arith}
 use Rattle.std.specs.Ordering.{match_ordering}
+use Rattle.std.specs.Map.{remove_entry}
 use Rattle.std.specs.BTreeMap.{insert_entry}
 
 pub record GrowsByOne (old new : ℕ) : Type 0 where
@@ -24,3 +25,12 @@ pub put_within : {K X E : Type 0} (cmp : K → K → Ordering) (r : Result (Unit
     → OnOk r (new ≡ insert_entry cmp old k v) → OnErr r (new ≡ old) → length new ≤ most
 put_within cmp (Ok u) old new k v most room ok err = rw ok (omega (arith, (length-insert_entry cmp old k v).by_one))
 put_within cmp (Err e) old new k v most room ok err = rw err (omega arith)
+
+taken : {K X : Type 0} (goes : Bool) (e : K × X) (es rest : List (K × X)) → length rest ≤ length es → length (cond goes es (e ∷ rest)) ≤ suc (length es)
+taken true e es rest h = omega arith
+taken false e es rest h = omega (arith, h)
+
+-- a removal leaves no more rows
+pub length-remove_entry : {K X : Type 0} (test : K → Bool) (es : List (K × X)) → length (remove_entry test es) ≤ length es
+length-remove_entry test [] = omega arith
+length-remove_entry test (e ∷ es) = taken (test e.0) e es (remove_entry test es) (length-remove_entry test es)

@@ -1,5 +1,5 @@
 -- Scans: the keys that were polled since one began, and those that it missed.
-use Rattle.std.specs.Prelude.{Bool, true, false, not, ◌&&◌, List, [], map, filter, fold, Option, option_map}
+use Rattle.std.specs.Prelude.{Bool, true, false, not, ◌&&◌, List, map, filter, fold, Option, option_map}
 use Rattle.std.specs.List.{list_any}
 use Rattle.std.specs.BTreeMap.{is_at}
 use Rattle.std.specs.BTreeSet.{insert_key}

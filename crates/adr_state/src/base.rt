@@ -1,8 +1,9 @@
 //! What the node keeps, as plain maps.
-ghost use Rattle.std.specs.Prelude.{◌≡◌, ◌≤◌, ◌<◌, ◌==◌, [], length, IsTrue, OnOk, OnErr};
+ghost use Rattle.std.specs.Prelude.{◌≡◌, ◌≤◌, ◌<◌, ◌==◌, not, [], length, filter, IsSome, IsTrue, OnOk, OnErr};
 ghost use Rattle.std.specs.Ordering.{nat_cmp};
 ghost use Rattle.std.specs.Option.{option_copied};
-ghost use Rattle.std.specs.BTreeMap.{insert_entry};
+ghost use Rattle.std.specs.Map.{remove_entry};
+ghost use Rattle.std.specs.BTreeMap.{is_at, insert_entry};
 ghost use Rattle.adr_state.specs.Weights.{is_weight, weight_of, most_weight, most_resources};
 ghost use Rattle.adr_state.specs.Keys.{at};
 
@@ -119,6 +120,29 @@ impl Resources {
         ensures err { OnErr result (self.new ≡ self.old) }
     {
         self.rows.put(number, resource)
+    }
+
+    /// Puts a resource in the place of that of its number, which is there.
+    pub fn replace(&mut self, number: Number, resource: Resource)
+        requires { IsSome (at nat_cmp number self.old) }
+        ensures { self.new ≡ insert_entry nat_cmp self.old number resource }
+    {
+        self.rows.replace(number, resource)
+    }
+
+    /// Removes the resource of a number, and answers it.
+    pub fn remove(&mut self, number: Number) -> Option<Resource>
+        ensures value { result ≡ at nat_cmp number self.old }
+        ensures removed { self.new ≡ remove_entry (is_at (nat_cmp number)) self.old }
+    {
+        self.rows.remove(&number)
+    }
+
+    /// Removes the resources of a ven.
+    pub fn remove_of(&mut self, ven: Number)
+        ensures { self.new ≡ filter (λ r. not (r.1.ven == ven)) self.old }
+    {
+        self.rows.retain(|_, resource| resource.ven != ven)
     }
 
     /// How many there are.
