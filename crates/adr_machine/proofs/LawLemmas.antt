@@ -7,6 +7,8 @@ use Rattle.adr_text.specs.Refusals.{◌>>=◌}
 use Rattle.adr_text.specs.declared.refusal.Refusal.{Refusal}
 use Rattle.adr_text.specs.declared.refusal.Refusal.TheVariants as refusal
 use Rattle.adr_state.specs.declared.base.Base.{Base}
+use Rattle.adr_state.specs.declared.base.Ven.{Ven}
+use Rattle.adr_state.specs.declared.base.Resource.{Resource}
 use Rattle.adr_state.specs.declared.base.Mark.{Mark}
 use Rattle.adr_state.specs.declared.base.Mark.TheVariants.{Dead}
 use Rattle.adr_state.specs.declared.keys.MirrorKey.{MirrorKey}
@@ -25,9 +27,10 @@ use Rattle.adr_state.proofs.LawLemmas.{joins_greatest}
 use Rattle.adr_state.specs.States.{empty}
 use Rattle.adr_machine.specs.declared.answer.Answer.{Answer}
 use Rattle.adr_machine.specs.declared.command.Command.{Command}
-use Rattle.adr_machine.specs.declared.command.Command.TheVariants.{Evidence, Gone, ScanBegin, ScanEnd, VenAdd, ResourceAdd, ShareSet}
+use Rattle.adr_machine.specs.declared.command.Command.TheVariants.{Evidence, Gone, ScanBegin, ScanEnd, VenAdd, VenPut, VenRemove, ResourceAdd, ResourcePut, ResourceRemove, ShareSet}
 use Rattle.adr_machine.specs.Roles.{is_operator}
-use Rattle.adr_machine.specs.Edits.{mirror_set, adds_beyond, scan_after, scan_end, has_ven, enrolling, enrolled_by, has_resource, ven_at, adding, resource_of_ven, resource_at, share_of_resource, sharing, share_put, edit}
+use Rattle.adr_machine.specs.Portfolio.{ven_row, resource_row_under, ven_again, resource_again}
+use Rattle.adr_machine.specs.Edits.{mirror_set, adds_beyond, scan_after, scan_end, has_ven, enrolling, enrolled_by, has_other_ven, putting_ven, ven_renamed, ven_removed, has_resource, ven_at, adding, resource_of_ven, has_other_resource, putting_resource, resource_renamed, resource_removed, resource_at, share_of_resource, sharing, share_put, edit}
 use Rattle.adr_machine.specs.Steps.{committed}
 use Rattle.adr_machine.specs.Runs.{state_after, state_of, step_at}
 use Rattle.adr_machine.specs.Laws.{evidence_in, accepted_in, accepted_evidence, MirrorIsGreatest}
@@ -54,6 +57,22 @@ thrice mirror false false false d e f r h = h
 enrolling_leaves : (limits : Limits) (now : ℕ) (base : Base) (name : List ℕ) → Leaves base.mirror (enrolled_by limits now base name)
 enrolling_leaves limits now base name =
     thrice base.mirror (has_ven name base.vens) (nat_le limits.vens (length base.vens)) (nat_le limits.serial base.serial) refusal.Conflict refusal.LimitReached refusal.Exhausted (enrolling now base name) refl
+
+renamed_ven_leaves : (now : ℕ) (base : Base) (row : Option (ℕ × Ven)) (name : List ℕ) → Leaves base.mirror (ven_renamed now base row name)
+renamed_ven_leaves now base None name = tt
+renamed_ven_leaves now base (Some (n, old)) name = tested base.mirror (has_other_ven n name base.vens) refusal.Conflict (putting_ven base n (ven_again now name old)) refl
+
+removed_ven_leaves : (base : Base) (row : Option (ℕ × Ven)) → Leaves base.mirror (ven_removed base row)
+removed_ven_leaves base None = tt
+removed_ven_leaves base (Some (n, ven)) = refl
+
+renamed_resource_leaves : (now : ℕ) (base : Base) (row : Option (ℕ × Resource)) (name : List ℕ) → Leaves base.mirror (resource_renamed now base row name)
+renamed_resource_leaves now base None name = tt
+renamed_resource_leaves now base (Some (n, old)) name = tested base.mirror (has_other_resource n name base.resources) refusal.Conflict (putting_resource base n (resource_again now name old)) refl
+
+removed_resource_leaves : (base : Base) (row : Option (ℕ × Resource)) → Leaves base.mirror (resource_removed base row)
+removed_resource_leaves base None = tt
+removed_resource_leaves base (Some (n, resource)) = refl
 
 resource_of_leaves : (limits : Limits) (now : ℕ) (base : Base) (ven : Option ℕ) (name : List ℕ) → Leaves base.mirror (resource_of_ven limits now base ven name)
 resource_of_leaves limits now base None name = tt
@@ -85,6 +104,13 @@ edit_leaves limits now base (Gone kind id) = set_leaves limits base (raised base
 edit_leaves limits now base ScanBegin = refl
 edit_leaves limits now base ScanEnd = ended_leaves base base.scan
 edit_leaves limits now base (VenAdd role ven) = tested base.mirror (not (is_operator role)) refusal.Forbidden (enrolled_by limits now base ven.name) (enrolling_leaves limits now base ven.name)
+edit_leaves limits now base (VenPut role id ven) =
+    tested base.mirror (not (is_operator role)) refusal.Forbidden (ven_renamed now base (ven_row id base) ven.name) (renamed_ven_leaves now base (ven_row id base) ven.name)
+edit_leaves limits now base (VenRemove role id) = tested base.mirror (not (is_operator role)) refusal.Forbidden (ven_removed base (ven_row id base)) (removed_ven_leaves base (ven_row id base))
+edit_leaves limits now base (ResourcePut role ven id resource) =
+    tested base.mirror (not (is_operator role)) refusal.Forbidden (resource_renamed now base (resource_row_under ven id base) resource.name) (renamed_resource_leaves now base (resource_row_under ven id base) resource.name)
+edit_leaves limits now base (ResourceRemove role ven id) =
+    tested base.mirror (not (is_operator role)) refusal.Forbidden (resource_removed base (resource_row_under ven id base)) (removed_resource_leaves base (resource_row_under ven id base))
 edit_leaves limits now base (ResourceAdd role ven resource) =
     tested base.mirror (not (is_operator role)) refusal.Forbidden (resource_of_ven limits now base (ven_at ven base) resource.name) (resource_of_leaves limits now base (ven_at ven base) resource.name)
 edit_leaves limits now base (ShareSet role program resource share) =

@@ -19,7 +19,7 @@ use Rattle.adr_state.specs.declared.keys.ShareKey.{ShareKey}
 use Rattle.adr_state.specs.declared.limits.Limits.{Limits}
 use Rattle.adr_machine.specs.declared.role.Role.{Role}
 use Rattle.adr_machine.specs.declared.command.Command.{Command}
-use Rattle.adr_machine.specs.declared.command.Command.TheVariants.{Evidence, Gone, ScanBegin, ScanEnd, VenAdd, ResourceAdd, ShareSet}
+use Rattle.adr_machine.specs.declared.command.Command.TheVariants.{Evidence, Gone, ScanBegin, ScanEnd, VenAdd, VenPut, VenRemove, ResourceAdd, ResourcePut, ResourceRemove, ShareSet}
 use Rattle.adr_machine.specs.declared.answer.Object.TheVariants as object
 use Rattle.adr_machine.specs.declared.answer.Answer.{Answer}
 use Rattle.adr_machine.specs.declared.answer.Answer.TheVariants as answer
@@ -28,6 +28,7 @@ use Rattle.adr_state.specs.Keys.{share_cmp, at}
 use Rattle.adr_state.specs.Mirror.{evidence_of, raised, joined}
 use Rattle.adr_state.specs.Scans.{polled_with, probes}
 use Rattle.adr_machine.specs.Roles.{is_operator}
+use Rattle.adr_machine.specs.Portfolio.{ven_row, resource_row_under, ven_object, resource_object, ven_again, resource_again, with_ven_put, with_resource_put, without_ven, without_resource}
 use Rattle.adr_state.specs.Weights.{most_weight}
 
 -- both stamps
@@ -87,6 +88,29 @@ enrolled_by limits now base name =
 abbrev pub ven_add : Limits → ℕ → Base → Role → List ℕ → Result (Option Answer × Base) Refusal
 ven_add limits now base role name = if not (is_operator role) then Err Forbidden else enrolled_by limits now base name
 
+-- whether another ven than that of the number has the name
+abbrev pub has_other_ven : ℕ → List ℕ → List (ℕ × Ven) → Bool
+has_other_ven n name vens = list_any (λ v. not (v.0 == n) && bytes_eq v.1.name name) vens
+
+abbrev pub putting_ven : Base → ℕ → Ven → Result (Option Answer × Base) Refusal
+putting_ven base n ven = Ok (Some (answer.Object (ven_object (n, ven))), with_ven_put n ven base)
+
+-- the ven has the name from now on
+abbrev pub ven_renamed : ℕ → Base → Option (ℕ × Ven) → List ℕ → Result (Option Answer × Base) Refusal
+ven_renamed now base None name = Err NotFound
+ven_renamed now base (Some (n, old)) name = if has_other_ven n name base.vens then Err Conflict else putting_ven base n (ven_again now name old)
+
+abbrev pub ven_put : ℕ → Base → Role → List ℕ → List ℕ → Result (Option Answer × Base) Refusal
+ven_put now base role id name = if not (is_operator role) then Err Forbidden else ven_renamed now base (ven_row id base) name
+
+-- the ven that goes is answered
+abbrev pub ven_removed : Base → Option (ℕ × Ven) → Result (Option Answer × Base) Refusal
+ven_removed base None = Err NotFound
+ven_removed base (Some (n, ven)) = Ok (Some (answer.Object (ven_object (n, ven))), without_ven n base)
+
+abbrev pub ven_remove : Base → Role → List ℕ → Result (Option Answer × Base) Refusal
+ven_remove base role id = if not (is_operator role) then Err Forbidden else ven_removed base (ven_row id base)
+
 -- ---- resources
 
 abbrev pub has_resource : List ℕ → List (ℕ × Resource) → Bool
@@ -112,6 +136,30 @@ resource_of_ven limits now base (Some ven) name =
 
 abbrev pub resource_add : Limits → ℕ → Base → Role → List ℕ → List ℕ → Result (Option Answer × Base) Refusal
 resource_add limits now base role ven name = if not (is_operator role) then Err Forbidden else resource_of_ven limits now base (ven_at ven base) name
+
+-- whether another resource than that of the number has the name
+abbrev pub has_other_resource : ℕ → List ℕ → List (ℕ × Resource) → Bool
+has_other_resource n name resources = list_any (λ r. not (r.0 == n) && bytes_eq r.1.name name) resources
+
+abbrev pub putting_resource : Base → ℕ → Resource → Result (Option Answer × Base) Refusal
+putting_resource base n resource = Ok (Some (answer.Object (resource_object (n, resource))), with_resource_put n resource base)
+
+-- the resource has the name from now on
+abbrev pub resource_renamed : ℕ → Base → Option (ℕ × Resource) → List ℕ → Result (Option Answer × Base) Refusal
+resource_renamed now base None name = Err NotFound
+resource_renamed now base (Some (n, old)) name = if has_other_resource n name base.resources then Err Conflict else putting_resource base n (resource_again now name old)
+
+-- one of another ven than that of the id isn't there
+abbrev pub resource_put : ℕ → Base → Role → List ℕ → List ℕ → List ℕ → Result (Option Answer × Base) Refusal
+resource_put now base role ven id name = if not (is_operator role) then Err Forbidden else resource_renamed now base (resource_row_under ven id base) name
+
+-- the resource that goes is answered
+abbrev pub resource_removed : Base → Option (ℕ × Resource) → Result (Option Answer × Base) Refusal
+resource_removed base None = Err NotFound
+resource_removed base (Some (n, resource)) = Ok (Some (answer.Object (resource_object (n, resource))), without_resource n base)
+
+abbrev pub resource_remove : Base → Role → List ℕ → List ℕ → Result (Option Answer × Base) Refusal
+resource_remove base role ven id = if not (is_operator role) then Err Forbidden else resource_removed base (resource_row_under ven id base)
 
 -- ---- shares
 
@@ -148,5 +196,9 @@ edit limits now base (Gone kind id) = gone limits base (record { kind = kind; id
 edit limits now base ScanBegin = scan_begin base
 edit limits now base ScanEnd = scan_end base base.scan
 edit limits now base (VenAdd role ven) = ven_add limits now base role ven.name
+edit limits now base (VenPut role id ven) = ven_put now base role id ven.name
+edit limits now base (VenRemove role id) = ven_remove base role id
 edit limits now base (ResourceAdd role ven resource) = resource_add limits now base role ven resource.name
+edit limits now base (ResourcePut role ven id resource) = resource_put now base role ven id resource.name
+edit limits now base (ResourceRemove role ven id) = resource_remove base role ven id
 edit limits now base (ShareSet role program resource share) = share_set limits base role program resource share.share

@@ -1,5 +1,6 @@
 pub mod Digits
 pub mod Roles
+pub mod Portfolio
 pub mod Edits
 pub mod Steps
 pub mod Runs

@@ -9,6 +9,7 @@ pub enum Object {
     Event(EventObject),
     Ven(VenObject),
     Resource(ResourceObject),
+    Share(ShareObject),
 }
 
 /// An answer to a command or a query.

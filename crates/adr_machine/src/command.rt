@@ -27,11 +27,39 @@ pub enum Command {
         role: Role,
         ven: VenIn,
     },
+    /// Gives the ven of that id another name, or the same again. Refused for another role than the
+    /// operator, where the ven isn't there, and for a name that another ven has.
+    VenPut {
+        role: Role,
+        id: ObjectId,
+        ven: VenIn,
+    },
+    /// Removes the ven of that id, with its resources and their shares. Refused for another role than
+    /// the operator, and where the ven isn't there.
+    VenRemove {
+        role: Role,
+        id: ObjectId,
+    },
     /// Adds a resource to the ven of that id. Refused as for a ven, and where the ven isn't there.
     ResourceAdd {
         role: Role,
         ven: ObjectId,
         resource: ResourceIn,
+    },
+    /// Gives the resource of that id another name, or the same again. Refused as for a ven; a resource
+    /// of another ven than that of the path isn't there.
+    ResourcePut {
+        role: Role,
+        ven: ObjectId,
+        id: ObjectId,
+        resource: ResourceIn,
+    },
+    /// Removes the resource of that id, with its shares. Refused as for a ven; a resource of another
+    /// ven than that of the path isn't there.
+    ResourceRemove {
+        role: Role,
+        ven: ObjectId,
+        id: ObjectId,
     },
     /// Sets the share of the resource of that id in a program; 0 removes it. Refused for another
     /// role than the operator, where the resource isn't there, for a share above 1,000,000, and at

@@ -8,6 +8,8 @@ ghost use Rattle.adr_machine.specs.Steps.{IsRefusalOf};
 use crate::answer::{Answer, Object};
 use crate::command::Command;
 use crate::digits::number_of;
+use crate::puts::{with_resource_renamed, with_ven_renamed};
+use crate::removals::{with_resource_removed, with_ven_removed};
 use crate::role::Role;
 use crate::sight::is_operator;
 use adr_schema::{
@@ -42,11 +44,20 @@ pub(crate) fn edited(
         Command::ScanBegin => Ok(with_scan_begun(alloc, base)),
         Command::ScanEnd => with_scan_ended(alloc, base),
         Command::VenAdd { role, ven } => with_ven(limits, now, base, role, &ven.name),
+        Command::VenPut { role, id, ven } => with_ven_renamed(now, base, role, id, &ven.name),
+        Command::VenRemove { role, id } => with_ven_removed(base, role, id),
         Command::ResourceAdd {
             role,
             ven,
             resource,
         } => with_resource(limits, now, base, role, ven, &resource.name),
+        Command::ResourcePut {
+            role,
+            ven,
+            id,
+            resource,
+        } => with_resource_renamed(now, base, role, ven, id, &resource.name),
+        Command::ResourceRemove { role, ven, id } => with_resource_removed(base, role, ven, id),
         Command::ShareSet {
             role,
             program,

@@ -28,7 +28,7 @@ pub(crate) fn is_operator(role: &Role) -> bool
 }
 
 /// The number of the ven of that id, where it is enrolled.
-fn enrolled(base: &Base, id: &ObjectId) -> Option<Number>
+pub(crate) fn enrolled(base: &Base, id: &ObjectId) -> Option<Number>
     ensures { result ≡ enrolled base.now id.now }
 {
     let number = number_of(b'v', id)?;
