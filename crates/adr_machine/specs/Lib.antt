@@ -1,6 +1,7 @@
 pub mod Digits
 pub mod Roles
 pub mod Portfolio
+pub mod Listings
 pub mod Edits
 pub mod Steps
 pub mod Runs

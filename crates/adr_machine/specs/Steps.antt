@@ -1,5 +1,5 @@
 -- One step of the machine, and its replies to queries.
-use Rattle.std.specs.Prelude.{◌≡◌, ℕ, Bool, true, List, length, filter, take, drop, Option, None, Some, option_map, option_and_then, Result, Ok, Err}
+use Rattle.std.specs.Prelude.{◌≡◌, ℕ, Bool, true, List, length, filter, take, Option, None, Some, option_map, option_and_then, Result, Ok, Err}
 use Rattle.std.specs.List.{filter_map}
 use Rattle.std.specs.Ordering.{nat_cmp}
 use Rattle.std.specs.Option.{option_map_or}
@@ -19,9 +19,8 @@ use Rattle.adr_state.specs.declared.limits.Settings.{Settings}
 use Rattle.adr_machine.specs.declared.sight.Sight.{Sight}
 use Rattle.adr_machine.specs.declared.sight.Sight.TheVariants.{All, Of}
 use Rattle.adr_machine.specs.declared.command.Command.{Command}
-use Rattle.adr_machine.specs.declared.query.Page.{Page}
 use Rattle.adr_machine.specs.declared.query.Query.{Query}
-use Rattle.adr_machine.specs.declared.query.Query.TheVariants.{Events, Probes}
+use Rattle.adr_machine.specs.declared.query.Query.TheVariants.{Events, Vens, Ven, Resources, Resource, Shares, Probes}
 use Rattle.adr_machine.specs.declared.answer.Object.{Object}
 use Rattle.adr_machine.specs.declared.answer.Object.TheVariants as object
 use Rattle.adr_machine.specs.declared.answer.Answer.{Answer}
@@ -32,6 +31,7 @@ use Rattle.adr_state.specs.Views.{view}
 use Rattle.adr_state.specs.Changes.{changes, restamped}
 use Rattle.adr_machine.specs.Edits.{edit}
 use Rattle.adr_machine.specs.Roles.{sight_of}
+use Rattle.adr_machine.specs.Listings.{page_of, vens_reply, ven_reply, resources_reply, resource_reply, shares_reply}
 
 -- ---- steps
 
@@ -79,10 +79,6 @@ event_at stamps r = option_and_then (event_of r.0 r.1) (at view_cmp r.0 stamps)
 abbrev pub events_in_sight : State → Sight → List Object
 events_in_sight s sight = filter_map (event_at s.stamps) (filter (λ r. sees s.base sight r.0) (view s.base))
 
--- after the first ones, at most so many
-abbrev pub page_of : Page → List Object → List Object
-page_of page objects = take page.limit (drop page.skip objects)
-
 -- the first live keys that an open scan missed
 abbrev pub probes_reply : ℕ → Base → Option (List MirrorKey) → Result Answer Refusal
 probes_reply limit base None = Err NoScan
@@ -91,6 +87,11 @@ probes_reply limit base (Some polled) = Ok (answer.Probes (take limit (probes ba
 -- the reply to a query
 unfoldable pub reply : State → Query → Result Answer Refusal
 reply s (Events role page) = sight_of s.base role >>= λ sight. Ok (answer.List (page_of page (events_in_sight s sight)))
+reply s (Vens role page) = vens_reply s.base role page
+reply s (Ven role id) = ven_reply s.base role id
+reply s (Resources role ven page) = resources_reply s.base role ven page
+reply s (Resource role ven id) = resource_reply s.base role ven id
+reply s (Shares role program) = shares_reply s.base role program
 reply s (Probes limit) = probes_reply limit s.base s.base.scan
 
 -- the answer to who asks for the whole state

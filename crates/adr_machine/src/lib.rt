@@ -8,6 +8,7 @@ mod desk;
 mod digits;
 mod edits;
 pub mod laws;
+mod listings;
 mod plain;
 mod portfolio;
 mod puts;

@@ -1,5 +1,6 @@
 //! What the machine is asked.
 use crate::role::Role;
+use adr_text::ObjectId;
 
 /// Which part of a listing: after `skip` objects, at most `limit` (OpenADR 3.0, skip and limit).
 #[derive(Clone, Copy, Debug, PartialEq, Eq)]
@@ -12,7 +13,41 @@ pub struct Page {
 #[derive(Clone, Debug, Drop)]
 pub enum Query {
     /// The events that the role sees, by upstream id and then by resource.
-    Events { role: Role, page: Page },
+    Events {
+        role: Role,
+        page: Page,
+    },
+    /// The vens that the role sees, by number: a ven sees itself alone.
+    Vens {
+        role: Role,
+        page: Page,
+    },
+    /// The ven of an id. Refused where it isn't there, and for another ven.
+    Ven {
+        role: Role,
+        id: ObjectId,
+    },
+    /// The resources of the ven of an id, by number. Refused where the ven isn't there, and for another
+    /// ven.
+    Resources {
+        role: Role,
+        ven: ObjectId,
+        page: Page,
+    },
+    /// The resource of an id. Refused for another ven than its own, where it isn't there, and where the
+    /// path names another ven than its own.
+    Resource {
+        role: Role,
+        ven: ObjectId,
+        id: ObjectId,
+    },
+    /// All shares in a program, by resource number. Refused for another role than the operator.
+    Shares {
+        role: Role,
+        program: ObjectId,
+    },
     /// The first keys that the end of the scan would answer. Refused where no scan is open.
-    Probes { limit: u32 },
+    Probes {
+        limit: u32,
+    },
 }

@@ -2,10 +2,13 @@
 ghost use Rattle.std.specs.Prelude.{◌≡◌, ◌≢◌, Ok, Err, IfOk, IfErr};
 ghost use Rattle.adr_text.specs.declared.refusal.Refusal.TheVariants.{Store};
 ghost use Rattle.std.specs.Option.{option_copied};
-ghost use Rattle.adr_machine.specs.Steps.{event_of, event_at, events_in_sight, page_of, probes_reply, reply, IsRefusalOf};
+ghost use Rattle.adr_machine.specs.Steps.{event_of, event_at, events_in_sight, probes_reply, reply, IsRefusalOf};
 ghost use Rattle.adr_machine.specs.declared.query.Query.TheVariants.{Events};
 
 use crate::answer::{Answer, Object};
+use crate::listings::{
+    page_of, resource_reply, resources_reply, shares_reply, ven_reply, vens_reply,
+};
 use crate::query::{Page, Query};
 use crate::role::Role;
 use crate::sight::{Sight, sees, sight_of};
@@ -59,17 +62,6 @@ fn events_in_sight(alloc: Global, state: &State, sight: Sight) -> Result<Vec<Obj
     Ok(all)
 }
 
-/// After the first ones, at most so many.
-fn page_of(alloc: Global, page: Page, objects: Vec<Object>) -> Result<Vec<Object>, AllocError>
-    ensures { IfOk result (λ some. some.items ≡ page_of page objects.items) }
-{
-    objects
-        .into_iter()
-        .skip(page.skip as usize)
-        .take(page.limit as usize)
-        .collect(alloc)
-}
-
 /// The events that a role sees, or `Forbidden`.
 #[tactic(auto, unfolding(crate::specs::Steps::reply))]
 fn events_of(alloc: Global, state: &State, role: &Role, page: Page) -> Result<Answer, Refusal>
@@ -105,6 +97,13 @@ pub(crate) fn reply(alloc: Global, state: &State, query: &Query) -> Result<Answe
 {
     match query {
         Query::Events { role, page } => events_of(alloc, state, role, *page),
+        Query::Vens { role, page } => vens_reply(alloc, &state.base, role, *page),
+        Query::Ven { role, id } => ven_reply(&state.base, role, id),
+        Query::Resources { role, ven, page } => {
+            resources_reply(alloc, &state.base, role, ven, *page)
+        }
+        Query::Resource { role, ven, id } => resource_reply(&state.base, role, ven, id),
+        Query::Shares { role, program } => shares_reply(alloc, &state.base, role, program),
         Query::Probes { limit } => probes_of(alloc, &state.base, *limit),
     }
 }
