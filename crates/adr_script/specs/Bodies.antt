@@ -9,7 +9,7 @@ use Rattle.adr_schema.specs.declared.kind.Kind.{Kind}
 use Rattle.adr_schema.specs.declared.kind.Kind.TheVariants as kind
 use Rattle.adr_state.specs.declared.keys.MirrorKey.{MirrorKey}
 use Rattle.adr_machine.specs.declared.answer.Object.{Object}
-use Rattle.adr_machine.specs.declared.answer.Object.TheVariants.{Event, Ven, Resource}
+use Rattle.adr_machine.specs.declared.answer.Object.TheVariants.{Event, Ven, Resource, Share}
 use Rattle.adr_machine.specs.declared.answer.Answer.{Answer}
 use Rattle.adr_machine.specs.declared.answer.Answer.TheVariants as answer
 use Rattle.adr_script.specs.declared.asked.Asked.{Asked}
@@ -22,6 +22,7 @@ abbrev pub object_text : Object → List ℕ
 object_text (Event e) = event_text e
 object_text (Ven v) = ven_text v
 object_text (Resource r) = resource_text r
+object_text (Share s) = share_text s
 
 -- the objects behind the first, each behind a comma
 abbrev pub behind_commas : List Object → List ℕ

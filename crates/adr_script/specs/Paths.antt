@@ -1,24 +1,40 @@
 -- Paths, and the ids in them.
 use Rattle.std.specs.Prelude.{ℕ, List, codes, Option, Some, None, option_map, option_and_then, bytes_eq, if◌then◌else◌}
+use Rattle.adr_script.specs.declared.paths.Path.{Path}
+use Rattle.adr_script.specs.declared.paths.Path.TheVariants.{Events, Notifications, Vens, Ven, Resources, Resource, Shares, Share}
 use Rattle.adr_script.specs.Cuts.{cut, behind}
 use Rattle.adr_script.specs.Words.{id_at}
-
--- the id before the first `/`, where the given text stands behind it
-abbrev pub id_before : List ℕ → List ℕ × Option (List ℕ) → Option (List ℕ)
-id_before end (id, None) = None
-id_before end (id, Some rest) = if bytes_eq rest end then id_at id else None
-
--- the ven of `/vens/{venID}/resources`
-unfoldable pub ven_in_path : List ℕ → Option (List ℕ)
-ven_in_path path = option_and_then (λ rest. id_before (codes "resources") (cut 47 rest)) (behind (codes "/vens/") path)
 
 abbrev pub both_ids : List ℕ → List ℕ → Option (List ℕ × List ℕ)
 both_ids first second = option_and_then (λ a. option_map (λ b. (a, b)) (id_at second)) (id_at first)
 
-abbrev pub ids_of : List ℕ × Option (List ℕ) → Option (List ℕ × List ℕ)
-ids_of (first, None) = None
-ids_of (first, Some second) = both_ids first second
+-- the resources of a ven, or one of them
+abbrev pub resources_path : List ℕ → Option (List ℕ) → Option Path
+resources_path ven None = option_map (λ ven. Resources ven) (id_at ven)
+resources_path ven (Some id) = option_map (λ ids. Resource ids.0 ids.1) (both_ids ven id)
 
--- the program and the resource of `/shares/{programID}/{resourceID}`
-unfoldable pub share_in_path : List ℕ → Option (List ℕ × List ℕ)
-share_in_path path = option_and_then (λ rest. ids_of (cut 47 rest)) (behind (codes "/shares/") path)
+abbrev pub under_ven : List ℕ → List ℕ × Option (List ℕ) → Option Path
+under_ven ven (word, id) = if bytes_eq word (codes "resources") then resources_path ven id else None
+
+-- behind `/vens/`: `{venID}`, `{venID}/resources` and `{venID}/resources/{resourceID}`
+abbrev pub ven_path : List ℕ × Option (List ℕ) → Option Path
+ven_path (id, None) = option_map (λ id. Ven id) (id_at id)
+ven_path (ven, Some rest) = under_ven ven (cut 47 rest)
+
+-- behind `/shares/`: `{programID}` and `{programID}/{resourceID}`
+abbrev pub share_path : List ℕ × Option (List ℕ) → Option Path
+share_path (program, None) = option_map (λ program. Shares program) (id_at program)
+share_path (program, Some resource) = option_map (λ ids. Share ids.0 ids.1) (both_ids program resource)
+
+abbrev pub longer_path : Option (List ℕ) → Option (List ℕ) → Option Path
+longer_path (Some behind_vens) behind_shares = ven_path (cut 47 behind_vens)
+longer_path None (Some behind_shares) = share_path (cut 47 behind_shares)
+longer_path None None = None
+
+-- the path that the bytes are
+unfoldable pub path_of : List ℕ → Option Path
+path_of path =
+    if bytes_eq path (codes "/events") then Some Events
+    else (if bytes_eq path (codes "/notifications") then Some Notifications
+    else (if bytes_eq path (codes "/vens") then Some Vens
+    else longer_path (behind (codes "/vens/") path) (behind (codes "/shares/") path)))

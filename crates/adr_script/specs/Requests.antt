@@ -9,24 +9,26 @@ use Rattle.adr_schema.specs.declared.notice.NoticeIn.TheVariants as notice
 use Rattle.adr_schema.specs.Notices.{notice_of}
 use Rattle.adr_machine.specs.declared.role.Role.{Role}
 use Rattle.adr_machine.specs.declared.role.Role.TheVariants.{Utility}
-use Rattle.adr_machine.specs.declared.command.Command.TheVariants.{Evidence, Gone, VenAdd, ResourceAdd, ShareSet}
-use Rattle.adr_machine.specs.declared.query.Query.TheVariants.{Events}
+use Rattle.adr_machine.specs.declared.command.Command.TheVariants.{Evidence, Gone, VenAdd, VenPut, VenRemove, ResourceAdd, ResourcePut, ResourceRemove, ShareSet}
+use Rattle.adr_machine.specs.declared.query.Query.TheVariants.{Events, Vens, Ven, Resources, Resource, Shares}
 use Rattle.adr_script.specs.declared.asked.Asked.{Asked}
 use Rattle.adr_script.specs.declared.asked.Asked.TheVariants as asked
 use Rattle.adr_script.specs.Cuts.{cut}
 use Rattle.adr_script.specs.Words.{text_at, role_at}
 use Rattle.adr_script.specs.Queries.{page_asked}
-use Rattle.adr_script.specs.Paths.{ven_in_path, share_in_path}
+use Rattle.adr_script.specs.declared.paths.Path.{Path}
+use Rattle.adr_script.specs.declared.paths.Path.TheVariants as path
+use Rattle.adr_script.specs.Paths.{path_of}
 
--- `GET /events`
-unfoldable pub asked_by_get : Role → List ℕ → List ℕ → Result (Option Asked) Refusal
-asked_by_get role path query =
-    if bytes_eq path (codes "/events") then (page_asked query >>= λ page. Ok (Some (asked.Query (Events role page))))
-    else Ok None
-
-abbrev pub resource_asked : Role → Option (List ℕ) → List ℕ → Result (Option Asked) Refusal
-resource_asked role None body = Ok None
-resource_asked role (Some ven) body = resource_of body >>= λ resource. Ok (Some (asked.Command (ResourceAdd role ven resource)))
+-- what is read at a path: only a listing has a query
+unfoldable pub asked_by_get : Role → Path → List ℕ → Result (Option Asked) Refusal
+asked_by_get role path.Events query = page_asked query >>= λ page. Ok (Some (asked.Query (Events role page)))
+asked_by_get role path.Vens query = page_asked query >>= λ page. Ok (Some (asked.Query (Vens role page)))
+asked_by_get role (path.Ven id) query = Ok (Some (asked.Query (Ven role id)))
+asked_by_get role (path.Resources ven) query = page_asked query >>= λ page. Ok (Some (asked.Query (Resources role ven page)))
+asked_by_get role (path.Resource ven id) query = Ok (Some (asked.Query (Resource role ven id)))
+asked_by_get role (path.Shares program) query = Ok (Some (asked.Query (Shares role program)))
+asked_by_get role _ query = Ok None
 
 -- what a notification asks, if it asks anything
 abbrev pub told_asked : NoticeIn → Asked
@@ -43,32 +45,47 @@ notice_asked _ n = Err Forbidden
 abbrev pub notified : Role → List ℕ → Result (Option Asked) Refusal
 notified role body = notice_of body >>= notice_asked role
 
--- `POST /vens`, `POST /notifications` and `POST /vens/{venID}/resources`
-unfoldable pub asked_by_post : Role → List ℕ → List ℕ → Result (Option Asked) Refusal
-asked_by_post role path body =
-    if bytes_eq path (codes "/vens") then (ven_of body >>= λ ven. Ok (Some (asked.Command (VenAdd role ven))))
-    else (if bytes_eq path (codes "/notifications") then notified role body
-    else resource_asked role (ven_in_path path) body)
+-- what is posted to a path
+unfoldable pub asked_by_post : Role → Path → List ℕ → Result (Option Asked) Refusal
+asked_by_post role path.Vens body = ven_of body >>= λ ven. Ok (Some (asked.Command (VenAdd role ven)))
+asked_by_post role path.Notifications body = notified role body
+asked_by_post role (path.Resources ven) body = resource_of body >>= λ resource. Ok (Some (asked.Command (ResourceAdd role ven resource)))
+asked_by_post role _ body = Ok None
 
-abbrev pub share_asked : Role → Option (List ℕ × List ℕ) → List ℕ → Result (Option Asked) Refusal
-share_asked role None body = Ok None
-share_asked role (Some (program, resource)) body = share_of body >>= λ share. Ok (Some (asked.Command (ShareSet role program resource share)))
+-- what is put at a path
+unfoldable pub asked_by_put : Role → Path → List ℕ → Result (Option Asked) Refusal
+asked_by_put role (path.Ven id) body = ven_of body >>= λ ven. Ok (Some (asked.Command (VenPut role id ven)))
+asked_by_put role (path.Resource ven id) body = resource_of body >>= λ resource. Ok (Some (asked.Command (ResourcePut role ven id resource)))
+asked_by_put role (path.Share program resource) body = share_of body >>= λ share. Ok (Some (asked.Command (ShareSet role program resource share)))
+asked_by_put role _ body = Ok None
 
--- `PUT /shares/{programID}/{resourceID}`
-unfoldable pub asked_by_put : Role → List ℕ → List ℕ → Result (Option Asked) Refusal
-asked_by_put role path body = share_asked role (share_in_path path) body
+-- what is removed at a path: a share by setting it to 0
+unfoldable pub asked_by_delete : Role → Path → Option Asked
+asked_by_delete role (path.Ven id) = Some (asked.Command (VenRemove role id))
+asked_by_delete role (path.Resource ven id) = Some (asked.Command (ResourceRemove role ven id))
+asked_by_delete role (path.Share program resource) = Some (asked.Command (ShareSet role program resource (record { share = 0 })))
+asked_by_delete role _ = None
 
 -- by the method
-unfoldable pub asked_by : Role → List ℕ → List ℕ × Option (List ℕ) → List ℕ → Result (Option Asked) Refusal
-asked_by role method (path, query) body =
-    if bytes_eq method (codes "GET") then asked_by_get role path (unwrap_or query [])
+unfoldable pub asked_by : Role → List ℕ → Path → List ℕ → List ℕ → Result (Option Asked) Refusal
+asked_by role method path query body =
+    if bytes_eq method (codes "GET") then asked_by_get role path query
     else (if bytes_eq method (codes "POST") then asked_by_post role path body
     else (if bytes_eq method (codes "PUT") then asked_by_put role path body
-    else Ok None))
+    else (if bytes_eq method (codes "DELETE") then Ok (asked_by_delete role path)
+    else Ok None)))
+
+abbrev pub asked_at : Role → List ℕ → Option Path → List ℕ → List ℕ → Result (Option Asked) Refusal
+asked_at role method None query body = Ok None
+asked_at role method (Some path) query body = asked_by role method path query body
+
+-- a path, and behind `?` a query
+abbrev pub asked_on : Role → List ℕ → List ℕ × Option (List ℕ) → List ℕ → Result (Option Asked) Refusal
+asked_on role method (path, query) body = asked_at role method (path_of path) (unwrap_or query []) body
 
 abbrev pub asked_as : Option Role → List ℕ → List ℕ → List ℕ → Result (Option Asked) Refusal
 asked_as None method target body = Ok None
-asked_as (Some role) method target body = asked_by role method (cut 63 target) body
+asked_as (Some role) method target body = asked_on role method (cut 63 target) body
 
 -- a role, a method, a target and a body
 unfoldable pub asked_of : List ℕ → List ℕ → List ℕ → List ℕ → Result (Option Asked) Refusal

@@ -1,5 +1,5 @@
 -- What the words of a step of the node ask of the machine: none where they ask for nothing that there is.
-use Rattle.std.specs.Prelude.{ℕ, nat_le, true, List, length, codes, Option, Some, None, option_map, bytes_eq, Result, Ok, Err, if◌then◌else◌}
+use Rattle.std.specs.Prelude.{ℕ, nat_le, true, List, length, codes, Option, Some, None, option_map, bytes_eq, Result, Ok, if◌then◌else◌}
 use Rattle.adr_text.specs.Refusals.{◌>>=◌}
 use Rattle.adr_text.specs.declared.refusal.Refusal.{Refusal}
 use Rattle.adr_schema.specs.declared.body.Found.{Found}

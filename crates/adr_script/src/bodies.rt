@@ -15,6 +15,7 @@ fn object_text(alloc: Global, object: &Object) -> Result<String, AllocError>
         Object::Event(event) => write_event(alloc, event),
         Object::Ven(ven) => write_ven(alloc, ven),
         Object::Resource(resource) => write_resource(alloc, resource),
+        Object::Share(share) => write_share(alloc, share),
     }
 }
 

@@ -1,24 +1,39 @@
 //! Paths, and the ids in them.
-ghost use Rattle.std.specs.Prelude.{◌≡◌, IfOk};
-ghost use Rattle.adr_script.specs.Paths.{ven_in_path, both_ids, share_in_path};
+ghost use Rattle.std.specs.Prelude.{◌≡◌, IfOk, codes};
+ghost use Rattle.std.specs.Option.{option_copied};
+ghost use Rattle.adr_script.specs.Cuts.{cut, behind};
+ghost use Rattle.adr_script.specs.Paths.{both_ids, resources_path, under_ven, ven_path, share_path, longer_path, path_of};
 
 use crate::cuts::{behind, cut};
 use crate::words::id_at;
 use adr_text::ObjectId;
 use std::alloc::{AllocError, Global};
 
-/// The ven of `/vens/{venID}/resources`.
-#[tactic(auto, unfolding(crate::specs::Paths::ven_in_path))]
-pub(crate) fn ven_in_path(alloc: Global, path: &[u8]) -> Result<Option<ObjectId>, AllocError>
-    ensures { IfOk result (λ ven. ven ≡ ven_in_path path.now) }
-{
-    let Some(rest) = behind(b"/vens/", path) else {
-        return Ok(None);
-    };
-    match cut(b'/', rest) {
-        (id, Some(end)) if end == b"resources".as_slice() => id_at(alloc, id),
-        _ => Ok(None),
-    }
+/// A path that there is.
+#[derive(Drop)]
+pub enum Path {
+    /// `/events`
+    Events,
+    /// `/notifications`
+    Notifications,
+    /// `/vens`
+    Vens,
+    /// `/vens/{venID}`
+    Ven(ObjectId),
+    /// `/vens/{venID}/resources`
+    Resources(ObjectId),
+    /// `/vens/{venID}/resources/{resourceID}`
+    Resource {
+        ven: ObjectId,
+        id: ObjectId,
+    },
+    /// `/shares/{programID}`
+    Shares(ObjectId),
+    /// `/shares/{programID}/{resourceID}`
+    Share {
+        program: ObjectId,
+        resource: ObjectId,
+    },
 }
 
 fn both_ids(
@@ -37,19 +52,78 @@ fn both_ids(
     }
 }
 
-/// The program and the resource of `/shares/{programID}/{resourceID}`.
-#[tactic(auto, unfolding(crate::specs::Paths::share_in_path))]
-pub(crate) fn share_in_path(
-    alloc: Global,
-    path: &[u8],
-) -> Result<Option<(ObjectId, ObjectId)>, AllocError>
-    ensures { IfOk result (λ ids. ids ≡ share_in_path path.now) }
+/// The resources of a ven, or one of them.
+fn resources_path(alloc: Global, ven: &[u8], id: Option<&[u8]>) -> Result<Option<Path>, AllocError>
+    ensures { IfOk result (λ path. path ≡ resources_path ven.now (option_copied id.entry)) }
 {
-    let Some(rest) = behind(b"/shares/", path) else {
+    match id {
+        None => Ok(id_at(alloc, ven)?.map(Path::Resources)),
+        Some(id) => match both_ids(alloc, ven, id)? {
+            Some((ven, id)) => Ok(Some(Path::Resource { ven, id })),
+            None => Ok(None),
+        },
+    }
+}
+
+/// What stands behind a ven's id.
+fn under_ven(alloc: Global, ven: &[u8], rest: &[u8]) -> Result<Option<Path>, AllocError>
+    ensures { IfOk result (λ path. path ≡ under_ven ven.now (cut 47 rest.now)) }
+{
+    let (word, id) = cut(b'/', rest);
+    if word != b"resources".as_slice() {
         return Ok(None);
-    };
+    }
+    resources_path(alloc, ven, id)
+}
+
+/// Behind `/vens/`: a ven, its resources, or one of them.
+fn ven_path(alloc: Global, rest: &[u8]) -> Result<Option<Path>, AllocError>
+    ensures { IfOk result (λ path. path ≡ ven_path (cut 47 rest.now)) }
+{
     match cut(b'/', rest) {
-        (program, Some(resource)) => both_ids(alloc, program, resource),
-        (_, None) => Ok(None),
+        (id, None) => Ok(id_at(alloc, id)?.map(Path::Ven)),
+        (ven, Some(rest)) => under_ven(alloc, ven, rest),
+    }
+}
+
+/// Behind `/shares/`: the shares of a program, or one of them.
+fn share_path(alloc: Global, rest: &[u8]) -> Result<Option<Path>, AllocError>
+    ensures { IfOk result (λ path. path ≡ share_path (cut 47 rest.now)) }
+{
+    match cut(b'/', rest) {
+        (program, None) => Ok(id_at(alloc, program)?.map(Path::Shares)),
+        (program, Some(resource)) => match both_ids(alloc, program, resource)? {
+            Some((program, resource)) => Ok(Some(Path::Share { program, resource })),
+            None => Ok(None),
+        },
+    }
+}
+
+/// A path with an id in it.
+fn longer_path(alloc: Global, path: &[u8]) -> Result<Option<Path>, AllocError>
+    ensures { IfOk result (λ found. found ≡ longer_path (behind (codes "/vens/") path.now) (behind (codes "/shares/") path.now)) }
+{
+    if let Some(rest) = behind(b"/vens/", path) {
+        return ven_path(alloc, rest);
+    }
+    match behind(b"/shares/", path) {
+        Some(rest) => share_path(alloc, rest),
+        None => Ok(None),
+    }
+}
+
+/// The path that the bytes are.
+#[tactic(auto, unfolding(crate::specs::Paths::path_of))]
+pub(crate) fn path_of(alloc: Global, path: &[u8]) -> Result<Option<Path>, AllocError>
+    ensures { IfOk result (λ found. found ≡ path_of path.now) }
+{
+    if path == b"/events".as_slice() {
+        Ok(Some(Path::Events))
+    } else if path == b"/notifications".as_slice() {
+        Ok(Some(Path::Notifications))
+    } else if path == b"/vens".as_slice() {
+        Ok(Some(Path::Vens))
+    } else {
+        longer_path(alloc, path)
     }
 }

@@ -2,34 +2,48 @@
 ghost use Rattle.std.specs.Prelude.{◌≡◌, unwrap_or, IfOk};
 ghost use Rattle.std.specs.Option.{option_copied};
 ghost use Rattle.adr_text.specs.Refusals.{Gives};
-ghost use Rattle.adr_script.specs.Requests.{told_asked, notified, asked_by_get, asked_by_post, asked_by_put, asked_by, asked_of, request_of};
+ghost use Rattle.adr_script.specs.Requests.{told_asked, notified, asked_by_get, asked_by_post, asked_by_put, asked_by_delete, asked_by, asked_on, asked_of, request_of};
 ghost use Rattle.adr_script.specs.Cuts.{cut};
 
 use crate::asked::Asked;
 use crate::cuts::cut;
-use crate::paths::{share_in_path, ven_in_path};
+use crate::paths::{Path, path_of};
 use crate::query::page_asked;
 use crate::words::{role_at, text_at};
 use adr_machine::{Command, Query, Role};
-use adr_schema::{NoticeIn, read_notice, read_resource, read_share, read_ven};
+use adr_schema::{NoticeIn, ShareIn, read_notice, read_resource, read_share, read_ven};
 use adr_text::{Refusal, Rows};
 use std::alloc::{AllocError, Global};
 
-/// `GET /events`.
+/// What is read at a path. Only a listing has a query.
 #[tactic(auto, unfolding(crate::specs::Requests::asked_by_get))]
 fn asked_by_get(
     alloc: Global,
     role: Role,
-    path: &[u8],
+    path: Path,
     query: &[u8],
 ) -> Result<Option<Asked>, Refusal>
-    ensures { Gives (λ a. a) result (asked_by_get role path.now query.now) }
+    ensures { Gives (λ a. a) result (asked_by_get role path query.now) }
 {
-    if path != b"/events".as_slice() {
-        return Ok(None);
-    }
-    let page = page_asked(alloc, query)?;
-    Ok(Some(Asked::Query(Query::Events { role, page })))
+    let query = match path {
+        Path::Events => {
+            let page = page_asked(alloc, query)?;
+            Query::Events { role, page }
+        }
+        Path::Vens => {
+            let page = page_asked(alloc, query)?;
+            Query::Vens { role, page }
+        }
+        Path::Resources(ven) => {
+            let page = page_asked(alloc, query)?;
+            Query::Resources { role, ven, page }
+        }
+        Path::Ven(id) => Query::Ven { role, id },
+        Path::Resource { ven, id } => Query::Resource { role, ven, id },
+        Path::Shares(program) => Query::Shares { role, program },
+        Path::Notifications | Path::Share { .. } => return Ok(None),
+    };
+    Ok(Some(Asked::Query(query)))
 }
 
 /// What a notification asks, if it asks anything.
@@ -64,54 +78,89 @@ fn notified(alloc: Global, role: &Role, body: &[u8]) -> Result<Option<Asked>, Re
     }
 }
 
-/// `POST /vens`, `POST /notifications` and `POST /vens/{venID}/resources`.
+/// What is posted to a path.
 #[tactic(auto, unfolding(crate::specs::Requests::asked_by_post))]
 fn asked_by_post(
     alloc: Global,
     role: Role,
-    path: &[u8],
+    path: Path,
     body: &[u8],
 ) -> Result<Option<Asked>, Refusal>
-    ensures { Gives (λ a. a) result (asked_by_post role path.now body.now) }
+    ensures { Gives (λ a. a) result (asked_by_post role path body.now) }
 {
-    if path == b"/vens".as_slice() {
-        let ven = read_ven(alloc, body)?;
-        return Ok(Some(Asked::Command(Command::VenAdd { role, ven })));
+    match path {
+        Path::Vens => {
+            let ven = read_ven(alloc, body)?;
+            Ok(Some(Asked::Command(Command::VenAdd { role, ven })))
+        }
+        Path::Notifications => notified(alloc, &role, body),
+        Path::Resources(ven) => {
+            let resource = read_resource(alloc, body)?;
+            Ok(Some(Asked::Command(Command::ResourceAdd {
+                role,
+                ven,
+                resource,
+            })))
+        }
+        _ => Ok(None),
     }
-    if path == b"/notifications".as_slice() {
-        return notified(alloc, &role, body);
-    }
-    let Some(ven) = ven_in_path(alloc, path)? else {
-        return Ok(None);
-    };
-    let resource = read_resource(alloc, body)?;
-    Ok(Some(Asked::Command(Command::ResourceAdd {
-        role,
-        ven,
-        resource,
-    })))
 }
 
-/// `PUT /shares/{programID}/{resourceID}`.
+/// What is put at a path.
 #[tactic(auto, unfolding(crate::specs::Requests::asked_by_put))]
 fn asked_by_put(
     alloc: Global,
     role: Role,
-    path: &[u8],
+    path: Path,
     body: &[u8],
 ) -> Result<Option<Asked>, Refusal>
-    ensures { Gives (λ a. a) result (asked_by_put role path.now body.now) }
+    ensures { Gives (λ a. a) result (asked_by_put role path body.now) }
 {
-    let Some((program, resource)) = share_in_path(alloc, path)? else {
-        return Ok(None);
+    let command = match path {
+        Path::Ven(id) => {
+            let ven = read_ven(alloc, body)?;
+            Command::VenPut { role, id, ven }
+        }
+        Path::Resource { ven, id } => {
+            let resource = read_resource(alloc, body)?;
+            Command::ResourcePut {
+                role,
+                ven,
+                id,
+                resource,
+            }
+        }
+        Path::Share { program, resource } => {
+            let share = read_share(alloc, body)?;
+            Command::ShareSet {
+                role,
+                program,
+                resource,
+                share,
+            }
+        }
+        _ => return Ok(None),
     };
-    let share = read_share(alloc, body)?;
-    Ok(Some(Asked::Command(Command::ShareSet {
-        role,
-        program,
-        resource,
-        share,
-    })))
+    Ok(Some(Asked::Command(command)))
+}
+
+/// What is removed at a path: a share by setting it to 0.
+#[tactic(auto, unfolding(crate::specs::Requests::asked_by_delete))]
+fn asked_by_delete(role: Role, path: Path) -> Option<Asked>
+    ensures { result ≡ asked_by_delete role path }
+{
+    let command = match path {
+        Path::Ven(id) => Command::VenRemove { role, id },
+        Path::Resource { ven, id } => Command::ResourceRemove { role, ven, id },
+        Path::Share { program, resource } => Command::ShareSet {
+            role,
+            program,
+            resource,
+            share: ShareIn { share: 0 },
+        },
+        _ => return None,
+    };
+    Some(Asked::Command(command))
 }
 
 /// By the method.
@@ -120,21 +169,40 @@ fn asked_by(
     alloc: Global,
     role: Role,
     method: &[u8],
-    path: &[u8],
-    query: Option<&[u8]>,
+    path: Path,
+    query: &[u8],
     body: &[u8],
 ) -> Result<Option<Asked>, Refusal>
-    ensures { Gives (λ a. a) result (asked_by role method.now (path.now, option_copied query.entry) body.now) }
+    ensures { Gives (λ a. a) result (asked_by role method.now path query.now body.now) }
 {
     if method == b"GET".as_slice() {
-        asked_by_get(alloc, role, path, query.unwrap_or(&[]))
+        asked_by_get(alloc, role, path, query)
     } else if method == b"POST".as_slice() {
         asked_by_post(alloc, role, path, body)
     } else if method == b"PUT".as_slice() {
         asked_by_put(alloc, role, path, body)
+    } else if method == b"DELETE".as_slice() {
+        Ok(asked_by_delete(role, path))
     } else {
         Ok(None)
     }
+}
+
+/// A path, and behind `?` a query.
+fn asked_on(
+    alloc: Global,
+    role: Role,
+    method: &[u8],
+    target: &[u8],
+    body: &[u8],
+) -> Result<Option<Asked>, Refusal>
+    ensures { Gives (λ a. a) result (asked_on role method.now (cut 63 target.now) body.now) }
+{
+    let (path, query) = cut(b'?', target);
+    let Some(path) = path_of(alloc, path)? else {
+        return Ok(None);
+    };
+    asked_by(alloc, role, method, path, query.unwrap_or(&[]), body)
 }
 
 /// A role, a method, a target and a body.
@@ -154,8 +222,7 @@ fn asked_of(
     let Some(role) = role_at(alloc, role)? else {
         return Ok(None);
     };
-    let (path, query) = cut(b'?', target);
-    asked_by(alloc, role, method, path, query, body)
+    asked_on(alloc, role, method, target, body)
 }
 
 /// What a role asks by `METHOD TARGET` or `METHOD TARGET BODY`, or none where it asks for nothing that
