@@ -12,7 +12,7 @@ use Rattle.adr_db.specs.Bases.{kept_of, HoldsBase}
 use Rattle.adr_machine.specs.declared.answer.Answer.{Answer}
 use Rattle.adr_machine.specs.declared.answer.Answer.TheVariants as answer
 use Rattle.adr_machine.specs.declared.command.Command.{Command}
-use Rattle.adr_machine.specs.declared.command.Command.TheVariants.{Evidence, Gone, ScanBegin, ScanEnd, VenAdd, ResourceAdd, ShareSet}
+use Rattle.adr_machine.specs.declared.command.Command.TheVariants.{Evidence, Gone, ScanBegin, ScanEnd, VenAdd, VenPut, VenRemove, ResourceAdd, ResourcePut, ResourceRemove, ShareSet}
 use Rattle.adr_machine.specs.Edits.{edit}
 use Rattle.adr_mirror.specs.Raises.{HaveRisen}
 use Rattle.adr_desk.specs.declared.edit.Edit.{Edit}
@@ -25,7 +25,11 @@ is_without_table (Gone kind id) = false
 is_without_table ScanBegin = false
 is_without_table ScanEnd = false
 is_without_table (VenAdd role ven) = true
+is_without_table (VenPut role id ven) = true
+is_without_table (VenRemove role id) = true
 is_without_table (ResourceAdd role ven resource) = true
+is_without_table (ResourcePut role ven id resource) = true
+is_without_table (ResourceRemove role ven id) = true
 is_without_table (ShareSet role program resource share) = true
 
 -- the machine's edit, where the tables take the command; else the base stays

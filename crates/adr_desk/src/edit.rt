@@ -129,7 +129,13 @@ fn edited<S: Alter>(
         Command::Gone { kind, id } => with_gone(alloc, tx, limits, *kind, id),
         Command::ScanBegin => with_scan_begun(tx),
         Command::ScanEnd => with_scan_ended(alloc, tx),
-        Command::VenAdd { .. } | Command::ResourceAdd { .. } | Command::ShareSet { .. } => Ok(None),
+        Command::VenAdd { .. }
+        | Command::VenPut { .. }
+        | Command::VenRemove { .. }
+        | Command::ResourceAdd { .. }
+        | Command::ResourcePut { .. }
+        | Command::ResourceRemove { .. }
+        | Command::ShareSet { .. } => Ok(None),
     }
 }
 
