@@ -1,3 +1,6 @@
 pub mod DigitLemmas
 pub mod RunLemmas
+pub mod EditLemmas
+pub mod RowLemmas
 pub mod LawLemmas
+pub mod PortfolioLemmas

@@ -1,10 +1,15 @@
 -- Laws over whole runs.
-use Rattle.std.specs.Prelude.{◌≡◌, ℕ, false, List, [], ◌∷◌, ◌++◌, Option, Some, Result, Ok, Err}
-use Rattle.std.specs.List.{Contains}
+use Rattle.std.specs.Prelude.{◌≡◌, ℕ, false, List, [], ◌∷◌, ◌++◌, Option, Some, IsSome, Result, Ok, Err}
+use Rattle.std.specs.List.{All, Contains}
+use Rattle.std.specs.Ordering.{nat_cmp}
 use Rattle.adr_text.specs.declared.refusal.Refusal.{Refusal}
+use Rattle.adr_state.specs.declared.base.Base.{Base}
+use Rattle.adr_state.specs.declared.base.Ven.{Ven}
+use Rattle.adr_state.specs.declared.base.Resource.{Resource}
 use Rattle.adr_state.specs.declared.base.Mark.{Mark}
 use Rattle.adr_state.specs.declared.base.Mark.TheVariants.{Dead}
 use Rattle.adr_state.specs.declared.keys.MirrorKey.{MirrorKey}
+use Rattle.adr_state.specs.declared.keys.ShareKey.{ShareKey}
 use Rattle.adr_state.specs.declared.limits.Settings.{Settings}
 use Rattle.adr_state.specs.declared.state.State.{State}
 use Rattle.adr_state.specs.Keys.{mirror_cmp, at}
@@ -40,3 +45,22 @@ pub record IsGreatestOf (evidence : List (MirrorKey × Mark)) (key : MirrorKey) 
 -- after any run from an empty start, the mirror at a key is the greatest mark in all accepted evidence for it
 abbrev pub MirrorIsGreatest : Type 0
 MirrorIsGreatest = (settings : Settings) (cs : List (ℕ × Command)) (key : MirrorKey) → IsGreatestOf (accepted_evidence settings empty cs) key (at mirror_cmp key (state_of (step_at settings) empty cs).base.mirror)
+
+-- ---- vens, resources and shares
+
+-- the ven of a resource is there
+abbrev pub HasVen : List (ℕ × Ven) → ℕ × Resource → Type 0
+HasVen vens r = IsSome (at nat_cmp r.1.ven vens)
+
+-- the resource of a share is there
+abbrev pub HasResource : List (ℕ × Resource) → ShareKey × ℕ → Type 0
+HasResource resources s = IsSome (at nat_cmp s.0.resource resources)
+
+-- nothing is left of a ven or of a resource that is not there
+pub record IsWhole (base : Base) : Type 0 where
+  pub resources_have_vens : All (HasVen base.vens) base.resources
+  pub shares_have_resources : All (HasResource base.resources) base.shares
+
+-- after any run from an empty start, each resource has its ven and each share its resource
+abbrev pub PortfolioIsWhole : Type 0
+PortfolioIsWhole = (settings : Settings) (cs : List (ℕ × Command)) → IsWhole (state_of (step_at settings) empty cs).base

@@ -1,0 +1,215 @@
+-- After every edit each resource has its ven and each share its resource.
+use Rattle.std.proofs.Common.{◌≡◌, ℕ, Bool, true, false, cond, not, ◌==◌, ◌&&◌, List, [], ◌∷◌, length, filter, Option, Some, None, Result, Ok, Err, refl}
+use Rattle.std.specs.Prelude.{nat_le, nat_lt, is_some, is_none, IsSome, IfSome, option_map, option_and_then}
+use Rattle.std.specs.List.{AllByRecursion}
+use Rattle.std.specs.Option.{option_map_or}
+use Rattle.std.specs.Ordering.{nat_cmp}
+use Rattle.std.specs.Map.{lookup, remove_entry}
+use Rattle.std.specs.BTreeMap.{is_at, insert_entry}
+use Rattle.std.proofs.lemmas.List.Elements.{All-from_recursion}
+use Rattle.adr_text.specs.Refusals.{◌>>=◌}
+use Rattle.adr_text.specs.declared.refusal.Refusal.{Refusal}
+use Rattle.adr_text.specs.declared.refusal.Refusal.TheVariants as refusal
+use Rattle.adr_state.specs.declared.base.Base.{Base}
+use Rattle.adr_state.specs.declared.base.Ven.{Ven}
+use Rattle.adr_state.specs.declared.base.Resource.{Resource}
+use Rattle.adr_state.specs.declared.base.Mark.{Mark}
+use Rattle.adr_state.specs.declared.base.Mark.TheVariants.{Dead}
+use Rattle.adr_state.specs.declared.keys.MirrorKey.{MirrorKey}
+use Rattle.adr_state.specs.declared.keys.ShareKey.{ShareKey}
+use Rattle.adr_state.specs.declared.limits.Limits.{Limits}
+use Rattle.adr_state.specs.declared.limits.Settings.{Settings}
+use Rattle.adr_state.specs.declared.state.State.{State}
+use Rattle.adr_state.specs.Keys.{share_cmp, at}
+use Rattle.adr_state.specs.Mirror.{evidence_of, raised, joined}
+use Rattle.adr_state.specs.States.{empty}
+use Rattle.adr_state.specs.Weights.{most_weight}
+use Rattle.adr_machine.specs.declared.answer.Answer.{Answer}
+use Rattle.adr_machine.specs.declared.command.Command.{Command}
+use Rattle.adr_machine.specs.declared.command.Command.TheVariants.{Evidence, Gone, ScanBegin, ScanEnd, VenAdd, VenPut, VenRemove, ResourceAdd, ResourcePut, ResourceRemove, ShareSet}
+use Rattle.adr_machine.specs.Digits.{number_of}
+use Rattle.adr_machine.specs.Roles.{is_operator}
+use Rattle.adr_machine.specs.Portfolio.{ven_row, resource_row, is_under, resource_row_under, ven_again, resource_again, is_of_ven}
+use Rattle.adr_machine.specs.Edits.{mirror_set, adds_beyond, scan_after, scan_end, has_ven, enrolling, enrolled_by, has_other_ven, putting_ven, ven_renamed, ven_removed, has_resource, ven_at, adding, resource_of_ven, has_other_resource, putting_resource, resource_renamed, resource_removed, resource_at, share_of_resource, sharing, share_put, edit}
+use Rattle.adr_machine.specs.Steps.{committed}
+use Rattle.adr_machine.specs.Runs.{state_after, state_of, step_at}
+use Rattle.adr_machine.specs.Laws.{HasVen, HasResource, PortfolioIsWhole}
+use Rattle.adr_machine.proofs.EditLemmas.{Leaves, tested, thrice}
+use Rattle.adr_machine.proofs.RowLemmas.{each_weaker, each_put, each_removed, each_filtered, there_after_put, there_after_removal, there_after_filter, numbers_apart}
+
+abbrev Stands : Base → Type 0
+Stands base = AllByRecursion (HasVen base.vens) base.resources × AllByRecursion (HasResource base.resources) base.shares
+
+-- ---- what an id names is there
+
+abbrev IsVen : Base → ℕ → Type 0
+IsVen base n = IsSome (at nat_cmp n base.vens)
+
+abbrev IsResource : Base → ℕ → Type 0
+IsResource base n = IsSome (at nat_cmp n base.resources)
+
+named : {V : Type 0} (o : Option V) (n : ℕ) (P : ℕ → Type 0) → (is_some o ≡ true → P n) → IfSome (cond (is_none o) None (Some n)) P
+named None n P there = tt
+named (Some v) n P there = there refl
+
+ven_there : (base : Base) (o : Option ℕ) → IfSome (option_and_then (λ n. cond (is_none (at nat_cmp n base.vens)) None (Some n)) o) (IsVen base)
+ven_there base None = tt
+ven_there base (Some n) = named (at nat_cmp n base.vens) n (IsVen base) (λ h. h)
+
+resource_there : (base : Base) (o : Option ℕ) → IfSome (option_and_then (λ n. cond (is_none (at nat_cmp n base.resources)) None (Some n)) o) (IsResource base)
+resource_there base None = tt
+resource_there base (Some n) = named (at nat_cmp n base.resources) n (IsResource base) (λ h. h)
+
+picked : {V : Type 0} (P : V → Type 0) (b : Bool) (v : V) (rest : Option V) → P v → IfSome rest P → IfSome (cond b (Some v) rest) P
+picked P true v rest h r = h
+picked P false v rest h r = r
+
+-- what holds of each value of a map holds of one that is found
+of_found : {K V : Type 0} (P : V → Type 0) (test : K → Bool) (es : List (K × V)) → AllByRecursion (λ e. P e.1) es → IfSome (lookup test es) P
+of_found P test [] h = tt
+of_found P test (e ∷ es) h = picked P (test e.0) e.1 (lookup test es) h.0 (of_found P test es h.1)
+
+numbered : {V : Type 0} (P : V → Type 0) (n : ℕ) (o : Option V) → IfSome o P → IfSome {T = ℕ × V} (option_map (λ v. (n, v)) o) (λ r. P r.1)
+numbered P n None h = tt
+numbered P n (Some v) h = h
+
+row_has_ven : (base : Base) → AllByRecursion (HasVen base.vens) base.resources → (o : Option ℕ) → IfSome {T = ℕ × Resource} (option_and_then (λ n. option_map (λ r. (n, r)) (at nat_cmp n base.resources)) o) (HasVen base.vens)
+row_has_ven base h None = tt
+row_has_ven base h (Some n) = numbered (λ r. IsVen base r.ven) n (at nat_cmp n base.resources) (of_found (λ r. IsVen base r.ven) (is_at (nat_cmp n)) base.resources h)
+
+still : {A : Type 0} (P : A → Type 0) (b : Bool) (x : A) → P x → IfSome (cond b (Some x) None) P
+still P true x h = h
+still P false x h = tt
+
+under_has_ven : (base : Base) (ven : List ℕ) (row : Option (ℕ × Resource)) → IfSome row (HasVen base.vens) → IfSome (option_and_then (λ r. cond (is_under ven base r.1) (Some r) None) row) (HasVen base.vens)
+under_has_ven base ven None h = tt
+under_has_ven base ven (Some r) h = still (HasVen base.vens) (is_under ven base r.1) r h
+
+-- ---- puts
+
+-- more vens, or others at their numbers
+vens_put : (base : Base) (n : ℕ) (ven : Ven) → Stands base → Stands (record base { vens = insert_entry nat_cmp base.vens n ven })
+vens_put base n ven h =
+    (each_weaker (HasVen base.vens) (HasVen (insert_entry nat_cmp base.vens n ven)) (λ r there. there_after_put (is_at (nat_cmp r.1.ven)) nat_cmp n ven base.vens there) base.resources h.0, h.1)
+
+-- a resource whose ven is there
+resource_put : (base : Base) (n : ℕ) (resource : Resource) → IsVen base resource.ven → Stands base → Stands (record base { resources = insert_entry nat_cmp base.resources n resource })
+resource_put base n resource ven_is_there h = (
+  each_put (HasVen base.vens) nat_cmp n resource ven_is_there (λ e old. ven_is_there) base.resources h.0,
+  each_weaker (HasResource base.resources) (HasResource (insert_entry nat_cmp base.resources n resource)) (λ s there. there_after_put (is_at (nat_cmp s.0.resource)) nat_cmp n resource base.resources there) base.shares h.1,
+)
+
+-- ---- removals
+
+turned : (n : ℕ) (o : Option Resource) → is_some o ≡ true → not (option_map_or (λ r. r.ven == n) o false) ≡ true → option_map_or (λ r. not (r.ven == n)) o false ≡ true
+turned n None there other = there
+turned n (Some r) there other = other
+
+ven_gone : (base : Base) (n : ℕ) → Stands base
+    → Stands (record base { vens = remove_entry (is_at (nat_cmp n)) base.vens; resources = filter (λ r. not (r.1.ven == n)) base.resources; shares = filter (λ s. not (is_of_ven n base.resources s.0.resource)) base.shares })
+ven_gone base n h = (
+  each_filtered (HasVen base.vens) (HasVen (remove_entry (is_at (nat_cmp n)) base.vens)) (λ r. not (r.1.ven == n))
+      (λ r there other. there_after_removal (is_at (nat_cmp r.1.ven)) (is_at (nat_cmp n)) (numbers_apart r.1.ven n other) base.vens there) base.resources h.0,
+  each_filtered (HasResource base.resources) (HasResource (filter (λ r. not (r.1.ven == n)) base.resources)) (λ s. not (is_of_ven n base.resources s.0.resource))
+      (λ s there other. there_after_filter (is_at (nat_cmp s.0.resource)) (λ r. not (r.ven == n)) base.resources (turned n (at nat_cmp s.0.resource base.resources) there other)) base.shares h.1,
+)
+
+resource_gone : (base : Base) (n : ℕ) → Stands base → Stands (record base { resources = remove_entry (is_at (nat_cmp n)) base.resources; shares = filter (λ s. not (s.0.resource == n)) base.shares })
+resource_gone base n h = (
+  each_removed (HasVen base.vens) (is_at (nat_cmp n)) base.resources h.0,
+  each_filtered (HasResource base.resources) (HasResource (remove_entry (is_at (nat_cmp n)) base.resources)) (λ s. not (s.0.resource == n))
+      (λ s there other. there_after_removal (is_at (nat_cmp s.0.resource)) (is_at (nat_cmp n)) (numbers_apart s.0.resource n other) base.resources there) base.shares h.1,
+)
+
+-- ---- each command
+
+mirror_stands : (limits : Limits) (base : Base) (mirror : List (MirrorKey × Mark)) → Stands base → Leaves Stands (mirror_set limits base mirror)
+mirror_stands limits base mirror h = tested Stands (adds_beyond limits.keys base.mirror mirror) refusal.LimitReached (Ok (None, record base { mirror = mirror })) h
+
+ended_stands : (base : Base) (scan : Option (List MirrorKey)) → Stands base → Leaves Stands (scan_end base scan)
+ended_stands base None h = tt
+ended_stands base (Some polled) h = h
+
+enrolled_stands : (limits : Limits) (now : ℕ) (base : Base) (name : List ℕ) → Stands base → Leaves Stands (enrolled_by limits now base name)
+enrolled_stands limits now base name h =
+    thrice Stands (has_ven name base.vens) (nat_le limits.vens (length base.vens)) (nat_le limits.serial base.serial) refusal.Conflict refusal.LimitReached refusal.Exhausted (enrolling now base name)
+    (vens_put base _ _ h)
+
+renamed_ven_stands : (now : ℕ) (base : Base) (row : Option (ℕ × Ven)) (name : List ℕ) → Stands base → Leaves Stands (ven_renamed now base row name)
+renamed_ven_stands now base None name h = tt
+renamed_ven_stands now base (Some (n, old)) name h =
+    tested Stands (has_other_ven n name base.vens) refusal.Conflict (putting_ven base n (ven_again now name old)) (vens_put base n (ven_again now name old) h)
+
+removed_ven_stands : (base : Base) (row : Option (ℕ × Ven)) → Stands base → Leaves Stands (ven_removed base row)
+removed_ven_stands base None h = tt
+removed_ven_stands base (Some (n, ven)) h = ven_gone base n h
+
+added_stands : (limits : Limits) (now : ℕ) (base : Base) (ven : Option ℕ) (name : List ℕ) → IfSome ven (IsVen base) → Stands base → Leaves Stands (resource_of_ven limits now base ven name)
+added_stands limits now base None name there h = tt
+added_stands limits now base (Some ven) name there h =
+    thrice Stands (has_resource name base.resources) (nat_le limits.resources (length base.resources)) (nat_le limits.serial base.serial) refusal.Conflict refusal.LimitReached refusal.Exhausted
+    (adding now base ven name) (resource_put base _ _ there h)
+
+renamed_resource_stands : (now : ℕ) (base : Base) (row : Option (ℕ × Resource)) (name : List ℕ) → IfSome row (HasVen base.vens) → Stands base → Leaves Stands (resource_renamed now base row name)
+renamed_resource_stands now base None name there h = tt
+renamed_resource_stands now base (Some (n, old)) name there h =
+    tested Stands (has_other_resource n name base.resources) refusal.Conflict (putting_resource base n (resource_again now name old)) (resource_put base n (resource_again now name old) there h)
+
+removed_resource_stands : (base : Base) (row : Option (ℕ × Resource)) → Stands base → Leaves Stands (resource_removed base row)
+removed_resource_stands base None h = tt
+removed_resource_stands base (Some (n, resource)) h = resource_gone base n h
+
+put_stands : (base : Base) (key : ShareKey) (weight : ℕ) (zero full : Bool) → IsResource base key.resource → Stands base
+    → Leaves Stands (sharing key weight (cond zero (Ok (record base { shares = remove_entry (is_at (share_cmp key)) base.shares })) (cond full (Err refusal.LimitReached) (Ok (record base { shares = insert_entry share_cmp base.shares key weight })))))
+put_stands base key weight true full there h = (h.0, each_removed (HasResource base.resources) (is_at (share_cmp key)) base.shares h.1)
+put_stands base key weight false true there h = tt
+put_stands base key weight false false there h = (h.0, each_put (HasResource base.resources) share_cmp key weight there (λ e old. old) base.shares h.1)
+
+share_stands : (limits : Limits) (base : Base) (program : List ℕ) (resource : Option ℕ) (weight : ℕ) → IfSome resource (IsResource base) → Stands base → Leaves Stands (share_of_resource limits base program resource weight)
+share_stands limits base program None weight there h = tt
+share_stands limits base program (Some resource) weight there h =
+    let key : ShareKey = record { program = program; resource = resource } in
+    tested Stands (nat_lt most_weight weight) refusal.BadShare (sharing key weight (share_put limits base key weight))
+    (put_stands base key weight (weight == 0) (is_none (at share_cmp key base.shares) && nat_le limits.shares (length base.shares)) there h)
+
+edit_stands : (limits : Limits) (now : ℕ) (base : Base) (c : Command) → Stands base → Leaves Stands (edit limits now base c)
+unfolding edit
+edit_stands limits now base (Evidence founds polled) h = mirror_stands limits (record base { scan = scan_after base founds polled }) (joined base.mirror (evidence_of founds)) h
+edit_stands limits now base (Gone kind id) h = mirror_stands limits base (raised base.mirror (record { kind = kind; id = id }, Dead)) h
+edit_stands limits now base ScanBegin h = h
+edit_stands limits now base ScanEnd h = ended_stands base base.scan h
+edit_stands limits now base (VenAdd role ven) h = tested Stands (not (is_operator role)) refusal.Forbidden (enrolled_by limits now base ven.name) (enrolled_stands limits now base ven.name h)
+edit_stands limits now base (VenPut role id ven) h =
+    tested Stands (not (is_operator role)) refusal.Forbidden (ven_renamed now base (ven_row id base) ven.name) (renamed_ven_stands now base (ven_row id base) ven.name h)
+edit_stands limits now base (VenRemove role id) h = tested Stands (not (is_operator role)) refusal.Forbidden (ven_removed base (ven_row id base)) (removed_ven_stands base (ven_row id base) h)
+edit_stands limits now base (ResourceAdd role ven resource) h =
+    tested Stands (not (is_operator role)) refusal.Forbidden (resource_of_ven limits now base (ven_at ven base) resource.name)
+    (added_stands limits now base (ven_at ven base) resource.name (ven_there base (number_of 118 ven)) h)
+edit_stands limits now base (ResourcePut role ven id resource) h =
+    tested Stands (not (is_operator role)) refusal.Forbidden (resource_renamed now base (resource_row_under ven id base) resource.name)
+    (renamed_resource_stands now base (resource_row_under ven id base) resource.name (under_has_ven base ven (resource_row id base) (row_has_ven base h.0 (number_of 114 id))) h)
+edit_stands limits now base (ResourceRemove role ven id) h =
+    tested Stands (not (is_operator role)) refusal.Forbidden (resource_removed base (resource_row_under ven id base)) (removed_resource_stands base (resource_row_under ven id base) h)
+edit_stands limits now base (ShareSet role program resource share) h =
+    tested Stands (not (is_operator role)) refusal.Forbidden (share_of_resource limits base program (resource_at resource base) share.share)
+    (share_stands limits base program (resource_at resource base) share.share (resource_there base (number_of 114 resource)) h)
+
+-- ---- runs
+
+edited_stands : (s : State) (now : ℕ) (e : Result (Option Answer × Base) Refusal) → Stands s.base → Leaves Stands e → Stands (state_after s (e >>= λ e. Ok (committed s now e.0 e.1))).base
+edited_stands s now (Ok e) before after = after
+edited_stands s now (Err refusal) before after = before
+
+run_stands : (settings : Settings) (s : State) (cs : List (ℕ × Command)) → Stands s.base → Stands (state_of (step_at settings) s cs).base
+run_stands settings s [] h = h
+run_stands settings s (c ∷ cs) h =
+    run_stands settings (state_after s (step_at settings s c)) cs (edited_stands s c.0 (edit settings.limits c.0 s.base c.1) h (edit_stands settings.limits c.0 s.base c.1 h))
+
+pub portfolio_whole : PortfolioIsWhole
+portfolio_whole settings cs =
+    let base : Base = (state_of (step_at settings) empty cs).base in
+    let h : Stands base = run_stands settings empty cs (tt, tt) in
+    record {
+      resources_have_vens = All-from_recursion (HasVen base.vens) base.resources h.0;
+      shares_have_resources = All-from_recursion (HasResource base.resources) base.shares h.1;
+    }
