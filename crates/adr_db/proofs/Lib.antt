@@ -4,6 +4,10 @@ pub mod Creating
 pub mod MetaStatements
 pub mod MirrorStatements
 pub mod PolledStatements
+pub mod VenStatements
+pub mod ResourceStatements
+pub mod ShareStatements
+pub mod Portfolio
 pub mod Unseen
 pub mod Calls
 pub mod MapLemmas

@@ -19,15 +19,16 @@ use Rattle.adr_schema.proofs.Again.{canonical_again}
 use Rattle.adr_state.specs.declared.base.Mark.{Mark}
 use Rattle.adr_state.specs.declared.base.Mark.TheVariants.{Live, Dead}
 use Rattle.adr_state.specs.declared.keys.MirrorKey.{MirrorKey}
-use Rattle.adr_state.specs.Keys.{mirror_cmp, map_of}
+use Rattle.adr_state.specs.Keys.{mirror_cmp, share_cmp, map_of}
+use Rattle.std.specs.Ordering.{nat_cmp}
 use Rattle.adr_sql.proofs.Rising.{map_read, set_read}
 use Rattle.adr_db.specs.Tables.{schema}
-use Rattle.adr_db.specs.Rows.{number, kind_number, key_row, mark_columns, mark_row, columns_row, mirror_row, live_from, mark_from}
+use Rattle.adr_db.specs.Rows.{number, kind_number, key_row, mark_columns, mark_row, columns_row, mirror_row, live_from, mark_from, number_row, ven_columns, ven_row, resource_columns, resource_row, share_key_row, share_row}
 use Rattle.adr_db.specs.declared.mirror.MarkColumns.{MarkColumns}
 use Rattle.adr_db.specs.declared.mirror.MirrorRow.{MirrorRow}
 use Rattle.adr_db.specs.Kept.{Kept, Keeps, IsMark, AreMarks, contents_of}
-use Rattle.adr_db.proofs.Tables.{mirror, mirror_is, polled, polled_is}
-use Rattle.adr_db.proofs.Rows.{key_kept, mirror_codec, polled_codec}
+use Rattle.adr_db.proofs.Tables.{mirror, mirror_is, polled, polled_is, ven, ven_keyed, resource, resource_keyed, share, share_keyed}
+use Rattle.adr_db.proofs.Rows.{key_kept, mirror_codec, polled_codec, number_codec, share_codec}
 
 -- ---- a mark
 
@@ -108,7 +109,16 @@ one_more rows row marks new so_far puts es valid h =
 -- ---- a whole table
 
 pub mirror_again : (kept : Kept) (s : State) → Keeps kept s → map_of mirror_cmp kept.mirror ≡ kept.mirror
-mirror_again kept s held = map_read schema 1 mirror mirror_is s (contents_of kept) held.rows mirror_cmp mark_row key_row mirror_codec kept.mirror refl
+mirror_again kept s held = map_read schema 1 mirror mirror_is.place s (contents_of kept) held.rows mirror_cmp mark_row key_row mirror_codec kept.mirror refl
 
 pub polled_again : (kept : Kept) (s : State) → Keeps kept s → fold (insert_key mirror_cmp) [] kept.polled ≡ kept.polled
-polled_again kept s held = set_read schema 2 polled polled_is s (contents_of kept) held.rows mirror_cmp key_row polled_codec kept.polled refl
+polled_again kept s held = set_read schema 2 polled polled_is.place s (contents_of kept) held.rows mirror_cmp key_row polled_codec kept.polled refl
+
+pub vens_again : (kept : Kept) (s : State) → Keeps kept s → map_of nat_cmp kept.vens ≡ kept.vens
+vens_again kept s held = map_read schema 3 ven ven_keyed.place s (contents_of kept) held.rows nat_cmp ven_row number_row (number_codec ven_columns) kept.vens refl
+
+pub resources_again : (kept : Kept) (s : State) → Keeps kept s → map_of nat_cmp kept.resources ≡ kept.resources
+resources_again kept s held = map_read schema 4 resource resource_keyed.place s (contents_of kept) held.rows nat_cmp resource_row number_row (number_codec resource_columns) kept.resources refl
+
+pub shares_again : (kept : Kept) (s : State) → Keeps kept s → map_of share_cmp kept.shares ≡ kept.shares
+shares_again kept s held = map_read schema 5 share share_keyed.place s (contents_of kept) held.rows share_cmp share_row share_key_row share_codec kept.shares refl

@@ -10,15 +10,15 @@ use Rattle.sqlite.specs.Given.{IsPlain}
 use Rattle.sqlite.specs.Listing.{understood}
 use Rattle.sqlite_tied.specs.Compute.{everything}
 use Rattle.adr_sql.specs.Keys.{with_row}
-use Rattle.adr_sql.specs.Contents.{Contents, rows_of_table, with_table, Holds}
+use Rattle.adr_sql.specs.Contents.{Contents, rows_of_table, with_table, empty_tables, Holds}
 use Rattle.adr_sql.proofs.Puts.{AreValues}
 use Rattle.adr_sql.proofs.Upserts.{IsUpsertText, upsert_runs}
 use Rattle.adr_sql.proofs.Selections.{IsSelectText, whole_rows}
 use Rattle.adr_sql.proofs.Maps.{number_key, read_all_runs}
 use Rattle.adr_db.specs.declared.meta.Meta.{Meta}
-use Rattle.adr_db.specs.Tables.{schema}
+use Rattle.adr_db.specs.Tables.{schema, tables}
 use Rattle.adr_db.specs.Rows.{number, meta_row}
-use Rattle.adr_db.specs.Kept.{Kept, Keeps, AreMarks, contents_of, with_meta}
+use Rattle.adr_db.specs.Kept.{Kept, Keeps, AreMarks, contents_of, nothing_kept, with_meta}
 use Rattle.adr_db.proofs.Tables.{meta, meta_is, meta_keyed}
 
 abbrev pub put_text : List ℕ
@@ -78,8 +78,8 @@ pub read_is_plain : IsPlain (understood schema read_text)
 read_is_plain = reads.alone
 
 pub meta_read : (old new : State) (rows : List Row) (kept : Kept) → Shown read_text [] old new rows → Keeps kept old → rows ≡ meta_row kept.meta ∷ []
-meta_read old new rows kept h was = read_all_runs schema 0 meta meta_is read_text [] reads old new rows (contents_of kept) h was.rows
+meta_read old new rows kept h was = read_all_runs schema 0 meta meta_is.place read_text [] reads old new rows (contents_of kept) h was.rows
 
 -- the first row, in empty tables
-pub keeps_first : (m : Meta) (new : State) → Holds schema (with_table ([] ∷ [] ∷ [] ∷ []) 0 (with_row 1 (meta_row m) [])) new → Keeps (record { meta = m; mirror = []; polled = [] }) new
+pub keeps_first : (m : Meta) (new : State) → Holds schema (with_table (empty_tables tables) 0 (with_row 1 (meta_row m) [])) new → Keeps (with_meta m nothing_kept) new
 keeps_first m new h = record { rows = h; marks = tt }

@@ -87,7 +87,7 @@ read_one_is_plain = reads_one.alone
 
 pub mark_read : (key : MirrorKey) (old new : State) (rows : List Row) (kept : Kept) → Shown read_one_text (key_row key) old new rows → Keeps kept old → rows ≡ map mark_row (entry_at key (at mirror_cmp key kept.mirror))
 mark_read key old new rows kept h was =
-    read_entry_runs schema 1 mirror mirror_is read_one_text (key_row key) mirror_cmp mark_row key_row mirror_codec key kept.mirror reads_one refl refl old new rows (contents_of kept) refl h was.rows
+    read_entry_runs schema 1 mirror mirror_is.place read_one_text (key_row key) mirror_cmp mark_row key_row mirror_codec key kept.mirror reads_one refl refl old new rows (contents_of kept) refl h was.rows
 
 reads_all : IsSelectText schema mirror (whole_rows 0 mirror) end read_all_text
 unfolding understood everything
@@ -97,4 +97,4 @@ pub read_all_is_plain : IsPlain (understood schema read_all_text)
 read_all_is_plain = reads_all.alone
 
 pub marks_read : (old new : State) (rows : List Row) (kept : Kept) → Shown read_all_text [] old new rows → Keeps kept old → rows ≡ map mark_row kept.mirror
-marks_read old new rows kept h was = read_all_runs schema 1 mirror mirror_is read_all_text [] reads_all old new rows (contents_of kept) h was.rows
+marks_read old new rows kept h was = read_all_runs schema 1 mirror mirror_is.place read_all_text [] reads_all old new rows (contents_of kept) h was.rows

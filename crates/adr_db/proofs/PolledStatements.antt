@@ -67,4 +67,4 @@ pub read_is_plain : IsPlain (understood schema read_text)
 read_is_plain = reads.alone
 
 pub polled_read : (old new : State) (rows : List Row) (kept : Kept) → Shown read_text [] old new rows → Keeps kept old → rows ≡ map key_row kept.polled
-polled_read old new rows kept h was = read_all_runs schema 2 polled polled_is read_text [] reads old new rows (contents_of kept) h was.rows
+polled_read old new rows kept h was = read_all_runs schema 2 polled polled_is.place read_text [] reads old new rows (contents_of kept) h was.rows

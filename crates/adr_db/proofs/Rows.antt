@@ -1,6 +1,9 @@
 -- Keys and marks as rows, and back.
-use Rattle.std.proofs.Common.{◌≡◌, slice_get, Option, None, Some, ℕ, pos, arith, Bool, true, false, cond, List, [], ◌∷◌, map, refl, ap, ap₂, ◌∙◌, Ordering, Less, Equal, Greater}
-use Rattle.std.specs.Ordering.{int_cmp, ordering_then}
+use Rattle.std.proofs.Common.{◌≡◌, ◌<◌, ◌<ℤ◌, sym, slice_get, Option, None, Some, ℕ, pos, arith, Bool, true, false, cond, List, [], ◌∷◌, map, refl, ap, ap₂, ◌∙◌, Ordering, Less, Equal, Greater}
+use Rattle.std.specs.Ordering.{int_cmp, nat_cmp, ordering_then, MatchOrdering}
+use Rattle.std.specs.Cmp.{int_cmp_is}
+use Rattle.std.proofs.lemmas.Cmp.{ranked}
+use Rattle.std.proofs.lemmas.Int.{ints}
 use Rattle.sqlite_value.specs.declared.value.Value.{Value}
 use Rattle.sqlite_value.specs.declared.value.Value.TheVariants.{Int, Text}
 use Rattle.sqlite_value.specs.Order.{Row}
@@ -8,14 +11,18 @@ use Rattle.adr_schema.specs.declared.kind.Kind.{Kind}
 use Rattle.adr_schema.specs.declared.kind.Kind.TheVariants.{Program, Event}
 use Rattle.adr_state.specs.declared.base.Mark.{Mark}
 use Rattle.adr_state.specs.declared.base.Mark.TheVariants.{Live, Dead}
+use Rattle.adr_schema.specs.declared.shown.Stamps.{Stamps}
+use Rattle.adr_state.specs.declared.base.Ven.{Ven}
+use Rattle.adr_state.specs.declared.base.Resource.{Resource}
 use Rattle.adr_state.specs.declared.keys.MirrorKey.{MirrorKey}
-use Rattle.adr_state.specs.Keys.{kind_cmp, id_cmp, mirror_cmp}
+use Rattle.adr_state.specs.declared.keys.ShareKey.{ShareKey}
+use Rattle.adr_state.specs.Keys.{kind_cmp, id_cmp, mirror_cmp, share_cmp}
 use Rattle.adr_sql.specs.Keys.{key_order}
 use Rattle.std.specs.Option.{option_map}
 use Rattle.adr_sql.specs.Codecs.{IsCodec, entry_at}
-use Rattle.adr_sql.proofs.Maps.{number_text_key, text_same}
+use Rattle.adr_sql.proofs.Maps.{number_key, text_number_key, number_text_key, text_same}
 use Rattle.adr_db.specs.declared.meta.Meta.{Meta}
-use Rattle.adr_db.specs.Rows.{number, kind_number, meta_row, key_row, mark_columns, mark_row, key_cells, columns_cells, mirror_cells}
+use Rattle.adr_db.specs.Rows.{number, kind_number, meta_row, key_row, mark_columns, mark_row, key_cells, columns_cells, mirror_cells, number_row, stamps_columns, ven_columns, resource_columns, share_key_row, share_row}
 
 -- ---- keys
 
@@ -58,10 +65,49 @@ polled_codec = record {
   same = λ j k v e. ap key_row (key_same j k e);
 }
 
--- ---- a row keeps one value
+-- ---- vens, resources and shares
 
 pub number_kept : (m n : ℕ) → number m ≡ number n → m ≡ n
 number_kept m n h = cc
+
+-- numbers are ordered as their values are
+pub numbers_as_values : (j k : ℕ) → int_cmp (pos j) (pos k) ≡ nat_cmp j k
+numbers_as_values j k = sym (int_cmp_is (pos j) (pos k) (nat_cmp j k) (go (nat_cmp j k) (ranked j k (nat_cmp j k) refl)))
+  where
+    go : (r : Ordering) → MatchOrdering r (j < k) (j ≡ k) (k < j) → MatchOrdering r (pos j <ℤ pos k) (pos j ≡ pos k) (pos k <ℤ pos j)
+    go Less h = omega (arith, ints, h)
+    go Equal h = ap pos h
+    go Greater h = omega (arith, ints, h)
+
+pub number_same_is : (j k : ℕ) → nat_cmp j k ≡ Equal → j ≡ k
+number_same_is j k h = ranked j k Equal (sym h)
+
+pub numbers_as_rows : (j k : ℕ) (a b : Row) → key_order 1 (number j ∷ a) (number k ∷ b) ≡ nat_cmp j k
+numbers_as_rows j k a b = number_key (pos j) (pos k) a b ∙ numbers_as_values j k
+
+pub number_codec : {V : Type 0} (columns : V → Row) → IsCodec {K = ℕ} {V = V} 1 nat_cmp (λ e. number e.0 ∷ columns e.1) number_row
+number_codec columns = record {
+  named = λ k e. numbers_as_rows k e.0 [] (columns e.1);
+  keyed = λ k v e. numbers_as_rows k e.0 (columns v) (columns e.1);
+  same = λ j k v e. ap (λ n. number n ∷ columns v) (number_same_is k j e);
+}
+
+shares_as_rows : (j k : ShareKey) (a b : Row) → key_order 2 (Text j.program ∷ number j.resource ∷ a) (Text k.program ∷ number k.resource ∷ b) ≡ share_cmp j k
+shares_as_rows j k a b = text_number_key j.program k.program (pos j.resource) (pos k.resource) a b ∙ ap (ordering_then (id_cmp j.program k.program)) (numbers_as_values j.resource k.resource)
+
+share_same : (j k : ShareKey) → share_cmp k j ≡ Equal → k ≡ j
+share_same j k h =
+    let both = both_tie (id_cmp k.program j.program) (nat_cmp k.resource j.resource) h in
+    ap₂ (λ (program : List ℕ) (resource : ℕ). record { program = program; resource = resource }) (text_same j.program k.program both.0) (number_same_is k.resource j.resource both.1)
+
+pub share_codec : IsCodec 2 share_cmp share_row share_key_row
+share_codec = record {
+  named = λ k e. shares_as_rows k e.0 [] (number e.1 ∷ []);
+  keyed = λ k v e. shares_as_rows k e.0 (number v ∷ []) (number e.1 ∷ []);
+  same = λ j k v e. ap (λ key. share_row (key, v)) (share_same j k e);
+}
+
+-- ---- a row keeps one value
 
 kind_kept : (a b : Kind) → number (kind_number a) ≡ number (kind_number b) → a ≡ b
 kind_kept Program Program h = refl
@@ -142,3 +188,62 @@ mark_found key (Some mark) row rows first is =
 pub none_found : (key : MirrorKey) (found : Option Mark) (rows : List Row) → None ≡ slice_get rows 0 → rows ≡ map mark_row (entry_at key found) → ◌≡◌ {A = Option Row} None (option_map mark_columns found)
 none_found key None rows first is = refl
 none_found key (Some mark) rows first is = absurd (let some : ◌≡◌ {A = Option Row} None (Some (mark_row (key, mark))) = first ∙ ap (λ l. slice_get l 0) is in cc)
+
+-- ---- vens, resources and shares as they are read
+
+stamps_kept : (a b : Stamps) → stamps_columns a ≡ stamps_columns b → a ≡ b
+stamps_kept a b h =
+    let one = first_same _ _ _ _ h in
+    let two = first_same _ _ _ _ one.1 in
+    ap₂ (λ (created modified : ℕ). record { created = created; modified = modified }) (number_kept _ _ one.0) (number_kept _ _ two.0)
+
+pub ven_kept : (a b : Ven) → ven_columns a ≡ ven_columns b → a ≡ b
+ven_kept a b h =
+    let one = first_same _ _ _ _ h in
+    ap₂ (λ (name : List ℕ) (stamps : Stamps). record { name = name; stamps = stamps }) (id_kept _ _ one.0) (stamps_kept _ _ one.1)
+
+pub resource_kept : (a b : Resource) → resource_columns a ≡ resource_columns b → a ≡ b
+resource_kept a b h =
+    let one = first_same _ _ _ _ h in
+    let two = first_same _ _ _ _ one.1 in
+    fields (number_kept _ _ one.0) (id_kept _ _ two.0) (stamps_kept _ _ two.1)
+  where
+    fields : a.ven ≡ b.ven → a.name ≡ b.name → a.stamps ≡ b.stamps → a ≡ b
+    fields p q r = λ i. record { ven = p i; name = q i; stamps = r i }
+
+-- a number and what stands behind it
+pub entry_kept : {V : Type 0} (columns : V → Row) → ((a b : V) → columns a ≡ columns b → a ≡ b) → (d e : ℕ × V) → number d.0 ∷ columns d.1 ≡ number e.0 ∷ columns e.1 → d ≡ e
+entry_kept columns kept d e h =
+    let one = first_same (number d.0) (number e.0) (columns d.1) (columns e.1) h in
+    ap₂ (λ n v. (n, v)) (number_kept d.0 e.0 one.0) (kept d.1 e.1 one.1)
+
+pub share_kept : (d e : ShareKey × ℕ) → share_row d ≡ share_row e → d ≡ e
+share_kept d e h =
+    let one = first_same _ _ _ _ h in
+    let two = first_same _ _ _ _ one.1 in
+    let three = first_same _ _ _ _ two.1 in
+    ap₂ (λ (key : ShareKey) (weight : ℕ). (key, weight)) (ap₂ (λ (program : List ℕ) (resource : ℕ). record { program = program; resource = resource }) (id_kept _ _ one.0) (number_kept _ _ two.0)) (number_kept _ _ three.0)
+
+-- rows that each keep one value keep one list
+pub all_kept : {X : Type 0} (row_of : X → Row) → ((x y : X) → row_of x ≡ row_of y → x ≡ y) → (xs ys : List X) → map row_of xs ≡ map row_of ys → xs ≡ ys
+all_kept row_of kept [] [] h = refl
+all_kept row_of kept [] (y ∷ ys) h = absurd cc
+all_kept row_of kept (x ∷ xs) [] h = absurd cc
+all_kept row_of kept (x ∷ xs) (y ∷ ys) h = let both = rows_same (row_of x) (row_of y) (map row_of xs) (map row_of ys) h in ap₂ ◌∷◌ (kept x y both.0) (all_kept row_of kept xs ys both.1)
+
+-- rows whose columns are read are those rows
+pub all_cells : {X : Type 0} (row_of : X → Row) (cells : Row → Row) → ((x : X) → cells (row_of x) ≡ row_of x) → (xs : List X) → map cells (map row_of xs) ≡ map row_of xs
+all_cells row_of cells same [] = refl
+all_cells row_of cells same (x ∷ xs) = ap₂ ◌∷◌ (same x) (all_cells row_of cells same xs)
+
+-- the value behind a key, if there is one
+pub value_found : {K V : Type 0} (row_of : K × V → Row) (k : K) (found : Option V) (row : Row) (rows : List Row) → Some row ≡ slice_get rows 0 → rows ≡ map row_of (entry_at k found) → (v : V) × (found ≡ Some v) × (row ≡ row_of (k, v))
+value_found row_of k None row rows first is = absurd (let none : ◌≡◌ {A = Option Row} (Some row) None = first ∙ ap (λ l. slice_get l 0) is in cc)
+value_found row_of k (Some v) row rows first is =
+    let same : ◌≡◌ {A = Option Row} (Some row) (Some (row_of (k, v))) = first ∙ ap (λ l. slice_get l 0) is in
+    let it : row ≡ row_of (k, v) = cc in
+    (v, refl, it)
+
+pub value_absent : {K V : Type 0} (row_of : K × V → Row) (k : K) (found : Option V) (rows : List Row) → None ≡ slice_get rows 0 → rows ≡ map row_of (entry_at k found) → ◌≡◌ {A = Option V} None found
+value_absent row_of k None rows first is = refl
+value_absent row_of k (Some v) rows first is = absurd (let some : ◌≡◌ {A = Option Row} None (Some (row_of (k, v))) = first ∙ ap (λ l. slice_get l 0) is in cc)

@@ -12,7 +12,14 @@ keys_polled (Some keys) = keys
 
 -- the numbers of the node say how many keys the mirror has
 abbrev pub kept_of : Base → Kept
-kept_of base = record { meta = record first_meta { serial = base.serial; scan = is_some base.scan; keys = length base.mirror }; mirror = base.mirror; polled = keys_polled base.scan }
+kept_of base = record {
+  meta = record first_meta { serial = base.serial; scan = is_some base.scan; keys = length base.mirror };
+  mirror = base.mirror;
+  polled = keys_polled base.scan;
+  vens = base.vens;
+  resources = base.resources;
+  shares = base.shares;
+}
 
 abbrev pub HoldsBase : Base → State → Type 0
 HoldsBase base s = Keeps (kept_of base) s

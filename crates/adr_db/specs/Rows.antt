@@ -12,7 +12,11 @@ use Rattle.adr_schema.specs.declared.kind.Kind.{Kind}
 use Rattle.adr_schema.specs.declared.kind.Kind.TheVariants.{Program, Event}
 use Rattle.adr_state.specs.declared.base.Mark.{Mark}
 use Rattle.adr_state.specs.declared.base.Mark.TheVariants.{Live, Dead}
+use Rattle.adr_state.specs.declared.base.Ven.{Ven}
+use Rattle.adr_state.specs.declared.base.Resource.{Resource}
 use Rattle.adr_state.specs.declared.keys.MirrorKey.{MirrorKey}
+use Rattle.adr_state.specs.declared.keys.ShareKey.{ShareKey}
+use Rattle.adr_schema.specs.declared.shown.Stamps.{Stamps}
 use Rattle.adr_db.specs.declared.meta.Meta.{Meta}
 use Rattle.adr_db.specs.declared.mirror.MarkColumns.{MarkColumns}
 use Rattle.adr_db.specs.declared.mirror.MirrorRow.{MirrorRow}
@@ -53,6 +57,36 @@ mark_columns Dead = number 2 ∷ number 0 ∷ Text [] ∷ []
 abbrev pub mark_row : MirrorKey × Mark → Row
 mark_row e = key_row e.0 ++ mark_columns e.1
 
+-- ---- vens, resources and shares
+
+abbrev pub number_row : ℕ → Row
+number_row n = number n ∷ []
+
+abbrev pub stamps_columns : Stamps → Row
+stamps_columns stamps = number stamps.created ∷ number stamps.modified ∷ []
+
+abbrev pub ven_columns : Ven → Row
+ven_columns ven = Text ven.name ∷ stamps_columns ven.stamps
+
+-- a ven behind its number
+abbrev pub ven_row : ℕ × Ven → Row
+ven_row e = number e.0 ∷ ven_columns e.1
+
+abbrev pub resource_columns : Resource → Row
+resource_columns resource = number resource.ven ∷ Text resource.name ∷ stamps_columns resource.stamps
+
+-- a resource behind its number
+abbrev pub resource_row : ℕ × Resource → Row
+resource_row e = number e.0 ∷ resource_columns e.1
+
+-- the key of a share: the program, and then the resource
+abbrev pub share_key_row : ShareKey → Row
+share_key_row key = Text key.program ∷ number key.resource ∷ []
+
+-- a share behind its key
+abbrev pub share_row : ShareKey × ℕ → Row
+share_row e = Text e.0.program ∷ number e.0.resource ∷ number e.1 ∷ []
+
 -- ---- rows as they are read, by their columns
 
 -- what is read of a column: a value that no call wrote is the store's refusal
@@ -88,3 +122,18 @@ columns_row columns = number columns.state ∷ number columns.moment ∷ Text (s
 
 abbrev pub mirror_row : MirrorRow → Row
 mirror_row row = key_row row.key ++ columns_row row.mark
+
+abbrev pub ven_columns_cells : Row → Row
+ven_columns_cells row = column row 1 ∷ column row 2 ∷ column row 3 ∷ []
+
+abbrev pub ven_cells : Row → Row
+ven_cells row = column row 0 ∷ ven_columns_cells row
+
+abbrev pub resource_columns_cells : Row → Row
+resource_columns_cells row = column row 1 ∷ column row 2 ∷ column row 3 ∷ column row 4 ∷ []
+
+abbrev pub resource_cells : Row → Row
+resource_cells row = column row 0 ∷ resource_columns_cells row
+
+abbrev pub share_cells : Row → Row
+share_cells row = column row 0 ∷ column row 1 ∷ column row 2 ∷ []

@@ -1,9 +1,14 @@
 -- The tables of the node, in the order in which they are made. The tree of each follows from that order.
-use Rattle.std.specs.Prelude.{ℕ, List, [], ◌∷◌, codes}
+use Rattle.std.specs.Prelude.{ℕ, pos, List, [], ◌∷◌, codes}
 use Rattle.sqlite.specs.Kind.TheVariants.{Integer, Text}
 use Rattle.sqlite.specs.Table.{Table}
 use Rattle.sqlite.specs.Schema.{Schema}
-use Rattle.adr_sql.specs.Schemas.{column, table, schema_of}
+use Rattle.sqlite_value.specs.declared.keys.Collation.TheVariants.{Binary}
+use Rattle.sqlite_value.specs.declared.value.Value.TheVariants.{Int}
+use Rattle.sqlite_sql.specs.declared.ops.BinaryOp.TheVariants.{And, Compare}
+use Rattle.sqlite_sql.specs.declared.ops.CompareOp.TheVariants.{Ge, Le}
+use Rattle.sqlite_sql.specs.Term.{Term, col, lit, op2}
+use Rattle.adr_sql.specs.Schemas.{column, cascades_to, table, checked_table, schema_of}
 
 -- one row, of key 1: the version of these tables, and the numbers of the node
 abbrev pub meta_table : Table
@@ -33,8 +38,39 @@ mirror_table =
 abbrev pub polled_table : Table
 polled_table = table (codes "polled") (column (codes "kind") Integer ∷ column (codes "id") Text ∷ []) ((1 ∷ 2 ∷ []) ∷ []) (1 ∷ 2 ∷ []) []
 
+-- the vens that are enrolled
+abbrev pub ven_table : Table
+ven_table =
+    table (codes "ven") (column (codes "id") Integer
+    ∷ column (codes "name") Text
+    ∷ column (codes "created") Integer
+    ∷ column (codes "modified") Integer
+    ∷ []) ((1 ∷ []) ∷ (2 ∷ []) ∷ []) (1 ∷ []) []
+
+-- their resources, which go with their ven
+abbrev pub resource_table : Table
+resource_table =
+    table (codes "resource") (column (codes "id") Integer
+    ∷ column (codes "ven") Integer
+    ∷ column (codes "name") Text
+    ∷ column (codes "created") Integer
+    ∷ column (codes "modified") Integer
+    ∷ []) ((1 ∷ []) ∷ (3 ∷ []) ∷ []) (1 ∷ []) (cascades_to 2 (codes "ven") (codes "id") ∷ [])
+
+-- a weight is from 1 to 1,000,000
+abbrev pub weight_check : Term
+weight_check = op2 And (op2 (Compare Ge Binary) (col 1 3) (lit (Int (pos 1)))) (op2 (Compare Le Binary) (col 1 3) (lit (Int (pos 1_000_000))))
+
+-- the shares of resources in programs, which go with their resource
+abbrev pub share_table : Table
+share_table =
+    checked_table (codes "share") (column (codes "program") Text
+    ∷ column (codes "resource") Integer
+    ∷ column (codes "weight") Integer
+    ∷ []) ((1 ∷ 2 ∷ []) ∷ []) (1 ∷ 2 ∷ []) (weight_check ∷ []) (cascades_to 2 (codes "resource") (codes "id") ∷ [])
+
 abbrev pub tables : List Table
-tables = meta_table ∷ mirror_table ∷ polled_table ∷ []
+tables = meta_table ∷ mirror_table ∷ polled_table ∷ ven_table ∷ resource_table ∷ share_table ∷ []
 
 abbrev pub schema : Schema
 schema = schema_of tables

@@ -1,15 +1,15 @@
 //! Columns of a row as the values of the machine. What no call of this crate wrote is the store's refusal.
-ghost use Rattle.std.specs.Prelude.{◌≡◌, ◌<◌, pos, [], ◌∷◌, length, map, IfOk, IfErr};
+ghost use Rattle.std.specs.Prelude.{◌≡◌, ◌<◌, ◌+◌, pos, [], ◌∷◌, length, map, IfOk, IfErr};
 ghost use Rattle.sqlite.specs.Order.{column};
 ghost use Rattle.sqlite_value.specs.Value.{owned};
 ghost use Rattle.sqlite.specs.declared.types.Value.TheVariants.{Int};
 ghost use Rattle.adr_db.specs.Calls.{IsOfStore};
-ghost use Rattle.adr_db.specs.Rows.{kind_number, key_row, key_cells};
+ghost use Rattle.adr_db.specs.Rows.{kind_number, key_row, key_cells, stamps_columns};
 
 use crate::statement::refusal_of;
-use adr_schema::Kind;
+use adr_schema::{Kind, ResourceName, Stamps};
 use adr_state::MirrorKey;
-use adr_text::{ObjectId, Refusal, Rows};
+use adr_text::{Fault, Moment, Name, ObjectId, Refusal, Rows};
 use sqlite::Row;
 use sqlite::types::{FromSql, ValueRef};
 use std::alloc::Global;
@@ -57,7 +57,7 @@ fn kind_of(number: u32) -> Result<Kind, Refusal>
     }
 }
 
-fn id_of(alloc: Global, text: &str) -> Result<ObjectId, Refusal>
+pub(crate) fn id_of(alloc: Global, text: &str) -> Result<ObjectId, Refusal>
     ensures id { IfOk result (λ id. id ≡ text.now) }
     ensures refused { IfErr result IsOfStore }
 {
@@ -66,6 +66,53 @@ fn id_of(alloc: Global, text: &str) -> Result<ObjectId, Refusal>
         Err(Refusal::OutOfMemory) => Err(Refusal::OutOfMemory),
         Err(_) => Err(Refusal::Store),
     }
+}
+
+/// The name that the text is.
+pub(crate) fn name_of(alloc: Global, text: &str) -> Result<Name, Refusal>
+    ensures name { IfOk result (λ name. name ≡ text.now) }
+    ensures refused { IfErr result IsOfStore }
+{
+    match Name::new(alloc, text) {
+        Ok(name) => Ok(name),
+        Err(Refusal::OutOfMemory) => Err(Refusal::OutOfMemory),
+        Err(_) => Err(Refusal::Store),
+    }
+}
+
+/// The name of a resource that the text is.
+pub(crate) fn resource_name_of(alloc: Global, text: &str) -> Result<ResourceName, Refusal>
+    ensures name { IfOk result (λ name. name ≡ text.now) }
+    ensures refused { IfErr result IsOfStore }
+{
+    match ResourceName::new(alloc, text) {
+        Ok(name) => Ok(name),
+        Err(Fault::OutOfMemory) => Err(Refusal::OutOfMemory),
+        Err(_) => Err(Refusal::Store),
+    }
+}
+
+/// The moment of so many nanoseconds.
+pub(crate) fn moment_of(nanos: u64) -> Result<Moment, Refusal>
+    ensures moment { IfOk result (λ moment. moment ≡ nanos) }
+    ensures refused { IfErr result IsOfStore }
+{
+    match Moment::at(nanos) {
+        Ok(moment) => Ok(moment),
+        Err(_) => Err(Refusal::Store),
+    }
+}
+
+/// The stamps in two columns.
+pub(crate) fn stamps_in(row: &Row, at: usize) -> Result<Stamps, Refusal>
+    requires { at < 100 }
+    ensures stamps { IfOk result (λ stamps. stamps_columns stamps ≡ column row.now at ∷ column row.now (at + 1) ∷ []) }
+    ensures refused { IfErr result IsOfStore }
+{
+    Ok(Stamps {
+        created: moment_of(column(row, at)?)?,
+        modified: moment_of(column(row, at + 1)?)?,
+    })
 }
 
 /// The key in the first two columns.

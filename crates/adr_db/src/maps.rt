@@ -82,6 +82,21 @@ pub fn read_mirror<S: Alter>(
     map_of(alloc, rows)
 }
 
+/// The map that rows make, put one after another.
+pub(crate) fn table_of<K: Ord + Drop, V: Drop>(
+    alloc: Global,
+    rows: Rows<(K, V)>,
+) -> Result<Table<K, V>, Refusal>
+    ensures map { IfOk result (λ table. table ≡ fold (λ m e. insert_entry K.cmp m e.0 e.1) [] rows) }
+    ensures refused { IfErr result IsOfStore }
+{
+    let mut table = Table::new(alloc);
+    'rows: for row in rows.into_vec() {
+        table.put(row.0, row.1)?;
+    }
+    Ok(table)
+}
+
 // The set of the keys.
 fn set_of(alloc: Global, keys: Rows<MirrorKey>) -> Result<Polled, Refusal>
     ensures set { IfOk result (λ set. set ≡ fold (insert_key mirror_cmp) [] keys) }

@@ -25,6 +25,9 @@ fn create_empty<S: Alter>(tx: &mut Transaction<'_, S>) -> Result<(), Refusal>
         "CREATE TABLE meta (k INT NOT NULL, version INT NOT NULL, serial INT NOT NULL, scan INT NOT NULL, made INT NOT NULL, sent INT NOT NULL, given_up INT NOT NULL, dropped INT NOT NULL, keys INT NOT NULL, PRIMARY KEY (k)) STRICT",
         "CREATE TABLE mirror (kind INT NOT NULL, id TEXT NOT NULL, state INT NOT NULL, moment INT NOT NULL, body TEXT NOT NULL, PRIMARY KEY (kind, id)) STRICT",
         "CREATE TABLE polled (kind INT NOT NULL, id TEXT NOT NULL, PRIMARY KEY (kind, id)) STRICT",
+        "CREATE TABLE ven (id INT NOT NULL, name TEXT NOT NULL, created INT NOT NULL, modified INT NOT NULL, PRIMARY KEY (id), UNIQUE (name)) STRICT",
+        "CREATE TABLE resource (id INT NOT NULL, ven INT NOT NULL REFERENCES ven (id) ON DELETE CASCADE, name TEXT NOT NULL, created INT NOT NULL, modified INT NOT NULL, PRIMARY KEY (id), UNIQUE (name)) STRICT",
+        "CREATE TABLE share (program TEXT NOT NULL, resource INT NOT NULL REFERENCES resource (id) ON DELETE CASCADE, weight INT NOT NULL CHECK (weight >= 1 AND weight <= 1000000), PRIMARY KEY (program, resource)) STRICT",
     ];
     match create_tables(tx, &texts) {
         Ok(()) => Ok(()),

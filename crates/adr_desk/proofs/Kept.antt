@@ -8,14 +8,14 @@ use Rattle.adr_state.specs.declared.keys.MirrorKey.{MirrorKey}
 use Rattle.adr_sql.specs.Contents.{Holds}
 use Rattle.adr_sql.specs.Schemas.{no_schema}
 use Rattle.adr_db.specs.Bases.{keys_polled, kept_of}
-use Rattle.adr_desk.specs.Images.{image_with, image_kept, image_of}
+use Rattle.adr_desk.specs.Images.{image_kept, image_of}
 
 scan_again : (scan : Option (List MirrorKey)) → cond (is_some scan) (Some (keys_polled scan)) None ≡ scan
 scan_again None = refl
 scan_again (Some keys) = refl
 
 pub image_again : (base : Base) → image_kept (kept_of base) ≡ image_of base
-image_again base = ap (λ scan. image_with base.mirror scan base.serial) (scan_again base.scan)
+image_again base = ap (λ scan. image_of (record base { scan = scan })) (scan_again base.scan)
 
 -- an empty database holds no tables
 pub holds_none : (s : State) → IsEmpty s → Holds no_schema [] s

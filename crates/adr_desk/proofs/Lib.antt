@@ -1,3 +1,4 @@
 pub mod Kept
 pub mod Transactions
 pub mod Edited
+pub mod Created

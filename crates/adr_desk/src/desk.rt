@@ -60,7 +60,8 @@ impl<S: Alter> SqlDesk<S> {
         &self.settings
     }
 
-    /// The whole state, which stays, or want of memory or the store's refusal. What has no table yet is empty.
+    /// The whole state, which stays, or want of memory or the store's refusal. Stamps of what is shown have no
+    /// table yet, so none are there.
     pub fn image(&mut self) -> Result<Image, Refusal>
         ensures image { HasCleanDisk (shown S.Store self.new) → IfOk result (λ image. (base : Base) → HoldsBase base (shown S.Store self.old) → image ≡ image_of base) }
         ensures held { HasCleanDisk (shown S.Store self.new) → IsTrue (shown S.Store self.new).is_open → (base : Base) → HoldsBase base (shown S.Store self.old) → HoldsBase base (shown S.Store self.new) }

@@ -6,11 +6,11 @@ ghost use Rattle.adr_sql.specs.Calls.{Stays};
 ghost use Rattle.adr_db.specs.Kept.{Kept, Keeps};
 ghost use Rattle.adr_db.specs.Calls.{Finds, IsOfStore};
 ghost use Rattle.adr_desk.specs.Transactions.{IsDropped};
-ghost use Rattle.adr_desk.specs.Images.{image_with, image_kept};
+ghost use Rattle.adr_desk.specs.Images.{image_of, image_kept};
 
 use crate::frame::begin;
-use adr_db::{read_meta, read_mirror, read_polled_set};
-use adr_state::{Base, Image, Mark, MirrorKey, Polled, Resources, State};
+use adr_db::{read_meta, read_mirror, read_polled_set, read_resources, read_shares, read_vens};
+use adr_state::{Base, Image, Mark, MirrorKey, Polled, State};
 use adr_text::{Refusal, Table};
 use sqlite::{Alter, Connection, Transaction};
 use std::alloc::Global;
@@ -22,25 +22,33 @@ fn scan_with(is_open: bool, polled: Polled) -> Option<Polled>
     if is_open { Some(polled) } else { None }
 }
 
-fn image_with(
+// The state with what the tables keep of vens, resources and shares.
+fn read_rest<S: Alter>(
     alloc: Global,
+    tx: &mut Transaction<'_, S>,
     mirror: Table<MirrorKey, Mark>,
     scan: Option<Polled>,
     serial: u64,
-) -> Image
-    ensures { result ≡ image_with mirror scan serial }
+) -> Result<Image, Refusal>
+    ensures same_reference { tx.new.conn.ghost_name ≡ tx.old.conn.ghost_name }
+    ensures stays { Stays S.Store tx.old.conn.now tx.new.conn.now result }
+    ensures finds { Finds S.Store tx.old.conn.now tx.new.conn.now (λ kept image. image ≡ image_of (record { mirror = mirror; scan = scan; vens = kept.vens; resources = kept.resources; shares = kept.shares; serial = serial })) result }
+    ensures refused { IfErr result IsOfStore }
 {
-    State {
+    let vens = read_vens(alloc, tx)?;
+    let resources = read_resources(alloc, tx)?;
+    let shares = read_shares(alloc, tx)?;
+    Ok(State {
         base: Base {
             mirror,
             scan,
-            vens: Table::new(alloc),
-            resources: Resources::new(alloc),
-            shares: Table::new(alloc),
+            vens,
+            resources,
+            shares,
             serial,
         },
         stamps: Table::new(alloc),
-    }
+    })
 }
 
 fn read_image<S: Alter>(alloc: Global, tx: &mut Transaction<'_, S>) -> Result<Image, Refusal>
@@ -53,7 +61,7 @@ fn read_image<S: Alter>(alloc: Global, tx: &mut Transaction<'_, S>) -> Result<Im
     let mirror = read_mirror(alloc, tx)?;
     let polled = read_polled_set(alloc, tx)?;
     let scan = scan_with(meta.scan, polled);
-    Ok(image_with(alloc, mirror, scan, meta.serial))
+    read_rest(alloc, tx, mirror, scan, meta.serial)
 }
 
 /// The whole state, which stays. The transaction is dropped and not committed, so a crash leaves what it

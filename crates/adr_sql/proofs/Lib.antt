@@ -12,3 +12,4 @@ pub mod Transactions
 pub mod Commits
 pub mod Maps
 pub mod Rising
+pub mod Cascades

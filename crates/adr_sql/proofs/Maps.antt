@@ -1,5 +1,5 @@
 -- A table that stands for a map: to put, to remove and to read by key are the map's own words.
-use Rattle.std.proofs.Common.{length, Ok, ◌≡◌, ℕ, ℤ, Bool, true, false, not, cond, List, [], ◌∷◌, map, Some, refl, sym, ap, ap₂, subst, ◌∙◌, Ordering, Less, Equal, Greater, is_eq}
+use Rattle.std.proofs.Common.{inl, inr, Option, None, length, Ok, ◌≡◌, ℕ, ℤ, Bool, true, false, not, cond, List, [], ◌∷◌, map, Some, refl, sym, ap, ap₂, subst, ◌∙◌, Ordering, Less, Equal, Greater, is_eq}
 use Rattle.std.specs.Ordering.{ordering_reverse, ordering_then, match_ordering, int_cmp, nat_cmp}
 use Rattle.std.specs.Cmp.{int_ranked}
 use Rattle.std.specs.Cmp.Lexicographic.{slice_cmp}
@@ -21,8 +21,10 @@ use Rattle.sqlite_schema.specs.declared.schema.Schema.{Schema}
 use Rattle.sqlite_sql.specs.Query.{end}
 use Rattle.sqlite.specs.State.{State, Executes, Shown}
 use Rattle.adr_sql.specs.Contents.{Contents, rows_of_table, with_table, Holds}
+use Rattle.sqlite_rules.specs.Lists.{Has}
+use Rattle.sqlite_rules.proofs.ListLemmas.{has_kept}
 use Rattle.adr_sql.proofs.Keys.{are_full, ties}
-use Rattle.adr_sql.proofs.Places.{stores_at}
+use Rattle.adr_sql.proofs.Places.{IsFound, stores_at}
 use Rattle.adr_sql.proofs.Puts.{IsKept, IsPutText, AreValues, put_runs}
 use Rattle.adr_sql.proofs.Upserts.{IsKeyed, IsUpsertText, upsert_runs}
 use Rattle.adr_sql.proofs.Selections.{IsSelectText, whole_rows, equalities, read_runs}
@@ -84,6 +86,15 @@ module _ {K V : Type 0} (n : ℕ) (cmp : K → K → Ordering) (row_of : K × V 
       go true is same more none = rw (← ap is_eq same, is) (ap₂ ◌∷◌ (sym (codec.same e.0 k e.1 (sym same ∙ ties _ is))) (none is))
       go false is same more none = rw (← ap is_eq same, is) more
 
+  -- a row with a key is that of the key's entry
+  pub entry_found : (k : K) (es : List (K × V)) → IsAscending (λ a b. key_order n a b ≡ Less) (map row_of es) → (row : Row) → Has (map row_of es) row → has_key n (key_of k) row ≡ true → (v : V) × (lookup (is_at (cmp k)) es ≡ Some v) × (row ≡ row_of (k, v))
+  entry_found k es up row has named = go (lookup (is_at (cmp k)) es) (subst (λ rows. Has rows row) (read_entry k es up) (has_kept (has_key n (key_of k)) (map row_of es) row has named))
+    where
+      go : (o : Option V) → Has (map row_of (entry_at k o)) row → (v : V) × (o ≡ Some v) × (row ≡ row_of (k, v))
+      go None h = absurd h
+      go (Some v) (inl same) = (v, refl, same)
+      go (Some v) (inr none) = absurd none
+
 -- ---- a set is a map to nothing
 
 pub put_key : {K : Type 0} (n : ℕ) (cmp : K → K → Ordering) (row_of : K → Row) → IsCodec {K = K} {V = Unit {0}} n cmp (λ e. row_of e.0) row_of → (k : K) (ks : List K) → with_row n (row_of k) (map row_of ks) ≡ map row_of (insert_key cmp ks k)
@@ -125,6 +136,10 @@ text_same j k e = (bytes_eq-Decides k j).0 (sym (is_eq-slice_cmp k j) ∙ ap is_
 pub number_text_key : (j k : ℤ) (s t : List ℕ) (a b : Row) → key_order 2 (Int j ∷ Text s ∷ a) (Int k ∷ Text t ∷ b) ≡ ordering_then (int_cmp j k) (slice_cmp nat_cmp s t)
 number_text_key j k s t a b = ap₂ ordering_then (value_cmp-Int j k) (then_none _ ∙ value_cmp-Text s t)
 
+-- a text, and then a number
+pub text_number_key : (s t : List ℕ) (j k : ℤ) (a b : Row) → key_order 2 (Text s ∷ Int j ∷ a) (Text t ∷ Int k ∷ b) ≡ ordering_then (slice_cmp nat_cmp s t) (int_cmp j k)
+text_number_key s t j k a b = ap₂ ordering_then (value_cmp-Text s t) (then_none _ ∙ value_cmp-Int j k)
+
 -- ---- statements on a table that stands for a map
 
 -- every row begins with none of a key
@@ -147,15 +162,26 @@ module _ (schema : Schema) (at : ℕ) (table : Table) where
       → Holds schema (with_table all at (with_row (length table.primary) (row_of k) (rows_of_table all at))) new → Holds schema (with_table all at (map row_of (insert_key cmp ks k))) new
   key_inserted cmp row_of codec k ks new all is h = subst (λ rows. Holds schema (with_table all at rows) new) (ap (with_row (length table.primary) (row_of k)) is ∙ put_key (length table.primary) cmp row_of codec k ks) h
 
+-- what is read needs no more than the table's place
+module _ (schema : Schema) (at : ℕ) (table : Table) (it : IsFound schema at table) (sql : List ℕ) (params : Row) where
+  -- all rows are read
+  pub read_all_runs : (text : IsSelectText schema table (whole_rows 0 table) end sql) → (old new : State) (rows : List Row) (all : Contents) → Shown sql params old new rows → Holds schema all old → rows ≡ rows_of_table all at
+  read_all_runs text old new rows all h was = read_runs schema at 0 table it sql params text refl old new rows all h was ∙ rows_at_none params (rows_of_table all at)
+
+  module _ {K V : Type 0} (cmp : K → K → Ordering) (row_of : K × V → Row) (key_of : K → Row) (codec : IsCodec (length table.primary) cmp row_of key_of) where
+    pub read_entry_runs : (k : K) (es : List (K × V)) → IsSelectText schema table (whole_rows (length table.primary) table) end sql → params ≡ key_of k → are_full 0 (length table.primary) params ≡ true → (old new : State) (rows : List Row) (all : Contents)
+        → rows_of_table all at ≡ map row_of es → Shown sql params old new rows → Holds schema all old → rows ≡ map row_of (entry_at k (lookup (is_at (cmp k)) es))
+    read_entry_runs k es text key full old new rows all is h was =
+        let held = stores_at schema.tables at table old.now.trees all it.found was.each in
+        let up = subst (IsAscending (λ a b. key_order (length table.primary) a b ≡ Less)) is held.rising in
+        read_runs schema at (length table.primary) table it sql params text full old new rows all h was
+        ∙ ap₂ (rows_at (length table.primary)) key is ∙ read_entry (length table.primary) cmp row_of key_of codec k es up
+
 module _ (schema : Schema) (at : ℕ) (table : Table) (it : IsKept schema at table) (sql : List ℕ) (params : Row) where
   -- all rows go
   pub clear_runs : (text : IsRemoveText schema at table end [] sql) → (old new : State) (count : ℕ) (all : Contents) → Executes sql params old new (Ok count) → Holds schema all old → Holds schema (with_table all at []) new
   clear_runs text old new count all h was =
       subst (λ rows. Holds schema (with_table all at rows) new) (rows_without_none params (rows_of_table all at)) (remove_at_runs schema at 0 table it.place it.childless sql params text refl old new count all h was)
-
-  -- all rows are read
-  pub read_all_runs : (text : IsSelectText schema table (whole_rows 0 table) end sql) → (old new : State) (rows : List Row) (all : Contents) → Shown sql params old new rows → Holds schema all old → rows ≡ rows_of_table all at
-  read_all_runs text old new rows all h was = read_runs schema at 0 table it.place sql params text refl old new rows all h was ∙ rows_at_none params (rows_of_table all at)
 
   module _ {K V : Type 0} (cmp : K → K → Ordering) (row_of : K × V → Row) (key_of : K → Row) (codec : IsCodec (length table.primary) cmp row_of key_of) where
     pub put_entry_runs : (k : K) (v : V) (es : List (K × V)) → IsPutText schema at table sql params (row_of (k, v)) → AreValues table (row_of (k, v)) → (old new : State) (count : ℕ) (all : Contents) → rows_of_table all at ≡ map row_of es
@@ -169,14 +195,6 @@ module _ (schema : Schema) (at : ℕ) (table : Table) (it : IsKept schema at tab
         let up = subst (IsAscending (λ a b. key_order (length table.primary) a b ≡ Less)) is held.rising in
         subst (λ rows. Holds schema (with_table all at rows) new) (ap₂ (rows_without (length table.primary)) key is ∙ remove_entry_is (length table.primary) cmp row_of key_of codec k es up)
         (remove_at_runs schema at (length table.primary) table it.place it.childless sql params text full old new count all h was)
-
-    pub read_entry_runs : (k : K) (es : List (K × V)) → IsSelectText schema table (whole_rows (length table.primary) table) end sql → params ≡ key_of k → are_full 0 (length table.primary) params ≡ true → (old new : State) (rows : List Row) (all : Contents)
-        → rows_of_table all at ≡ map row_of es → Shown sql params old new rows → Holds schema all old → rows ≡ map row_of (entry_at k (lookup (is_at (cmp k)) es))
-    read_entry_runs k es text key full old new rows all is h was =
-        let held = stores_at schema.tables at table old.now.trees all it.place.found was.each in
-        let up = subst (IsAscending (λ a b. key_order (length table.primary) a b ≡ Less)) is held.rising in
-        read_runs schema at (length table.primary) table it.place sql params text full old new rows all h was
-        ∙ ap₂ (rows_at (length table.primary)) key is ∙ read_entry (length table.primary) cmp row_of key_of codec k es up
 
   -- a set
   pub put_key_runs : {K : Type 0} (cmp : K → K → Ordering) (row_of : K → Row) → IsCodec {K = K} {V = Unit {0}} (length table.primary) cmp (λ e. row_of e.0) row_of → (k : K) (ks : List K) → IsPutText schema at table sql params (row_of k) → AreValues table (row_of k)

@@ -18,6 +18,7 @@ use Rattle.sqlite_rules.specs.declared.error.Rowids.TheVariants.{Given}
 use Rattle.sqlite_rules.specs.Lists.{Has}
 use Rattle.sqlite_rules.specs.Calls.{ids_of}
 use Rattle.sqlite_rules.specs.Edit.{Edit, edit_of, taken_by, id_in, without_all}
+use Rattle.sqlite_rules.specs.Action.{Writes}
 use Rattle.sqlite_rules.proofs.ListLemmas.{all_from, all_has, has_filtered, has_kept, has_contained, contains_had, some_has, some_from}
 use Rattle.sqlite_rules.proofs.ProbeLemmas.{mapped_has}
 use Rattle.sqlite_rules.proofs.TableLemmas.{int_is}
@@ -26,7 +27,7 @@ use Rattle.sqlite_sql.specs.Term.{Term, Env, col, holds}
 use Rattle.sqlite_sql.specs.Query.{Query, Join, counted, end, matches, Output, output, IsAnswer, IsSureAnswer}
 use Rattle.sqlite_sql.specs.Program.{overlay}
 use Rattle.sqlite.specs.Rows.{Task, Written}
-use Rattle.sqlite.specs.Effect.{Database}
+use Rattle.sqlite.specs.Effect.{Database, IsDatabase}
 use Rattle.sqlite.specs.Does.{Tally, Does, AtPlace, OnRows}
 use Rattle.sqlite.specs.State.{State, mode_of, Executes}
 use Rattle.sqlite.specs.Listing.{understood}
@@ -41,7 +42,7 @@ use Rattle.adr_sql.proofs.Places.{IsFound, is_tree, bare, seen, stored_is_seen, 
 use Rattle.adr_sql.proofs.References.{is_childless, no_work, went, same_value}
 use Rattle.adr_sql.proofs.Selections.{erased, fair, sees, holds_same, erased_more, longer, grown, is_flat, flat_one, slot_kept, picked, overlay_none, equalities, passes_is}
 
-has_along : {X : Type 0} (xs ys : List X) (x : X) → IsPermutation xs ys → Has xs x → Has ys x
+pub has_along : {X : Type 0} (xs ys : List X) (x : X) → IsPermutation xs ys → Has xs x → Has ys x
 has_along xs ys x same h = has_contained ys x (Contains-permutation xs ys x same (contains_had xs x h))
 
 -- to take out the rowids of the rows that pass is to filter those out
@@ -81,41 +82,42 @@ finding tree rest terms = record {
 abbrev pub is_found : Trees → Join → List Term → Row → Row → Bool
 is_found db rest terms params r = list_all (holds (grown db rest (params ∷ r ∷ []))) terms
 
-chosen : (db : Trees) (tree : ℕ) (rest : Join) (terms : List Term) (params : Row) (rows : List Row) → is_flat rest ≡ true → IsTable (db tree) → AllByRecursion (λ r. IsTrue (is_int (rowid r))) (db tree)
-    → IsSureAnswer (finding tree rest terms) (overlay db []) params rows → without_all (db tree) (ids_of rows) ≡ filter (λ r. not (is_found db rest terms params r)) (db tree)
-chosen db tree rest terms params rows flat up numbered sure = taken_out p (db tree) (ids_of rows) up numbered sound complete
-  where
-    p : Row → Bool
-    p = is_found db rest terms params
+module _ (db : Trees) (tree : ℕ) (rest : Join) (terms : List Term) (params : Row) (rows : List Row) (flat : is_flat rest ≡ true) (sure : IsSureAnswer (finding tree rest terms) (overlay db []) params rows) where
+  abbrev p : Row → Bool
+  p = is_found db rest terms params
 
-    q : Query
-    q = finding tree rest terms
+  abbrev q : Query
+  q = finding tree rest terms
 
-    a : IsAnswer q (overlay db []) params rows
-    a = sure Null
+  a : IsAnswer q (overlay db []) params rows
+  a = sure Null
 
-    out : Row → Output
-    out r = ([], rowid r ∷ [])
+  abbrev out : Row → Output
+  out r = ([], rowid r ∷ [])
 
-    kept : a.kept ≡ map out (filter p (db tree))
-    kept =
-        a.distinct ∙ ap (map (output q)) a.grouped ∙ ap (λ (d : Trees). map (output q) (matches d terms (Rattle.sqlite_sql.specs.Query.inner tree rest) (params ∷ []))) (λ i x. overlay_none db x i)
-        ∙ ap (map (output q)) (ap (λ (f : Row → List Env). flat_map f (db tree)) (λ i r. flat_one db terms rest (params ∷ r ∷ []) flat i) ∙ picked p (λ r. grown db rest (params ∷ r ∷ [])) (db tree))
-        ∙ map-map (output q) (λ r. grown db rest (params ∷ r ∷ [])) (filter p (db tree))
-        ∙ ap (λ (f : Row → Output). map f (filter p (db tree))) (λ i r. ([], column (slot_kept db rest params r [] i) 0 ∷ []))
+  kept : a.kept ≡ map out (filter p (db tree))
+  kept =
+      a.distinct ∙ ap (map (output q)) a.grouped ∙ ap (λ (d : Trees). map (output q) (matches d terms (Rattle.sqlite_sql.specs.Query.inner tree rest) (params ∷ []))) (λ i x. overlay_none db x i)
+      ∙ ap (map (output q)) (ap (λ (f : Row → List Env). flat_map f (db tree)) (λ i r. flat_one db terms rest (params ∷ r ∷ []) flat i) ∙ picked p (λ r. grown db rest (params ∷ r ∷ [])) (db tree))
+      ∙ map-map (output q) (λ r. grown db rest (params ∷ r ∷ [])) (filter p (db tree))
+      ∙ ap (λ (f : Row → Output). map f (filter p (db tree))) (λ i r. ([], column (slot_kept db rest params r [] i) 0 ∷ []))
 
-    same : IsPermutation (map (λ r. rowid r ∷ []) (filter p (db tree))) rows
-    same = subst (IsPermutation _) (sym a.shown) (subst (λ l. IsPermutation l (map (λ (o : Output). o.1) a.ordered)) (ap (map (λ (o : Output). o.1)) kept ∙ map-map (λ (o : Output). o.1) out (filter p (db tree))) (IsPermutation-map (λ (o : Output). o.1) _ _ a.same))
+  same : IsPermutation (map (λ r. rowid r ∷ []) (filter p (db tree))) rows
+  same = subst (IsPermutation _) (sym a.shown) (subst (λ l. IsPermutation l (map (λ (o : Output). o.1) a.ordered)) (ap (map (λ (o : Output). o.1)) kept ∙ map-map (λ (o : Output). o.1) out (filter p (db tree))) (IsPermutation-map (λ (o : Output). o.1) _ _ a.same))
 
-    sound : (id : ℤ) → Has (ids_of rows) id → (r : Row) × Has (db tree) r × (p r ≡ true) × (id ≡ id_in (rowid r))
-    sound id h =
-        let x = has_map (λ y. id_in (rowid y)) rows id h in
-        let r = has_map (λ r. rowid r ∷ []) (filter p (db tree)) x.0 (has_along _ _ x.0 (IsPermutation-sym _ _ same) x.1) in
-        let f = has_filtered p (db tree) r.0 r.1 in
-        (r.0, f.0, f.1, x.2 ∙ ap (λ y. id_in (rowid y)) r.2)
+  -- each rowid that was found is that of a row that passes
+  pub chosen_from : (id : ℤ) → Has (ids_of rows) id → (r : Row) × Has (db tree) r × (is_found db rest terms params r ≡ true) × (id ≡ id_in (rowid r))
+  chosen_from id h =
+      let x = has_map (λ y. id_in (rowid y)) rows id h in
+      let r = has_map (λ r. rowid r ∷ []) (filter p (db tree)) x.0 (has_along _ _ x.0 (IsPermutation-sym _ _ same) x.1) in
+      let f = has_filtered p (db tree) r.0 r.1 in
+      (r.0, f.0, f.1, x.2 ∙ ap (λ y. id_in (rowid y)) r.2)
 
-    complete : (r : Row) → Has (db tree) r → p r ≡ true → Has (ids_of rows) (id_in (rowid r))
-    complete r has pass = mapped_has (λ y. id_in (rowid y)) rows (rowid r ∷ []) (has_along _ _ _ same (mapped_has (λ r. rowid r ∷ []) (filter p (db tree)) r (has_kept p (db tree) r has pass)))
+  complete : (r : Row) → Has (db tree) r → p r ≡ true → Has (ids_of rows) (id_in (rowid r))
+  complete r has pass = mapped_has (λ y. id_in (rowid y)) rows (rowid r ∷ []) (has_along _ _ _ same (mapped_has (λ r. rowid r ∷ []) (filter p (db tree)) r (has_kept p (db tree) r has pass)))
+
+  pub chosen : IsTable (db tree) → AllByRecursion (λ r. IsTrue (is_int (rowid r))) (db tree) → without_all (db tree) (ids_of rows) ≡ filter (λ r. not (is_found db rest terms params r)) (db tree)
+  chosen up numbered = taken_out p (db tree) (ids_of rows) up numbered chosen_from complete
 
 module _ (db them : Trees) (known : ℕ → Bool) (same : (t : ℕ) → known t ≡ true → IsPermutation (map bare (db t)) (them t)) where
   -- the test is the same of the rows without their rowids
@@ -138,18 +140,19 @@ pub record IsRemoveText (schema : Schema) (at : ℕ) (table : Table) (rest : Joi
   pub flat : is_flat rest ≡ true
   pub joins : fair (is_tree schema.tables) (false ∷ true ∷ []) terms rest ≡ true
 
-module _ (schema : Schema) (at : ℕ) (table : Table) (it : IsFound schema at table) (childless : is_childless schema table.tree ≡ true) (rest : Join) (terms : List Term) (sql : List ℕ) (params : Row)
-    (text : IsRemoveText schema at table rest terms sql) where
-  -- whether a row goes
-  abbrev pub goes : Contents → Row → Bool
-  goes all row = is_found (seen schema.tables all) rest terms params (Null ∷ row)
+-- what a statement that removes rows does: it finds rows, and takes them out with what that sets off
+pub record Removal (schema : Schema) (table : Table) (rest : Join) (terms : List Term) (params : Row) (old new : State) : Type 0 where
+  pub rows : List Row
+  pub found : IsSureAnswer (finding table.tree rest terms) (overlay old.now.trees []) params rows
+  pub end : Trees
+  pub writes : Writes schema Enforced old.now.trees (edit_of old.now.trees table (ids_of rows) Given 0 []) (Ok end)
+  pub now : new.now ≡ record { schema = schema; trees = end }
+  pub sound : IsDatabase new.now
 
-  pub remove_runs : (old new : State) (count : ℕ) (all : Contents) → Executes sql params old new (Ok count) → Holds schema all old
-      → Holds schema (with_table all at (filter (λ row. not (goes all row)) (rows_of_table all at))) new
-  remove_runs old new count all h was =
-      let has = was.has in
+module _ (schema : Schema) (at : ℕ) (table : Table) (it : IsFound schema at table) (rest : Join) (terms : List Term) (sql : List ℕ) (params : Row) (text : IsRemoveText schema at table rest terms sql) where
+  pub removal : (old new : State) (count : ℕ) → Executes sql params old new (Ok count) → old.now.schema ≡ schema → Removal schema table rest terms params old new
+  removal old new count h has =
       let db = old.now.trees in
-      let left = filter (λ row. not (goes all row)) (rows_of_table all at) in
       let command = Delete at (record { lets = []; body = finding table.tree rest terms }) in
       let w = runs_as sql params old new schema has command text.command text.alone count h in
       let words = statement_of sql (understood schema sql) in
@@ -159,19 +162,33 @@ module _ (schema : Schema) (at : ℕ) (table : Table) (it : IsFound schema at ta
       let now : new.now ≡ record { schema = schema; trees = done.0.trees } = ap (λ (p : Tally × Database). p.1) (same_value (went (went done.2).2).2) in
       let queried = went done.1 in
       let made = went queried.2 in
-      let edit : Edit = edit_of db table (ids_of queried.0) Given 0 [] in
-      let a = one_step schema Enforced db made.0 edit (no_work schema 0 table.tree childless Enforced (taken_by db edit) edit.news) made.1 in
+      let trees : done.0.trees ≡ made.0 = ap (λ (w : Written). w.trees) (same_value made.2) in
+      record { rows = queried.0; found = queried.1.answer; end = made.0; writes = made.1; now = now ∙ ap (λ (t : Trees). record { schema = schema; trees = t }) trees; sound = w.sound }
+
+module _ (schema : Schema) (at : ℕ) (table : Table) (it : IsFound schema at table) (childless : is_childless schema table.tree ≡ true) (rest : Join) (terms : List Term) (sql : List ℕ) (params : Row)
+    (text : IsRemoveText schema at table rest terms sql) where
+  -- whether a row goes
+  abbrev pub goes : Contents → Row → Bool
+  goes all row = is_found (seen schema.tables all) rest terms params (Null ∷ row)
+
+  pub remove_runs : (old new : State) (count : ℕ) (all : Contents) → Executes sql params old new (Ok count) → Holds schema all old
+      → Holds schema (with_table all at (filter (λ row. not (goes all row)) (rows_of_table all at))) new
+  remove_runs old new count all h was =
+      let db = old.now.trees in
+      let left = filter (λ row. not (goes all row)) (rows_of_table all at) in
+      let gone = removal schema at table it rest terms sql params text old new count h was.has in
+      let edit : Edit = edit_of db table (ids_of gone.rows) Given 0 [] in
+      let a = one_step schema Enforced db gone.end edit (no_work schema 0 table.tree childless Enforced (taken_by db edit) edit.news) gone.writes in
       let here = stores_at schema.tables at table db all it.found was.each in
       let known : (t : ℕ) → is_tree schema.tables t ≡ true → IsPermutation (map bare (db t)) (seen schema.tables all t) = λ t is. stored_is_seen schema.tables db all t was.each is in
-      let rows : made.0 table.tree ≡ filter (λ r. not (goes all (drop 1 r))) (db table.tree) =
-      a.rows ∙ chosen db table.tree rest terms params queried.0 text.flat here.listed here.numbered queried.1.answer
+      let rows : gone.end table.tree ≡ filter (λ r. not (goes all (drop 1 r))) (db table.tree) =
+      a.rows ∙ chosen db table.tree rest terms params gone.rows text.flat gone.found here.listed here.numbered
       ∙ ap (λ (f : Row → Bool). filter f (db table.tree)) (λ i r. not (grown_same db (seen schema.tables all) (is_tree schema.tables) known rest (false ∷ true ∷ []) terms (params ∷ r ∷ []) refl text.flat text.joins i)) in
-      let kept : Stores (length table.primary) (length table.columns) (made.0 table.tree) left =
+      let kept : Stores (length table.primary) (length table.columns) (gone.end table.tree) left =
       subst (λ stored. Stores (length table.primary) (length table.columns) stored left) (sym rows) (stores_filter _ _ (λ row. not (goes all row)) (db table.tree) (rows_of_table all at) here) in
-      let trees : done.0.trees ≡ made.0 = ap (λ (w : Written). w.trees) (same_value made.2) in
       record {
-        has = ap (λ (d : Database). d.schema) now;
-        each = subst (λ d. StoresEach schema.tables d (with_table all at left)) (sym (ap (λ (d : Database). d.trees) now ∙ trees)) (stores_with_table schema.tables at table db made.0 all left it.found it.alone a.tables kept was.each);
+        has = ap (λ (d : Database). d.schema) gone.now;
+        each = subst (λ d. StoresEach schema.tables d (with_table all at left)) (sym (ap (λ (d : Database). d.trees) gone.now)) (stores_with_table schema.tables at table db gone.end all left it.found it.alone a.tables kept was.each);
       }
 
 -- by the first k columns of the key, which are the parameters

@@ -12,8 +12,7 @@ use Rattle.sqlite.specs.State.{State}
 use Rattle.adr_sql.specs.Keys.{key_order}
 use Rattle.adr_sql.specs.Codecs.{IsCodec}
 use Rattle.adr_sql.specs.Contents.{Contents, rows_of_table, Holds}
-use Rattle.adr_sql.proofs.Places.{stores_at}
-use Rattle.adr_sql.proofs.Puts.{IsKept}
+use Rattle.adr_sql.proofs.Places.{IsFound, stores_at}
 use Rattle.adr_sql.proofs.Rows.{key_order_total}
 
 -- where what lies above all that is there goes behind it, each of a list that rises goes behind the one before it
@@ -63,9 +62,9 @@ rise {X} n cmp row_of same (x ∷ xs) up = (above xs up.0, rise n cmp row_of sam
     above [] low = tt
     above (y ∷ ys) low = (sym (same y x) ∙ (key_order_total n).antisymm (row_of y) (row_of x) ∙ ap ordering_reverse low.0, above ys low.1)
 
-module _ (schema : Schema) (at : ℕ) (table : Table) (it : IsKept schema at table) (s : State) (all : Contents) (held : Holds schema all s) where
+module _ (schema : Schema) (at : ℕ) (table : Table) (it : IsFound schema at table) (s : State) (all : Contents) (held : Holds schema all s) where
   rows_rise : IsAscending (λ a b. key_order (length table.primary) a b ≡ Less) (rows_of_table all at)
-  rows_rise = (stores_at schema.tables at table s.now.trees all it.place.found held.each).rising
+  rows_rise = (stores_at schema.tables at table s.now.trees all it.found held.each).rising
 
   -- the entries that a table stands for are the map that they make
   pub map_read : {K V : Type 0} (cmp : K → K → Ordering) (row_of : K × V → Row) (key_of : K → Row) → IsCodec (length table.primary) cmp row_of key_of → (es : List (K × V)) → rows_of_table all at ≡ map row_of es

@@ -1,5 +1,5 @@
 -- A schema of STRICT tables.
-use Rattle.std.specs.Prelude.{ℕ, false, true, List, [], map, fold, None}
+use Rattle.std.specs.Prelude.{ℕ, false, true, List, [], ◌∷◌, map, fold, None}
 use Rattle.sqlite.specs.Collation.TheVariants.{Binary}
 use Rattle.sqlite.specs.declared.types.Value.TheVariants.{Null}
 use Rattle.sqlite.specs.Kind.{Kind}
@@ -9,14 +9,20 @@ use Rattle.sqlite.specs.Change.{created}
 use Rattle.sqlite_value.specs.Keys.{plain}
 use Rattle.sqlite_schema.specs.declared.schema.Column.{Column}
 use Rattle.sqlite_schema.specs.declared.schema.Reference.{Reference}
+use Rattle.sqlite_schema.specs.declared.schema.Action.TheVariants.{Cascade, NoAction}
+use Rattle.sqlite_sql.specs.Term.{Term}
 
 -- a column that is NOT NULL
 abbrev pub column : List ℕ → Kind → Column
 column name kind = record { name = name; kind = kind; is_strict = true; not_null = true; default = Null; collation = Binary }
 
--- a table with its columns, its unique keys by their columns' places from 1, the first of which is its primary key, and its references
-abbrev pub table : List ℕ → List Column → List (List ℕ) → List ℕ → List Reference → Table
-table name columns uniques primary references = record {
+-- a column, by its place from 1, REFERENCES a column of a parent, ON DELETE CASCADE
+abbrev pub cascades_to : ℕ → List ℕ → List ℕ → Reference
+cascades_to place parent column = record { columns = place ∷ []; parent = parent; parent_columns = column ∷ []; on_delete = Cascade; on_update = NoAction; is_deferred = false }
+
+-- a table with its columns, its unique keys by their columns' places from 1, the first of which is its primary key, its checks and its references
+abbrev pub checked_table : List ℕ → List Column → List (List ℕ) → List ℕ → List Term → List Reference → Table
+checked_table name columns uniques primary checks references = record {
   name = name;
   tree = 0;
   columns = columns;
@@ -24,12 +30,16 @@ table name columns uniques primary references = record {
   primary = primary;
   uniques = uniques;
   orders = map (λ _. plain) uniques;
-  checks = [];
+  checks = checks;
   references = references;
   computed = [];
   stamps = record { places = []; terms = []; formats = [] };
   is_counted = false;
 }
+
+-- a table without checks
+abbrev pub table : List ℕ → List Column → List (List ℕ) → List ℕ → List Reference → Table
+table name columns uniques primary references = checked_table name columns uniques primary [] references
 
 -- the schema of an empty database
 abbrev pub no_schema : Schema

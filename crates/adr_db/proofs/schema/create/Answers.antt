@@ -1,8 +1,8 @@
-use Rattle.std.proofs.Common.{arith, subst, []}
+use Rattle.std.proofs.Common.{arith, subst}
 use Rattle.sqlite.specs.Held.{state}
 use Rattle.sqlite.specs.State.{HasCleanDisk}
 use Rattle.adr_db.specs.declared.meta.Meta.{Meta}
-use Rattle.adr_db.specs.Kept.{Keeps}
+use Rattle.adr_db.specs.Kept.{Keeps, nothing_kept, with_meta}
 use Rattle.adr_db.proofs.Calls.{on_then}
 use Rattle.adr_db.proofs.schema.create.Goals as goal
 
@@ -10,4 +10,4 @@ pub returns-clause-made : goal.returns-clause-made
 returns-clause-made g c clean =
     let new = state g.S.Store c.write_meta.new.tx.conn.now in
     let early : HasCleanDisk (state g.S.Store c.create_empty.new.tx.conn.now) = omega (arith, c.write_meta.ensures.stays.crash.clean) in
-    on_then c.write_meta.result (λ change empty. subst (λ (m : Meta). Keeps (record { meta = m; mirror = []; polled = [] }) new) c.first.ensures (record { rows = change _ (c.in_ok-create_empty.ensures.made early empty); marks = tt })) (c.write_meta.ensures.changes clean)
+    on_then c.write_meta.result (λ change empty. subst (λ (m : Meta). Keeps (with_meta m nothing_kept) new) c.first.ensures (record { rows = change _ (c.in_ok-create_empty.ensures.made early empty); marks = tt })) (c.write_meta.ensures.changes clean)

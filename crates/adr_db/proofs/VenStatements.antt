@@ -1,0 +1,86 @@
+-- The statements on the table `ven`.
+use Rattle.std.proofs.Common.{◌≡◌, ℕ, List, [], ◌∷◌, codes, map, Ok, refl}
+use Rattle.std.specs.Ordering.{nat_cmp}
+use Rattle.sqlite_value.specs.declared.value.Value.TheVariants.{Null}
+use Rattle.sqlite_value.specs.Order.{Row}
+use Rattle.sqlite_sql.specs.Term.{lit, col}
+use Rattle.sqlite_sql.specs.Query.{end}
+use Rattle.sqlite.specs.State.{State, Executes, Shown}
+use Rattle.sqlite.specs.Given.{IsPlain}
+use Rattle.sqlite.specs.Listing.{understood}
+use Rattle.sqlite_tied.specs.Compute.{everything}
+use Rattle.adr_state.specs.Keys.{at}
+use Rattle.adr_sql.specs.Codecs.{entry_at}
+use Rattle.adr_sql.proofs.Puts.{AreValues}
+use Rattle.adr_sql.proofs.Upserts.{IsUpsertText}
+use Rattle.adr_sql.proofs.Removals.{IsRemoveText}
+use Rattle.adr_sql.proofs.Selections.{IsSelectText, whole_rows, equalities}
+use Rattle.adr_sql.proofs.Maps.{upsert_entry_runs, read_entry_runs, read_all_runs}
+use Rattle.adr_db.specs.Tables.{schema}
+use Rattle.adr_state.specs.declared.base.Ven.{Ven}
+use Rattle.adr_db.specs.Rows.{number_row, ven_columns, ven_row}
+use Rattle.adr_db.specs.Kept.{Kept, Keeps, contents_of, with_ven}
+use Rattle.adr_db.proofs.Tables.{ven, ven_keyed}
+use Rattle.adr_db.proofs.Rows.{number_codec}
+
+abbrev pub put_text : List ℕ
+put_text = codes "INSERT INTO ven (id, name, created, modified) VALUES (?1, ?2, ?3, ?4) ON CONFLICT (id) DO UPDATE SET id = excluded.id, name = excluded.name, created = excluded.created, modified = excluded.modified"
+
+abbrev pub remove_text : List ℕ
+remove_text = codes "DELETE FROM ven WHERE id = ?1"
+
+abbrev pub read_one_text : List ℕ
+read_one_text = codes "SELECT id, name, created, modified FROM ven WHERE id = ?1 ORDER BY id"
+
+abbrev pub read_all_text : List ℕ
+read_all_text = codes "SELECT id, name, created, modified FROM ven ORDER BY id"
+
+abbrev columns : List (List ℕ)
+columns = codes "id" ∷ codes "name" ∷ codes "created" ∷ codes "modified" ∷ []
+
+puts : (e : ℕ × Ven) → IsUpsertText schema 3 ven put_text (ven_row e) (ven_row e)
+unfolding understood everything
+puts e = record {
+  terms = lit Null ∷ col 0 0 ∷ col 0 1 ∷ col 0 2 ∷ col 0 3 ∷ [];
+  met = 4;
+  sets = col 0 6 ∷ col 0 7 ∷ col 0 8 ∷ col 0 9 ∷ [];
+  command = refl;
+  alone = (refl, refl);
+  given = refl;
+  meets = λ id next r. refl;
+  writes = λ id next r. refl;
+}
+
+values : (e : ℕ × Ven) → AreValues ven (ven_row e)
+values e = record { mended = refl; fits = refl; full = refl; width = refl }
+
+pub removes : IsRemoveText schema 3 ven end (equalities 0 1) remove_text
+unfolding understood everything
+removes = record { command = refl; alone = (refl, refl); flat = refl; joins = refl }
+
+reads_one : IsSelectText schema ven (whole_rows 1 ven) end read_one_text
+unfolding understood everything
+reads_one = record { names = columns; command = refl; alone = (refl, refl); unlisted = refl; from = refl; flat = refl; order = refl; ungrouped = refl; undistinct = refl; joins = refl; sorts = refl; shows = refl }
+
+pub read_one_is_plain : IsPlain (understood schema read_one_text)
+read_one_is_plain = reads_one.alone
+
+reads_all : IsSelectText schema ven (whole_rows 0 ven) end read_all_text
+unfolding understood everything
+reads_all = record { names = columns; command = refl; alone = (refl, refl); unlisted = refl; from = refl; flat = refl; order = refl; ungrouped = refl; undistinct = refl; joins = refl; sorts = refl; shows = refl }
+
+pub read_all_is_plain : IsPlain (understood schema read_all_text)
+read_all_is_plain = reads_all.alone
+
+pub ven_put : (k : ℕ) (v : Ven) (old new : State) (count : ℕ) → Executes put_text (ven_row (k, v)) old new (Ok count) → (kept : Kept) → Keeps kept old → Keeps (with_ven k v kept) new
+ven_put k v old new count h kept was = record {
+  rows = upsert_entry_runs schema 3 ven ven_keyed put_text (ven_row (k, v)) nat_cmp ven_row number_row (number_codec ven_columns) k v kept.vens (puts (k, v)) (values (k, v)) old new count (contents_of kept) refl h was.rows;
+  marks = was.marks;
+}
+
+pub ven_read : (k : ℕ) (old new : State) (rows : List Row) (kept : Kept) → Shown read_one_text (number_row k) old new rows → Keeps kept old → rows ≡ map ven_row (entry_at k (at nat_cmp k kept.vens))
+ven_read k old new rows kept h was =
+    read_entry_runs schema 3 ven ven_keyed.place read_one_text (number_row k) nat_cmp ven_row number_row (number_codec ven_columns) k kept.vens reads_one refl refl old new rows (contents_of kept) refl h was.rows
+
+pub vens_read : (old new : State) (rows : List Row) (kept : Kept) → Shown read_all_text [] old new rows → Keeps kept old → rows ≡ map ven_row kept.vens
+vens_read old new rows kept h was = read_all_runs schema 3 ven ven_keyed.place read_all_text [] reads_all old new rows (contents_of kept) h was.rows

@@ -1,0 +1,24 @@
+-- The tables are made on a lent transaction, and then committed.
+use Rattle.std.proofs.Common.{◌≡◌, true, [], Ok, Result, refl, sym, subst}
+use Rattle.sqlite.specs.Store.{Ghosts}
+use Rattle.sqlite.specs.Held.{Held, state}
+use Rattle.sqlite.specs.State.{HasCleanDisk}
+use Rattle.adr_text.specs.declared.refusal.Refusal.{Refusal}
+use Rattle.adr_sql.specs.Contents.{Holds, StoresEach}
+use Rattle.adr_sql.specs.Schemas.{no_schema}
+use Rattle.adr_sql.specs.Calls.{Stays, Commits}
+use Rattle.adr_sql.proofs.Transactions.{holds_now}
+use Rattle.adr_db.specs.Tables.{schema}
+use Rattle.adr_db.specs.Kept.{Keeps, nothing_kept, contents_of}
+use Rattle.adr_desk.specs.Transactions.{Ends}
+use Rattle.adr_desk.proofs.Transactions.{ends_whole}
+
+module _ {S : Type 0} (g : Ghosts S) (old begun last end : Held S) (ended : Result Unit Refusal) where
+  pub created_whole : begun ≡ record old { in_transaction = true } → Stays g begun last {T = Unit {0}} {E = Refusal} (Ok tt) → (HasCleanDisk (state g last) → Holds no_schema [] (state g begun) → Keeps nothing_kept (state g last)) → Ends g last end ended
+      → Commits g old end (λ s. Holds no_schema [] (state g old) → Keeps nothing_kept s) (λ trees. Holds no_schema [] (state g old) → StoresEach schema.tables trees (contents_of nothing_kept)) ended
+  created_whole is stays made ends =
+      ends_whole g old last end {T = Unit {0}} tt ended _ _ (subst (λ (b : Held S). Stays g b last {T = Unit {0}} {E = Refusal} (Ok tt)) is stays)
+      (λ clean empty. made clean (subst (λ (b : Held S). Holds no_schema [] (state g b)) (sym is) (holds_now no_schema [] (state g old) _ refl empty)))
+      (λ a b same done empty. let it = done empty in record { rows = holds_now schema (contents_of nothing_kept) a b same it.rows; marks = it.marks })
+      (λ s done empty. let it = done empty in it.rows.each)
+      ends

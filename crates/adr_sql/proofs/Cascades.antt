@@ -1,0 +1,466 @@
+-- DELETE in a table to which references point, each ON DELETE CASCADE: the rows that go take along those that point to them, through
+-- any chain of tables, and no other row goes.
+use Rattle.std.proofs.Common.{◌≡◌, ◌≢◌, ◌⊎◌, inl, inr, ℕ, zero, suc, ◌<◌, ℤ, Bool, true, false, not, ◌&&◌, ◌||◌, ◌==◌, cond, List, [], ◌∷◌, ◌++◌, map, filter, drop, length, slice_get, Option, Some, None, Ok, Result, MatchBool, IsTrue, true≢false, refl, sym, ap, ap₂, subst, ◌∙◌, Equal, is_eq, arith, length-append, eqb-true, IsPermutation, fold, ◌+◌}
+use Rattle.std.specs.Prelude.{nat_lt}
+use Rattle.std.specs.List.{AllByRecursion, AllZip, list_any, flat_map, filter_map}
+use Rattle.std.proofs.lemmas.Bool.{eq-eqb, cases_Bool, both_ways, not-true, and_parts}
+use Rattle.std.proofs.lemmas.Cmp.{tied_back, tied_itself}
+use Rattle.sqlite_value.specs.declared.value.Value.{Value}
+use Rattle.sqlite_value.specs.declared.value.Value.TheVariants.{Null, Int, Real, Text, Blob}
+use Rattle.sqlite_value.specs.Order.{Row, column, value_cmp}
+use Rattle.sqlite_value.specs.declared.keys.Collation.TheVariants.{Binary}
+use Rattle.sqlite_value.specs.Keys.{plain, first_key}
+use Rattle.sqlite_value.proofs.KeyLemmas.{first_key-plain}
+use Rattle.sqlite_value.proofs.OrderLemmas.{value_cmp_total}
+use Rattle.sqlite_trees.specs.Tree.{Trees, rowid, has_rowid, IsTable}
+use Rattle.sqlite_trees.specs.View.{is_int}
+use Rattle.sqlite_trees.proofs.ListLemmas.{filter_same}
+use Rattle.sqlite_sql.specs.Ops.{binary, is_null}
+use Rattle.sqlite_sql.specs.Query.{end as no_join}
+use Rattle.sqlite_schema.specs.declared.schema.Action.TheVariants.{Cascade}
+use Rattle.sqlite_schema.specs.declared.schema.Constraint.TheVariants.{ForeignKey}
+use Rattle.sqlite_schema.specs.declared.schema.Keys.TheVariants.{Enforced}
+use Rattle.sqlite_schema.specs.declared.schema.Reference.{Reference}
+use Rattle.sqlite_schema.specs.declared.schema.Table.{Table}
+use Rattle.sqlite_schema.specs.declared.schema.Schema.{Schema}
+use Rattle.sqlite_schema.specs.Rules.{ParentKey, parent_key, agree, equal, has_null, is_held, Keeps}
+use Rattle.sqlite_rules.specs.Lists.{Has}
+use Rattle.sqlite_rules.specs.declared.error.Rowids.TheVariants.{Given}
+use Rattle.sqlite_rules.specs.declared.action.Deed.TheVariants.{Delete}
+use Rattle.sqlite_rules.specs.Action.{Work, works, work_for, work_by, deed_for, pairs, loses, is_child_of, AreChildren, action_edit, Acts, ActsOn, Goes, Leads, Writes, max_depth}
+use Rattle.sqlite_rules.specs.Edit.{edit_of, taken_by, row_at, without_all, Applies}
+use Rattle.sqlite_rules.proofs.ListLemmas.{all_has, all_from, test_has, some_has, some_from, has_kept, has_filtered, has_got, has_either}
+use Rattle.sqlite_rules.proofs.PlaceLemmas.{tied_same, row_at_is, named_parent}
+use Rattle.sqlite_rules.proofs.TableLemmas.{without_all_has, int_is}
+use Rattle.sqlite_rules.proofs.ProbeLemmas.{mapped_has}
+use Rattle.sqlite_rules.specs.Calls.{ids_of}
+use Rattle.sqlite.specs.Effect.{Database, IsDatabase}
+use Rattle.sqlite.specs.State.{State, Executes}
+use Rattle.adr_sql.specs.Keys.{has_key}
+use Rattle.adr_sql.specs.Contents.{Contents, Stores, StoresEach, Holds}
+use Rattle.adr_sql.proofs.Keys.{same_bool, equal_is, column_drop, are_full, has_map, ties}
+use Rattle.adr_sql.proofs.Rows.{without_all_is, stores_filter}
+use Rattle.adr_sql.proofs.Places.{IsFound, by_tree, is_tree, bare, stored_is_seen, stores_at}
+use Rattle.adr_sql.proofs.Selections.{equalities, passes_is}
+use Rattle.adr_sql.proofs.Removals.{IsRemoveText, has_along, chosen, chosen_from, removal}
+
+-- ---- lists
+
+has_some : {X Y : Type 0} (f : X → Option Y) (xs : List X) (y : Y) → Has (filter_map f xs) y → (x : X) × Has xs x × (f x ≡ Some y)
+has_some f [] y h = absurd h
+has_some {X} {Y} f (x ∷ xs) y h = go (f x) refl h (has_some f xs y)
+  where
+    go : (o : Option Y) → f x ≡ o → Has (Rattle.std.specs.List.cons_option o (filter_map f xs)) y → (Has (filter_map f xs) y → (z : X) × Has xs z × (f z ≡ Some y)) → (z : X) × Has (x ∷ xs) z × (f z ≡ Some y)
+    go None is h more = let r = more h in (r.0, inr r.1, r.2)
+    go (Some v) is (inl same) more = (x, inl refl, is ∙ ap Some (sym same))
+    go (Some v) is (inr later) more = let r = more later in (r.0, inr r.1, r.2)
+
+has_each : {X Y : Type 0} (f : X → List Y) (xs : List X) (y : Y) → Has (flat_map f xs) y → (x : X) × Has xs x × Has (f x) y
+has_each f [] y h = absurd h
+has_each f (x ∷ xs) y h = elim (has_either (f x) (flat_map f xs) y h) [ inl here ↦ (x, inl refl, here) | inr later ↦ let r = has_each f xs y later in (r.0, inr r.1, r.2) ]
+
+old_of : (olds : List Row) (move : Row × Row) → Has (pairs olds []) move → Has olds move.0
+old_of [] move h = absurd h
+old_of (old ∷ olds) move (inl same) = inl (ap (λ (m : Row × Row). m.0) same)
+old_of (old ∷ olds) move (inr later) = inr (old_of olds move later)
+
+-- ---- what a removal sets off
+
+module _ (schema : Schema) (root : Table) (goes : ℕ → Row → Bool) (db : Trees) where
+  -- a row that points to one that goes, goes too
+  abbrev pub IsAlong : Table → Reference → Option ParentKey → Type 0
+  IsAlong child ref None = Unit {0}
+  IsAlong child ref (Some key) = (r m : Row) → Has (db child.tree) r → Has (db key.0) m → agree key.2 ref.columns r key.1 m ≡ true → goes key.0 m ≡ true → goes child.tree r ≡ true
+
+  -- a row that goes, but for those of the statement, points to such as go alone
+  pub record IsBecause (t : Table) (r : Row) : Type 0 where
+    pub ref : Reference
+    pub listed : Has t.references ref
+    pub key : ParentKey
+    pub parent : parent_key schema.tables ref ≡ Some key
+    pub before : key.0 < t.tree
+    pub full : has_null ref.columns r ≡ false
+    pub alone : (m : Row) → Has (db key.0) m → agree key.2 key.1 m ref.columns r ≡ true → goes key.0 m ≡ true
+
+  pub record IsCascade : Type 0 where
+    pub cascading : AllByRecursion (λ t. AllByRecursion (λ ref. ref.on_delete ≡ Cascade) t.references) schema.tables
+    pub along : (t : Table) → Has schema.tables t → (ref : Reference) → Has t.references ref → IsAlong t ref (parent_key schema.tables ref)
+    pub because : (t : Table) → Has schema.tables t → (r : Row) → Has (db t.tree) r → goes t.tree r ≡ true → (t.tree ≡ root.tree) ⊎ IsBecause t r
+    pub listed : (t : Table) → Has schema.tables t → IsTable (db t.tree)
+    pub numbered : (t : Table) → Has schema.tables t → AllByRecursion (λ r. IsTrue (is_int (rowid r))) (db t.tree)
+
+  -- so far some of the rows that go have gone
+  record IsLess (now : Trees) (t : Table) : Type 0 where
+    pub ids : List ℤ
+    pub rows : now t.tree ≡ without_all (db t.tree) ids
+    pub sound : (id : ℤ) → Has ids id → (r : Row) × Has (db t.tree) r × (goes t.tree r ≡ true) × (rowid r ≡ Int id)
+
+  -- those of the statement have all gone
+  record IsUnderWay (now : Trees) : Type 0 where
+    pub less : (t : Table) → Has schema.tables t → IsLess now t
+    pub rooted : (r : Row) → Has (now root.tree) r → goes root.tree r ≡ false
+
+  -- an action that waits is on the children of rows that went
+  record IsDue (w : Work) : Type 0 where
+    pub listed : Has schema.tables w.child
+    pub refers : Has w.child.references w.ref
+    pub deletes : w.deed ≡ Delete
+    pub tree : ℕ
+    pub parent : parent_key schema.tables w.ref ≡ Some (tree, w.places, w.order)
+    pub olds : (move : Row × Row) → Has w.moves move → Has (db tree) move.0 × (goes tree move.0 ≡ true)
+
+  module _ (it : IsCascade) where
+    had : (now : Trees) (t : Table) → IsLess now t → (r : Row) → Has (now t.tree) r → Has (db t.tree) r
+    had now t less r has = without_all_has less.ids (db t.tree) r (subst (λ rows. Has rows r) less.rows has)
+
+    -- what is set off by the rows that went
+    due : (depth : ℕ) (t : Table) (olds : List Row) → ((r : Row) → Has olds r → Has (db t.tree) r × (goes t.tree r ≡ true)) → (w : Work) → Has (works schema Enforced depth t.tree olds []) w → IsDue w
+    due depth t olds all w h =
+        let child = has_each (λ child. filter_map (work_for schema Enforced depth t.tree olds [] child) child.references) schema.tables w h in
+        let ref = has_some (work_for schema Enforced depth t.tree olds [] child.0) child.0.references w child.2 in
+        go child.0 child.1 ref.0 ref.1 (all_has _ child.0.references ref.0 (all_has _ schema.tables child.0 it.cascading child.1) ref.1) (parent_key schema.tables ref.0) refl ref.2
+      where
+        go : (child : Table) → Has schema.tables child → (ref : Reference) → Has child.references ref → ref.on_delete ≡ Cascade → (key : Option ParentKey) → parent_key schema.tables ref ≡ key
+            → work_by depth t.tree (pairs olds []) child ref (deed_for Enforced true ref) key ≡ Some w → IsDue w
+        go child listed ref refers cascade key parent made = by key parent (subst (λ action. work_by depth t.tree (pairs olds []) child ref (Rattle.sqlite_rules.specs.Action.deed_of Enforced true action) key ≡ Some w) cascade made)
+          where
+            by : (key : Option ParentKey) → parent_key schema.tables ref ≡ key → work_by depth t.tree (pairs olds []) child ref (Some Delete) key ≡ Some w → IsDue w
+            by None parent made = absurd cc
+            by (Some key) parent made = set ((key.0 == t.tree) && list_any (loses key.2 key.1) (pairs olds [])) refl made
+              where
+                work : Work
+                work = record { depth = depth; child = child; ref = ref; places = key.1; order = key.2; deed = Delete; moves = pairs olds [] }
+
+                set : (b : Bool) → ((key.0 == t.tree) && list_any (loses key.2 key.1) (pairs olds [])) ≡ b → cond b (Some work) None ≡ Some w → IsDue w
+                set false is made = absurd cc
+                set true is made =
+                    let same : work ≡ w = cc in
+                    subst IsDue same (record {
+                      listed = listed;
+                      refers = refers;
+                      deletes = refl;
+                      tree = key.0;
+                      parent = parent;
+                      olds = λ move has. subst (λ tree. Has (db tree) move.0 × (goes tree move.0 ≡ true)) (sym (eqb-true _ _ (and_parts _ _ is).0)) (all move.0 (old_of olds move has));
+                    })
+
+    -- one step takes out rows that go, and sets off what is due
+    module _ (now next : Trees) (t : Table) (listed : Has schema.tables t) (ids : List ℤ) (sound : (id : ℤ) → Has ids id → (r : Row) × Has (now t.tree) r × (goes t.tree r ≡ true) × (rowid r ≡ Int id))
+        (less : (u : Table) → Has schema.tables u → IsLess now u) (a : Applies schema Enforced now (edit_of now t ids Given 0 []) next) where
+      less_now : IsLess now t
+      less_now = less t listed
+
+      taken : (r : Row) → Has (taken_by now (edit_of now t ids Given 0 [])) r → Has (db t.tree) r × (goes t.tree r ≡ true)
+      taken r h =
+          let id = has_map (row_at (now t.tree)) ids r h in
+          let s = sound id.0 id.1 in
+          let there : has_rowid id.0 s.0 ≡ true = ap (λ x. is_eq (value_cmp (rowid s.0) x)) (sym s.3) ∙ ap is_eq (tied_itself value_cmp_total (rowid s.0)) in
+          let up : IsTable (now t.tree) = subst IsTable (sym (less_now.rows ∙ without_all_is less_now.ids (db t.tree))) (Rattle.sqlite_trees.proofs.ListLemmas.ascending-filter _ _ (db t.tree) (it.listed t listed)) in
+          let same : r ≡ s.0 = id.2 ∙ row_at_is (now t.tree) id.0 s.0 up s.1 there in
+          subst (λ x. Has (db t.tree) x × (goes t.tree x ≡ true)) (sym same) (had now t less_now s.0 s.1, s.2)
+
+      -- what a table lost in this step
+      lost : (u : Table) → Has schema.tables u → (gone : List ℤ) × (next u.tree ≡ without_all (now u.tree) gone) × ((id : ℤ) → Has gone id → (r : Row) × Has (now u.tree) r × (goes u.tree r ≡ true) × (rowid r ≡ Int id))
+      lost u has = go (u.tree == t.tree) refl
+        where
+          go : (b : Bool) → (u.tree == t.tree) ≡ b → (gone : List ℤ) × (next u.tree ≡ without_all (now u.tree) gone) × ((id : ℤ) → Has gone id → (r : Row) × Has (now u.tree) r × (goes u.tree r ≡ true) × (rowid r ≡ Int id))
+          go true is = subst (λ tree. (gone : List ℤ) × (next tree ≡ without_all (now tree) gone) × ((id : ℤ) → Has gone id → (r : Row) × Has (now tree) r × (goes tree r ≡ true) × (rowid r ≡ Int id))) (sym (eqb-true _ _ is)) (ids, a.rows, sound)
+          go false is = ([], all_has _ schema.tables u a.tables has (λ same. both_ways _ is (eq-eqb u.tree t.tree same)), λ id none. absurd none)
+
+      less_then : (u : Table) → Has schema.tables u → IsLess next u
+      less_then u has =
+          let before = less u has in
+          let step = lost u has in
+          record {
+            ids = before.ids ++ step.0;
+            rows = step.1 ∙ ap (λ rows. without_all rows step.0) before.rows ∙ twice before.ids step.0 (db u.tree);
+            sound = λ id h. elim (has_either before.ids step.0 id h) [
+              | inl early ↦ before.sound id early
+              | inr late ↦ let s = step.2 id late in (s.0, had now u before s.0 s.1, s.2, s.3)
+            ];
+          }
+        where
+          twice : (xs ys : List ℤ) (rows : List Row) → without_all (without_all rows xs) ys ≡ without_all rows (xs ++ ys)
+          twice [] ys rows = refl
+          twice (x ∷ xs) ys rows = twice xs ys (Rattle.sqlite_trees.specs.Tree.without_rowid x rows)
+
+      still : Has schema.tables root → (r : Row) → Has (next root.tree) r → Has (now root.tree) r
+      still has r h = let step = lost root has in without_all_has step.0 (now root.tree) r (subst (λ rows. Has rows r) step.1 h)
+
+    module _ (here : Has schema.tables root) where
+      -- all that is due is done
+      led : (n : ℕ) (now end : Trees) (stack : List Work) → IsUnderWay now → ((w : Work) → Has stack w → IsDue w) → Leads schema Enforced n now stack (Ok end) → IsUnderWay end
+      led zero now end stack way dues h = subst IsUnderWay (let e = h.1 in cc) way
+      led (suc n) now end stack way dues (below, w, is, acts) =
+          acted (λ now stack way dues h. led n now end stack way dues h) (nat_lt w.depth max_depth) (dues w (subst (λ l. Has l w) (sym is) (Rattle.sqlite_rules.proofs.ListLemmas.has_right below (w ∷ []) w (inl refl)))) (λ v has. dues v (subst (λ l. Has l v) (sym is) (Rattle.sqlite_rules.proofs.ListLemmas.has_left below (w ∷ []) v has))) acts
+        where
+          acted : ((now : Trees) (stack : List Work) → IsUnderWay now → ((w : Work) → Has stack w → IsDue w) → Leads schema Enforced n now stack (Ok end) → IsUnderWay end) → (b : Bool) → IsDue w → ((v : Work) → Has below v → IsDue v)
+              → MatchBool b ((ids : List ℤ) × AreChildren now w ids × ActsOn schema Enforced (Leads schema Enforced n) now w below (Ok end) ids) (◌≡◌ {A = Rattle.sqlite_rules.specs.Action.End} (Ok end) (Rattle.std.proofs.Common.Err (Some Rattle.sqlite_rules.specs.declared.error.Refusal.TheVariants.TooDeep))) → IsUnderWay end
+          acted more false one others h = absurd (let e = h in cc)
+          acted more true one others (ids, children, on) = on_children ids children on
+            where
+              child_of : (r : Row) → Has (now w.child.tree) r → list_any (is_child_of w r) w.moves ≡ true → goes w.child.tree r ≡ true
+              child_of r has some =
+                  let move = some_has _ w.moves some in
+                  let old = one.olds move.0 move.1 in
+                  let agrees = (and_parts (loses w.order w.places move.0) (agree w.order w.ref.columns r w.places move.0.0) move.2).1 in
+                  let along = subst (IsAlong w.child w.ref) one.parent (it.along w.child one.listed w.ref one.refers) in
+                  along r move.0.0 (had now w.child (way.less w.child one.listed) r has) old.0 agrees old.1
+
+              on_children : (ids : List ℤ) → AreChildren now w ids → ActsOn schema Enforced (Leads schema Enforced n) now w below (Ok end) ids → IsUnderWay end
+              on_children [] children on = more now below way others on
+              on_children (id ∷ ids) children on = gone (subst (λ deed. ActsOn schema Enforced (Leads schema Enforced n) now (record w { deed = deed }) below (Ok end) (id ∷ ids)) one.deletes on)
+                where
+                  sound : (i : ℤ) → Has (id ∷ ids) i → (r : Row) × Has (now w.child.tree) r × (goes w.child.tree r ≡ true) × (rowid r ≡ Int i)
+                  sound i has = let s = children.sound i has in (s.0, s.1, child_of s.0 s.1 s.2, s.3)
+
+                  gone : Goes schema Enforced (Leads schema Enforced n) now (edit_of now w.child (id ∷ ids) Given 0 []) (w.depth + 1) below (Ok end) → IsUnderWay end
+                  gone (inl refused) = absurd (let e = refused.2 in cc)
+                  gone (inr (inl big)) = absurd (let e = big.3 in cc)
+                  gone (inr (inr (next, a, rest))) =
+                      more next (below ++ works schema Enforced (w.depth + 1) w.child.tree (taken_by now (edit_of now w.child (id ∷ ids) Given 0 [])) []) (record {
+                        less = less_then now next w.child one.listed (id ∷ ids) sound way.less a;
+                        rooted = λ r has. way.rooted r (still now next w.child one.listed (id ∷ ids) sound way.less a here r has);
+                      }) (λ v has. elim (has_either below (works schema Enforced (w.depth + 1) w.child.tree (taken_by now (edit_of now w.child (id ∷ ids) Given 0 [])) []) v has) [
+                        | inl waits ↦ others v waits
+                        | inr new ↦ due (w.depth + 1) w.child (taken_by now (edit_of now w.child (id ∷ ids) Given 0 [])) (taken now next w.child one.listed (id ∷ ids) sound way.less a) v new
+                      ]) rest
+
+      -- from the statement on
+      first : (gone : List ℤ) (end : Trees) → ((id : ℤ) → Has gone id → (r : Row) × Has (db root.tree) r × (goes root.tree r ≡ true) × (rowid r ≡ Int id))
+          → ((r : Row) → Has (without_all (db root.tree) gone) r → goes root.tree r ≡ false) → Writes schema Enforced db (edit_of db root gone Given 0 []) (Ok end) → IsUnderWay end
+      first gone end sound rooted (inl refused) = absurd (let e = refused.2 in cc)
+      first gone end sound rooted (inr (inl big)) = absurd (let e = big.3 in cc)
+      first gone end sound rooted (inr (inr (next, a, (n, leads)))) =
+          let none : (u : Table) → Has schema.tables u → IsLess db u = λ u _. record { ids = []; rows = refl; sound = λ id h. absurd h } in
+          led n next end (works schema Enforced 0 root.tree (taken_by db (edit_of db root gone Given 0 [])) []) (record { less = less_then db next root here gone sound none a; rooted = λ r has. rooted r (subst (λ rows. Has rows r) a.rows has) })
+          (λ w has. due 0 root (taken_by db (edit_of db root gone Given 0 [])) (taken db next root here gone sound none a) w has) leads
+
+      module _ (end : Trees) (way : IsUnderWay end) (keeps : Keeps ForeignKey schema end) where
+        -- no row that goes is left, since none whose parents all went is left
+        out : (n : ℕ) (t : Table) → Has schema.tables t → t.tree < n → (r : Row) → Has (db t.tree) r → goes t.tree r ≡ true → Has (end t.tree) r → ⊥
+        out zero t listed low r has go left = omega (arith, low)
+        out (suc n) t listed low r has go left = elim (it.because t listed r has go) [
+          | inl is_root ↦ both_ways _ (way.rooted r (subst (λ tree. Has (end tree) r) is_root left)) (subst (λ tree. goes tree r ≡ true) is_root go)
+          | inr why ↦
+              let each = all_has _ (end t.tree) r (all_has _ schema.tables t keeps listed) left in
+              let held : (has_null why.ref.columns r || is_held end why.ref.columns r (parent_key schema.tables why.ref)) ≡ true = test_has _ t.references why.ref each why.listed in
+              let found : list_any (λ m. agree why.key.2 why.key.1 m why.ref.columns r) (end why.key.0) ≡ true = rw (why.full, why.parent) at held in
+              let m = some_has _ (end why.key.0) found in
+              let parent = named_parent schema.tables why.ref why.key why.parent in
+              let there : Has (end parent.0.tree) m.0 = subst (λ tree. Has (end tree) m.0) (sym parent.2) m.1 in
+              let was : Has (db parent.0.tree) m.0 = had end parent.0 (way.less parent.0 parent.1) m.0 there in
+              let goes_too : goes why.key.0 m.0 ≡ true = why.alone m.0 (subst (λ tree. Has (db tree) m.0) parent.2 was) m.2 in
+              let lower : parent.0.tree < n = omega (arith, low, why.before, parent.2) in
+              out n parent.0 parent.1 lower m.0 was (subst (λ tree. goes tree m.0 ≡ true) (sym parent.2) goes_too) there
+        ]
+
+        left_is : (t : Table) → Has schema.tables t → end t.tree ≡ filter (λ r. not (goes t.tree r)) (db t.tree)
+        left_is t listed =
+            let less = way.less t listed in
+            less.rows ∙ without_all_is less.ids (db t.tree) ∙ filter_same _ _ (db t.tree) (all_from _ (db t.tree) (λ r has. ap not (same_bool _ _ (there r has) (back r has))))
+          where
+            there : (r : Row) → Has (db t.tree) r → list_any (λ id. has_rowid id r) (way.less t listed).ids ≡ true → goes t.tree r ≡ true
+            there r has some =
+                let id = some_has _ (way.less t listed).ids some in
+                let s = (way.less t listed).sound id.0 id.1 in
+                let same : r ≡ s.0 = tied_same (db t.tree) r s.0 (it.listed t listed) has s.1 (ap (value_cmp (rowid r)) s.3 ∙ ties _ id.2) in
+                ap (goes t.tree) same ∙ s.2
+
+            back : (r : Row) → Has (db t.tree) r → goes t.tree r ≡ true → list_any (λ id. has_rowid id r) (way.less t listed).ids ≡ true
+            back r has go = elim (cases_Bool (list_any (λ id. has_rowid id r) (way.less t listed).ids)) [
+              | inl gone ↦ gone
+              | inr stays ↦
+                  let left : Has (end t.tree) r = subst (λ rows. Has rows r) (sym ((way.less t listed).rows ∙ without_all_is (way.less t listed).ids (db t.tree))) (has_kept _ (db t.tree) r has (ap not stays)) in
+                  absurd (out (suc t.tree) t listed (omega arith) r has go left)
+            ]
+
+      -- after the statement each table has the rows that do not go
+      pub leaves : (gone : List ℤ) (end : Trees) → ((id : ℤ) → Has gone id → (r : Row) × Has (db root.tree) r × (goes root.tree r ≡ true) × (rowid r ≡ Int id))
+          → ((r : Row) → Has (without_all (db root.tree) gone) r → goes root.tree r ≡ false) → Writes schema Enforced db (edit_of db root gone Given 0 []) (Ok end) → Keeps ForeignKey schema end
+          → (t : Table) → Has schema.tables t → end t.tree ≡ filter (λ r. not (goes t.tree r)) (db t.tree)
+      leaves gone end sound rooted writes keeps = left_is end (first gone end sound rooted writes) keeps
+
+-- ---- as the statement, on what the tables hold
+
+-- `=` is true of values that tie
+tied : (x y : Value) → equal Binary x y ≡ true → value_cmp y x ≡ Equal
+unfolding binary
+tied Null Null h = absurd cc
+tied (Int n) Null h = absurd cc
+tied (Real n) Null h = absurd cc
+tied (Text n) Null h = absurd cc
+tied (Blob n) Null h = absurd cc
+tied x (Int n) h = ties _ (sym (equal_is x (Int n) refl) ∙ h)
+tied x (Real n) h = ties _ (sym (equal_is x (Real n) refl) ∙ h)
+tied x (Text n) h = ties _ (sym (equal_is x (Text n) refl) ∙ h)
+tied x (Blob n) h = ties _ (sym (equal_is x (Blob n) refl) ∙ h)
+
+agree_tie : (p q : ℕ) (a b : Row) → agree plain (p ∷ []) a (q ∷ []) b ≡ true → value_cmp (column b q) (column a p) ≡ Equal
+agree_tie p q a b h =
+    let one = (and_parts (equal (first_key plain).collation (column a p) (column b q)) true h).0 in
+    tied (column a p) (column b q) (rw first_key-plain at one)
+
+-- which rows of each table go, in the order of the tables; of one that stays as it is, none
+abbrev pub Losses : Type 0
+Losses = List (Option (Row → Bool))
+
+abbrev pub lost_by : Option (Row → Bool) → Row → Bool
+lost_by None row = false
+lost_by (Some goes) row = goes row
+
+abbrev pub lessened : Option (Row → Bool) → List Row → List Row
+lessened None rows = rows
+lessened (Some goes) rows = filter (λ row. not (goes row)) rows
+
+abbrev pub lessened_each : Losses → Contents → Contents
+lessened_each [] all = all
+lessened_each (l ∷ ls) [] = []
+lessened_each (l ∷ ls) (rows ∷ all) = lessened l rows ∷ lessened_each ls all
+
+-- the rows that go, by the tree of their table
+abbrev pub lost_in : List Table → Losses → ℕ → Row → Bool
+lost_in [] ls tree row = false
+lost_in (t ∷ ts) [] tree row = false
+lost_in (t ∷ ts) (l ∷ ls) tree row = cond (t.tree == tree) (lost_by l row) (lost_in ts ls tree row)
+
+module _ (schema : Schema) (root : Table) (losses : Losses) (all : Contents) where
+  abbrev pub goes : ℕ → Row → Bool
+  goes = lost_in schema.tables losses
+
+  -- the reference is of one column, to a primary key of one
+  pub record IsSimple (ref : Reference) (key : ParentKey) (at : ℕ) : Type 0 where
+    pub columns : ref.columns ≡ suc at ∷ []
+    pub places : key.1 ≡ 1 ∷ []
+    pub order : key.2 ≡ plain
+
+  -- the rows that name one that goes, go too
+  pub record GoAlong (child : Table) (ref : Reference) (key : ParentKey) : Type 0 where
+    pub at : ℕ
+    pub simple : IsSimple ref key at
+    pub along : (r m : Row) → Has (by_tree schema.tables all child.tree) r → Has (by_tree schema.tables all key.0) m → value_cmp (column m 0) (column r at) ≡ Equal → goes key.0 m ≡ true → goes child.tree r ≡ true
+
+  abbrev pub AreAlong : Table → Reference → Option ParentKey → Type 0
+  AreAlong child ref None = Unit {0}
+  AreAlong child ref (Some key) = GoAlong child ref key
+
+  -- the row names such as go alone
+  pub record NamesGone (t : Table) (r : Row) : Type 0 where
+    pub ref : Reference
+    pub listed : Has t.references ref
+    pub key : ParentKey
+    pub parent : parent_key schema.tables ref ≡ Some key
+    pub before : key.0 < t.tree
+    pub at : ℕ
+    pub simple : IsSimple ref key at
+    pub full : is_null (column r at) ≡ false
+    pub alone : (m : Row) → Has (by_tree schema.tables all key.0) m → value_cmp (column m 0) (column r at) ≡ Equal → goes key.0 m ≡ true
+
+  -- what `refl` and `tt` find of the tables, and what is to be shown of the references
+  pub record IsChain : Type 0 where
+    pub each : AllZip (λ t l. (row : Row) → goes t.tree row ≡ lost_by l row) schema.tables losses
+    pub cascading : AllByRecursion (λ t. AllByRecursion (λ ref. ref.on_delete ≡ Cascade) t.references) schema.tables
+    pub along : AllByRecursion (λ t. AllByRecursion (λ ref. AreAlong t ref (parent_key schema.tables ref)) t.references) schema.tables
+    pub because : AllByRecursion (λ t. (r : Row) → Has (by_tree schema.tables all t.tree) r → goes t.tree r ≡ true → (t.tree ≡ root.tree) ⊎ NamesGone t r) schema.tables
+
+  module _ (chain : IsChain) (db : Trees) (held : StoresEach schema.tables db all) where
+    -- what is stored is a row of the table
+    held_row : (t : Table) → Has schema.tables t → (r : Row) → Has (db t.tree) r → Has (by_tree schema.tables all t.tree) (drop 1 r)
+    held_row t listed r has =
+        let is : is_tree schema.tables t.tree ≡ true = some_from (λ u. u.tree == t.tree) schema.tables t listed (eq-eqb t.tree t.tree refl) in
+        let there = has_along (map bare (db t.tree)) _ (bare r) (stored_is_seen schema.tables db all t.tree held is) (mapped_has bare (db t.tree) r has) in
+        let row = has_map (λ row. Null ∷ row) (by_tree schema.tables all t.tree) (bare r) there in
+        subst (Has (by_tree schema.tables all t.tree)) (sym (ap (drop 1) row.2)) row.1
+
+    -- and one of the table that a reference points to
+    held_parent : (ref : Reference) (key : ParentKey) → parent_key schema.tables ref ≡ Some key → (m : Row) → Has (db key.0) m → Has (by_tree schema.tables all key.0) (drop 1 m)
+    held_parent ref key parent m has =
+        let t = named_parent schema.tables ref key parent in
+        subst (λ tree. Has (by_tree schema.tables all tree) (drop 1 m)) t.2 (held_row t.0 t.1 m (subst (λ tree. Has (db tree) m) (sym t.2) has))
+
+    agrees : (ref : Reference) (key : ParentKey) (at : ℕ) → IsSimple ref key at → (r m : Row) → agree key.2 ref.columns r key.1 m ≡ true → value_cmp (column (drop 1 m) 0) (column (drop 1 r) at) ≡ Equal
+    agrees ref key at simple r m h =
+        let one : agree plain (suc at ∷ []) r (1 ∷ []) m ≡ true = rw (simple.columns, simple.places, simple.order) at h in
+        ap₂ value_cmp (column_drop m 0) (column_drop r at) ∙ agree_tie (suc at) 1 r m one
+
+    agrees_back : (ref : Reference) (key : ParentKey) (at : ℕ) → IsSimple ref key at → (r m : Row) → agree key.2 key.1 m ref.columns r ≡ true → value_cmp (column (drop 1 m) 0) (column (drop 1 r) at) ≡ Equal
+    agrees_back ref key at simple r m h =
+        let one : agree plain (1 ∷ []) m (suc at ∷ []) r ≡ true = rw (simple.columns, simple.places, simple.order) at h in
+        ap₂ value_cmp (column_drop m 0) (column_drop r at) ∙ tied_back value_cmp_total (column r (suc at)) (column m 1) (agree_tie 1 (suc at) m r one)
+
+    stored_along : (t : Table) → Has schema.tables t → (ref : Reference) (key : Option ParentKey) → parent_key schema.tables ref ≡ key → AreAlong t ref key → IsAlong schema root (λ tree r. goes tree (drop 1 r)) db t ref key
+    stored_along t listed ref None parent h = tt
+    stored_along t listed ref (Some key) parent h = λ r m has there agree go. h.along (drop 1 r) (drop 1 m) (held_row t listed r has) (held_parent ref key parent m there) (agrees ref key h.at h.simple r m agree) go
+
+    stored_because : (t : Table) → Has schema.tables t → (r : Row) → Has (db t.tree) r → goes t.tree (drop 1 r) ≡ true → (t.tree ≡ root.tree) ⊎ IsBecause schema root (λ tree r. goes tree (drop 1 r)) db t r
+    stored_because t listed r has go = elim (all_has _ schema.tables t chain.because listed (drop 1 r) (held_row t listed r has) go) [
+      | inl is_root ↦ inl is_root
+      | inr why ↦ inr (record {
+        ref = why.ref;
+        listed = why.listed;
+        key = why.key;
+        parent = why.parent;
+        before = why.before;
+        full = subst (λ columns. has_null columns r ≡ false) (sym why.simple.columns) (ap (λ b. b || false) (ap is_null (sym (column_drop r why.at)) ∙ why.full));
+        alone = λ m there agree. why.alone (drop 1 m) (held_parent why.ref why.key why.parent m there) (agrees_back why.ref why.key why.at why.simple r m agree);
+      })
+    ]
+
+    stored_each : (ts : List Table) (rows : Contents) → StoresEach ts db rows → AllByRecursion (λ t. IsTable (db t.tree) × AllByRecursion (λ r. IsTrue (is_int (rowid r))) (db t.tree)) ts
+    stored_each [] rows h = tt
+    stored_each (t ∷ ts) [] h = absurd h
+    stored_each (t ∷ ts) (r ∷ rows) h = ((h.0.listed, h.0.numbered), stored_each ts rows h.1)
+
+    pub is_cascade : IsCascade schema root (λ tree r. goes tree (drop 1 r)) db
+    is_cascade = record {
+      cascading = chain.cascading;
+      along = λ t listed ref refers. stored_along t listed ref (parent_key schema.tables ref) refl (all_has _ t.references ref (all_has _ schema.tables t chain.along listed) refers);
+      because = stored_because;
+      listed = λ t listed. (all_has _ schema.tables t (stored_each schema.tables all held) listed).0;
+      numbered = λ t listed. (all_has _ schema.tables t (stored_each schema.tables all held) listed).1;
+    }
+
+  stores_less : (ts : List Table) (ls : Losses) (db end : Trees) (rows : Contents) → AllZip (λ t l. (row : Row) → goes t.tree row ≡ lost_by l row) ts ls
+      → ((t : Table) → Has ts t → end t.tree ≡ filter (λ r. not (goes t.tree (drop 1 r))) (db t.tree)) → StoresEach ts db rows → StoresEach ts end (lessened_each ls rows)
+  stores_less [] [] db end rows each left h = h
+  stores_less [] (l ∷ ls) db end rows each left h = absurd each
+  stores_less (t ∷ ts) [] db end rows each left h = absurd each
+  stores_less (t ∷ ts) (l ∷ ls) db end [] each left h = absurd h
+  stores_less (t ∷ ts) (l ∷ ls) db end (r ∷ rows) each left h =
+      (one l each.0, stores_less ts ls db end rows each.1 (λ u has. left u (inr has)) h.1)
+    where
+      filtered : Stores (length t.primary) (length t.columns) (end t.tree) (filter (λ row. not (goes t.tree row)) r)
+      filtered = subst (λ stored. Stores (length t.primary) (length t.columns) stored (filter (λ row. not (goes t.tree row)) r)) (sym (left t (inl refl))) (stores_filter _ _ (λ row. not (goes t.tree row)) (db t.tree) r h.0)
+
+      every : (xs : List Row) → filter (λ row. not false) xs ≡ xs
+      every [] = refl
+      every (x ∷ xs) = ap (λ rest. x ∷ rest) (every xs)
+
+      one : (l : Option (Row → Bool)) → ((row : Row) → goes t.tree row ≡ lost_by l row) → Stores (length t.primary) (length t.columns) (end t.tree) (lessened l r)
+      one None same = subst (Stores (length t.primary) (length t.columns) (end t.tree)) (ap (λ (f : Row → Bool). filter (λ row. not (f row)) r) (λ i row. same row i) ∙ every r) filtered
+      one (Some go) same = subst (Stores (length t.primary) (length t.columns) (end t.tree)) (ap (λ (f : Row → Bool). filter (λ row. not (f row)) r) (λ i row. same row i)) filtered
+
+-- DELETE by the first k columns of the key, which are the parameters, with all that goes along
+module _ (schema : Schema) (at k : ℕ) (table : Table) (it : IsFound schema at table) (sql : List ℕ) (params : Row) (text : IsRemoveText schema at table no_join (equalities 0 k) sql) (full : are_full 0 k params ≡ true) where
+  pub cascade_runs : (losses : Losses) (old new : State) (count : ℕ) (all : Contents) → IsChain schema table losses all → ((row : Row) → lost_in schema.tables losses table.tree row ≡ has_key k params row)
+      → Executes sql params old new (Ok count) → Holds schema all old → Holds schema (lessened_each losses all) new
+  cascade_runs losses old new count all chain rooted h was =
+      let db = old.now.trees in
+      let gone = removal schema at table it no_join (equalities 0 k) sql params text old new count h was.has in
+      let whole : Database = record { schema = schema; trees = gone.end } in
+      let keeps : Keeps ForeignKey schema gone.end = (subst IsDatabase gone.now gone.sound).obeys.rules ForeignKey in
+      let listed : Has schema.tables table = has_got schema.tables at table it.found in
+      let here = stores_at schema.tables at table db all it.found was.each in
+      let found = λ (r : Row). passes_is k params r full in
+      let left = chosen db table.tree no_join (equalities 0 k) params gone.rows text.flat gone.found here.listed here.numbered in
+      let sound : (id : ℤ) → Has (ids_of gone.rows) id → (r : Row) × Has (db table.tree) r × (lost_in schema.tables losses table.tree (drop 1 r) ≡ true) × (rowid r ≡ Int id) = λ id has.
+      let r = chosen_from db table.tree no_join (equalities 0 k) params gone.rows text.flat gone.found id has in
+      (r.0, r.1, rooted (drop 1 r.0) ∙ sym (found r.0) ∙ r.2, int_is (rowid r.0) (all_has _ (db table.tree) r.0 here.numbered r.1) ∙ ap Int (sym r.3)) in
+      let none : (r : Row) → Has (without_all (db table.tree) (ids_of gone.rows)) r → lost_in schema.tables losses table.tree (drop 1 r) ≡ false = λ r has.
+      let stays = has_filtered _ (db table.tree) r (subst (λ rows. Has rows r) left has) in
+      rooted (drop 1 r) ∙ sym (found r) ∙ not-true _ stays.1 in
+      let lessens = leaves schema table (λ tree r. lost_in schema.tables losses tree (drop 1 r)) db (is_cascade schema table losses all chain db was.each) listed (ids_of gone.rows) gone.end sound none gone.writes keeps in
+      record {
+        has = ap (λ (d : Database). d.schema) gone.now;
+        each = subst (λ (d : Database). StoresEach schema.tables d.trees (lessened_each losses all)) (sym gone.now) (stores_less schema table losses all schema.tables losses db gone.end all chain.each lessens was.each);
+      }
