@@ -1,5 +1,5 @@
 -- What holds of the base that an edit leaves: a test that refuses leaves none.
-use Rattle.std.proofs.Common.{Bool, true, false, cond, Option, Result, Err, IfOk}
+use Rattle.std.proofs.Common.{◌≡◌, Bool, true, false, cond, Option, Result, Err, IfOk, refl}
 use Rattle.adr_text.specs.declared.refusal.Refusal.{Refusal}
 use Rattle.adr_state.specs.declared.base.Base.{Base}
 use Rattle.adr_machine.specs.declared.answer.Answer.{Answer}
@@ -9,9 +9,13 @@ abbrev pub Leaves : (Base → Type 0) → Result (Option Answer × Base) Refusal
 Leaves P r = IfOk r (λ e. P e.1)
 
 module _ (P : Base → Type 0) where
+  -- behind it the test is known not to hold
+  pub behind : (b : Bool) (e : Refusal) (r : Result (Option Answer × Base) Refusal) → (b ≡ false → Leaves P r) → Leaves P (cond b (Err e) r)
+  behind true e r h = tt
+  behind false e r h = h refl
+
   pub tested : (b : Bool) (e : Refusal) (r : Result (Option Answer × Base) Refusal) → Leaves P r → Leaves P (cond b (Err e) r)
-  tested true e r h = tt
-  tested false e r h = h
+  tested b e r h = behind b e r (λ free. h)
 
   -- three tests that refuse
   pub thrice : (a b c : Bool) (d e f : Refusal) (r : Result (Option Answer × Base) Refusal) → Leaves P r → Leaves P (cond a (Err d) (cond b (Err e) (cond c (Err f) r)))

@@ -35,6 +35,7 @@ use Rattle.adr_machine.specs.Steps.{committed}
 use Rattle.adr_machine.specs.Runs.{state_after, state_of, step_at}
 use Rattle.adr_machine.specs.Laws.{HasVen, HasResource, PortfolioIsWhole}
 use Rattle.adr_machine.proofs.EditLemmas.{Leaves, tested, thrice}
+use Rattle.adr_machine.proofs.NameLemmas.{ven_names, resource_names}
 use Rattle.adr_machine.proofs.RowLemmas.{each_weaker, each_put, each_removed, each_filtered, there_after_put, there_after_removal, there_after_filter, numbers_apart}
 
 abbrev Stands : Base → Type 0
@@ -95,7 +96,7 @@ vens_put base n ven h =
 -- a resource whose ven is there
 resource_put : (base : Base) (n : ℕ) (resource : Resource) → IsVen base resource.ven → Stands base → Stands (record base { resources = insert_entry nat_cmp base.resources n resource })
 resource_put base n resource ven_is_there h = (
-  each_put (HasVen base.vens) nat_cmp n resource ven_is_there (λ e old. ven_is_there) base.resources h.0,
+  each_put (HasVen base.vens) nat_cmp n resource ven_is_there (λ e tied old. ven_is_there) base.resources h.0,
   each_weaker (HasResource base.resources) (HasResource (insert_entry nat_cmp base.resources n resource)) (λ s there. there_after_put (is_at (nat_cmp s.0.resource)) nat_cmp n resource base.resources there) base.shares h.1,
 )
 
@@ -163,7 +164,7 @@ put_stands : (base : Base) (key : ShareKey) (weight : ℕ) (zero full : Bool) �
     → Leaves Stands (sharing key weight (cond zero (Ok (record base { shares = remove_entry (is_at (share_cmp key)) base.shares })) (cond full (Err refusal.LimitReached) (Ok (record base { shares = insert_entry share_cmp base.shares key weight })))))
 put_stands base key weight true full there h = (h.0, each_removed (HasResource base.resources) (is_at (share_cmp key)) base.shares h.1)
 put_stands base key weight false true there h = tt
-put_stands base key weight false false there h = (h.0, each_put (HasResource base.resources) share_cmp key weight there (λ e old. old) base.shares h.1)
+put_stands base key weight false false there h = (h.0, each_put (HasResource base.resources) share_cmp key weight there (λ e tied old. old) base.shares h.1)
 
 share_stands : (limits : Limits) (base : Base) (program : List ℕ) (resource : Option ℕ) (weight : ℕ) → IfSome resource (IsResource base) → Stands base → Leaves Stands (share_of_resource limits base program resource weight)
 share_stands limits base program None weight there h = tt
@@ -212,4 +213,6 @@ portfolio_whole settings cs =
     record {
       resources_have_vens = All-from_recursion (HasVen base.vens) base.resources h.0;
       shares_have_resources = All-from_recursion (HasResource base.resources) base.shares h.1;
+      ven_names_differ = ven_names settings cs;
+      resource_names_differ = resource_names settings cs;
     }

@@ -1,5 +1,5 @@
 -- Rows of a map after a put, a removal and a filter: what holds of each, and which keys are still there.
-use Rattle.std.proofs.Common.{◌≡◌, ℕ, Bool, true, false, not, cond, List, [], ◌∷◌, filter, Option, Some, Ordering, Less, Equal, Greater, refl, sym, ◌∙◌, ◌==◌}
+use Rattle.std.proofs.Common.{◌≡◌, ℕ, Bool, true, false, not, cond, List, [], ◌∷◌, filter, Option, Some, Ordering, Less, Equal, Greater, refl, ap, sym, ◌∙◌, ◌==◌}
 use Rattle.std.specs.Prelude.{nat_lt, is_some}
 use Rattle.std.specs.List.{AllByRecursion}
 use Rattle.std.specs.Option.{option_map_or}
@@ -16,16 +16,20 @@ module _ {K V : Type 0} where
   each_weaker P Q weaker [] h = tt
   each_weaker P Q weaker (e ∷ es) h = (weaker e h.0, each_weaker P Q weaker es h.1)
 
-  module _ (P : K × V → Type 0) (cmp : K → K → Ordering) (k : K) (v : V) (new : P (k, v)) (again : (e : K × V) → P e → P (e.0, v)) where
-    placed : (o : Ordering) (e : K × V) (es rest : List (K × V)) → P e → AllByRecursion P es → AllByRecursion P rest → AllByRecursion P (match_ordering o ((k, v) ∷ e ∷ es) ((e.0, v) ∷ es) (e ∷ rest))
-    placed Less e es rest h hs r = (new, (h, hs))
-    placed Equal e es rest h hs r = (again e h, hs)
-    placed Greater e es rest h hs r = (h, r)
+  pub each_both : (P Q R : K × V → Type 0) → ((e : K × V) → P e → Q e → R e) → (es : List (K × V)) → AllByRecursion P es → AllByRecursion Q es → AllByRecursion R es
+  each_both P Q R both [] p q = tt
+  each_both P Q R both (e ∷ es) p q = (both e p.0 q.0, each_both P Q R both es p.1 q.1)
+
+  module _ (P : K × V → Type 0) (cmp : K → K → Ordering) (k : K) (v : V) (new : P (k, v)) (again : (e : K × V) → is_eq (cmp k e.0) ≡ true → P e → P (e.0, v)) where
+    placed : (o : Ordering) (e : K × V) (es rest : List (K × V)) → cmp k e.0 ≡ o → P e → AllByRecursion P es → AllByRecursion P rest → AllByRecursion P (match_ordering o ((k, v) ∷ e ∷ es) ((e.0, v) ∷ es) (e ∷ rest))
+    placed Less e es rest is h hs r = (new, (h, hs))
+    placed Equal e es rest is h hs r = (again e (ap is_eq is) h, hs)
+    placed Greater e es rest is h hs r = (h, r)
 
     -- a put keeps it, where it holds of the new row and of the new value at a key that is there
     pub each_put : (es : List (K × V)) → AllByRecursion P es → AllByRecursion P (insert_entry cmp es k v)
     each_put [] h = (new, tt)
-    each_put (e ∷ es) h = placed (cmp k e.0) e es (insert_entry cmp es k v) h.0 h.1 (each_put es h.1)
+    each_put (e ∷ es) h = placed (cmp k e.0) e es (insert_entry cmp es k v) refl h.0 h.1 (each_put es h.1)
 
   module _ (P : K × V → Type 0) where
     unless : (goes : Bool) (e : K × V) (es rest : List (K × V)) → P e → AllByRecursion P es → AllByRecursion P rest → AllByRecursion P (cond goes es (e ∷ rest))
@@ -110,7 +114,8 @@ tied_numbers true same h = absurd (let e : false ≡ true = h in cc)
 tied_numbers false true h = refl
 tied_numbers false false h = absurd (let e : false ≡ true = h in cc)
 
-same_number : (a b : ℕ) → is_eq (nat_cmp a b) ≡ true → a ≡ b
+-- numbers that compare as equal are one
+pub same_number : (a b : ℕ) → is_eq (nat_cmp a b) ≡ true → a ≡ b
 same_number a b h = (unsigned_Decides a b).0 (tied_numbers (nat_lt a b) (a == b) h)
 
 never_both : (m n k : ℕ) (b : Bool) → is_eq (nat_cmp m k) ≡ b → not (m == n) ≡ true → n ≡ k → b ≡ false

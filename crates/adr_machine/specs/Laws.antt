@@ -56,11 +56,17 @@ HasVen vens r = IsSome (at nat_cmp r.1.ven vens)
 abbrev pub HasResource : List (ℕ × Resource) → ShareKey × ℕ → Type 0
 HasResource resources s = IsSome (at nat_cmp s.0.resource resources)
 
--- nothing is left of a ven or of a resource that is not there
+-- rows of one name have one number
+abbrev pub NamesDiffer : {V : Type 0} → (V → List ℕ) → List (ℕ × V) → Type 0
+NamesDiffer name rows = All (λ a. All (λ b. name a.1 ≡ name b.1 → a.0 ≡ b.0) rows) rows
+
+-- nothing is left of a ven or of a resource that is not there, and no two vens have one name, nor two resources
 pub record IsWhole (base : Base) : Type 0 where
   pub resources_have_vens : All (HasVen base.vens) base.resources
   pub shares_have_resources : All (HasResource base.resources) base.shares
+  pub ven_names_differ : NamesDiffer (λ ven. ven.name) base.vens
+  pub resource_names_differ : NamesDiffer (λ resource. resource.name) base.resources
 
--- after any run from an empty start, each resource has its ven and each share its resource
+-- after any run from an empty start, each resource has its ven and each share its resource, and names are unique
 abbrev pub PortfolioIsWhole : Type 0
 PortfolioIsWhole = (settings : Settings) (cs : List (ℕ × Command)) → IsWhole (state_of (step_at settings) empty cs).base

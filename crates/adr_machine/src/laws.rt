@@ -7,8 +7,8 @@ pub fn mirror_is_greatest()
     ensures { MirrorIsGreatest }
 {}
 
-/// After any run from an empty start, each resource has its ven and each share its resource: nothing is
-/// left of what was removed.
+/// After any run from an empty start, each resource has its ven and each share its resource, so nothing is
+/// left of what was removed; and no two vens have one name, nor two resources.
 pub fn portfolio_is_whole()
     ensures { PortfolioIsWhole }
 {}
