@@ -1,4 +1,4 @@
--- After every edit each resource has its ven and each share its resource.
+-- After every edit each resource has its ven and each share its resource, no two vens have one name, and no two resources.
 use Rattle.std.proofs.Common.{◌≡◌, ℕ, Bool, true, false, cond, not, ◌==◌, ◌&&◌, List, [], ◌∷◌, length, filter, Option, Some, None, Result, Ok, Err, refl}
 use Rattle.std.specs.Prelude.{nat_le, nat_lt, is_some, is_none, IsSome, IfSome, option_map, option_and_then}
 use Rattle.std.specs.List.{AllByRecursion}
@@ -34,8 +34,8 @@ use Rattle.adr_machine.specs.Edits.{mirror_set, adds_beyond, scan_after, scan_en
 use Rattle.adr_machine.specs.Steps.{committed}
 use Rattle.adr_machine.specs.Runs.{state_after, state_of, step_at}
 use Rattle.adr_machine.specs.Laws.{HasVen, HasResource, PortfolioIsWhole}
-use Rattle.adr_machine.proofs.EditLemmas.{Leaves, tested, thrice}
-use Rattle.adr_machine.proofs.NameLemmas.{ven_names, resource_names}
+use Rattle.adr_machine.proofs.EditLemmas.{Leaves, behind, tested}
+use Rattle.adr_machine.proofs.NameLemmas.{Differ, put_differs, removal_differs, filter_differs, free_new, free_again, all_differ}
 use Rattle.adr_machine.proofs.RowLemmas.{each_weaker, each_put, each_removed, each_filtered, there_after_put, there_after_removal, there_after_filter, numbers_apart}
 
 abbrev Stands : Base → Type 0
@@ -124,95 +124,116 @@ resource_gone base n h = (
 
 -- ---- each command
 
-mirror_stands : (limits : Limits) (base : Base) (mirror : List (MirrorKey × Mark)) → Stands base → Leaves Stands (mirror_set limits base mirror)
-mirror_stands limits base mirror h = tested Stands (adds_beyond limits.keys base.mirror mirror) refusal.LimitReached (Ok (None, record base { mirror = mirror })) h
+abbrev ven_name : Ven → List ℕ
+ven_name ven = ven.name
 
-ended_stands : (base : Base) (scan : Option (List MirrorKey)) → Stands base → Leaves Stands (scan_end base scan)
-ended_stands base None h = tt
-ended_stands base (Some polled) h = h
+abbrev resource_name : Resource → List ℕ
+resource_name resource = resource.name
 
-enrolled_stands : (limits : Limits) (now : ℕ) (base : Base) (name : List ℕ) → Stands base → Leaves Stands (enrolled_by limits now base name)
-enrolled_stands limits now base name h =
-    thrice Stands (has_ven name base.vens) (nat_le limits.vens (length base.vens)) (nat_le limits.serial base.serial) refusal.Conflict refusal.LimitReached refusal.Exhausted (enrolling now base name)
-    (vens_put base _ _ h)
+abbrev Unique : Base → Type 0
+Unique base = Differ ven_name base.vens × Differ resource_name base.resources
 
-renamed_ven_stands : (now : ℕ) (base : Base) (row : Option (ℕ × Ven)) (name : List ℕ) → Stands base → Leaves Stands (ven_renamed now base row name)
-renamed_ven_stands now base None name h = tt
-renamed_ven_stands now base (Some (n, old)) name h =
-    tested Stands (has_other_ven n name base.vens) refusal.Conflict (putting_ven base n (ven_again now name old)) (vens_put base n (ven_again now name old) h)
+abbrev Whole : Base → Type 0
+Whole base = Stands base × Unique base
 
-removed_ven_stands : (base : Base) (row : Option (ℕ × Ven)) → Stands base → Leaves Stands (ven_removed base row)
-removed_ven_stands base None h = tt
-removed_ven_stands base (Some (n, ven)) h = ven_gone base n h
+mirror_whole : (limits : Limits) (base : Base) (mirror : List (MirrorKey × Mark)) → Whole base → Leaves Whole (mirror_set limits base mirror)
+mirror_whole limits base mirror h = tested Whole (adds_beyond limits.keys base.mirror mirror) refusal.LimitReached (Ok (None, record base { mirror = mirror })) h
 
-added_stands : (limits : Limits) (now : ℕ) (base : Base) (ven : Option ℕ) (name : List ℕ) → IfSome ven (IsVen base) → Stands base → Leaves Stands (resource_of_ven limits now base ven name)
-added_stands limits now base None name there h = tt
-added_stands limits now base (Some ven) name there h =
-    thrice Stands (has_resource name base.resources) (nat_le limits.resources (length base.resources)) (nat_le limits.serial base.serial) refusal.Conflict refusal.LimitReached refusal.Exhausted
-    (adding now base ven name) (resource_put base _ _ there h)
+ended_whole : (base : Base) (scan : Option (List MirrorKey)) → Whole base → Leaves Whole (scan_end base scan)
+ended_whole base None h = tt
+ended_whole base (Some polled) h = h
 
-renamed_resource_stands : (now : ℕ) (base : Base) (row : Option (ℕ × Resource)) (name : List ℕ) → IfSome row (HasVen base.vens) → Stands base → Leaves Stands (resource_renamed now base row name)
-renamed_resource_stands now base None name there h = tt
-renamed_resource_stands now base (Some (n, old)) name there h =
-    tested Stands (has_other_resource n name base.resources) refusal.Conflict (putting_resource base n (resource_again now name old)) (resource_put base n (resource_again now name old) there h)
+-- a new row: behind the test of its name stand those of the limit and of the serial
+new_whole : (taken full used : Bool) (r : Result (Option Answer × Base) Refusal) → (taken ≡ false → Leaves Whole r) → Leaves Whole (cond taken (Err refusal.Conflict) (cond full (Err refusal.LimitReached) (cond used (Err refusal.Exhausted) r)))
+new_whole taken full used r h =
+    behind Whole taken refusal.Conflict (cond full (Err refusal.LimitReached) (cond used (Err refusal.Exhausted) r)) (λ free. tested Whole full refusal.LimitReached (cond used (Err refusal.Exhausted) r) (tested Whole used refusal.Exhausted r (h free)))
 
-removed_resource_stands : (base : Base) (row : Option (ℕ × Resource)) → Stands base → Leaves Stands (resource_removed base row)
-removed_resource_stands base None h = tt
-removed_resource_stands base (Some (n, resource)) h = resource_gone base n h
+enrolled_whole : (limits : Limits) (now : ℕ) (base : Base) (name : List ℕ) → Whole base → Leaves Whole (enrolled_by limits now base name)
+enrolled_whole limits now base name h =
+    new_whole (has_ven name base.vens) (nat_le limits.vens (length base.vens)) (nat_le limits.serial base.serial) (enrolling now base name)
+    (λ free. (vens_put base _ _ h.0, (put_differs ven_name _ _ base.vens (free_new ven_name _ name base.vens free) h.1.0, h.1.1)))
 
-put_stands : (base : Base) (key : ShareKey) (weight : ℕ) (zero full : Bool) → IsResource base key.resource → Stands base
-    → Leaves Stands (sharing key weight (cond zero (Ok (record base { shares = remove_entry (is_at (share_cmp key)) base.shares })) (cond full (Err refusal.LimitReached) (Ok (record base { shares = insert_entry share_cmp base.shares key weight })))))
-put_stands base key weight true full there h = (h.0, each_removed (HasResource base.resources) (is_at (share_cmp key)) base.shares h.1)
-put_stands base key weight false true there h = tt
-put_stands base key weight false false there h = (h.0, each_put (HasResource base.resources) share_cmp key weight there (λ e tied old. old) base.shares h.1)
+renamed_ven_whole : (now : ℕ) (base : Base) (row : Option (ℕ × Ven)) (name : List ℕ) → Whole base → Leaves Whole (ven_renamed now base row name)
+renamed_ven_whole now base None name h = tt
+renamed_ven_whole now base (Some (n, old)) name h =
+    behind Whole (has_other_ven n name base.vens) refusal.Conflict (putting_ven base n (ven_again now name old))
+    (λ free. (vens_put base n (ven_again now name old) h.0, (put_differs ven_name n (ven_again now name old) base.vens (free_again ven_name n name base.vens free) h.1.0, h.1.1)))
 
-share_stands : (limits : Limits) (base : Base) (program : List ℕ) (resource : Option ℕ) (weight : ℕ) → IfSome resource (IsResource base) → Stands base → Leaves Stands (share_of_resource limits base program resource weight)
-share_stands limits base program None weight there h = tt
-share_stands limits base program (Some resource) weight there h =
+removed_ven_whole : (base : Base) (row : Option (ℕ × Ven)) → Whole base → Leaves Whole (ven_removed base row)
+removed_ven_whole base None h = tt
+removed_ven_whole base (Some (n, ven)) h =
+    (ven_gone base n h.0, (removal_differs ven_name (is_at (nat_cmp n)) base.vens h.1.0, filter_differs resource_name (λ r. not (r.1.ven == n)) base.resources h.1.1))
+
+added_whole : (limits : Limits) (now : ℕ) (base : Base) (ven : Option ℕ) (name : List ℕ) → IfSome ven (IsVen base) → Whole base → Leaves Whole (resource_of_ven limits now base ven name)
+added_whole limits now base None name there h = tt
+added_whole limits now base (Some ven) name there h =
+    new_whole (has_resource name base.resources) (nat_le limits.resources (length base.resources)) (nat_le limits.serial base.serial) (adding now base ven name)
+    (λ free. (resource_put base _ _ there h.0, (h.1.0, put_differs resource_name _ _ base.resources (free_new resource_name _ name base.resources free) h.1.1)))
+
+renamed_resource_whole : (now : ℕ) (base : Base) (row : Option (ℕ × Resource)) (name : List ℕ) → IfSome row (HasVen base.vens) → Whole base → Leaves Whole (resource_renamed now base row name)
+renamed_resource_whole now base None name there h = tt
+renamed_resource_whole now base (Some (n, old)) name there h =
+    behind Whole (has_other_resource n name base.resources) refusal.Conflict (putting_resource base n (resource_again now name old))
+    (λ free. (resource_put base n (resource_again now name old) there h.0, (h.1.0, put_differs resource_name n (resource_again now name old) base.resources (free_again resource_name n name base.resources free) h.1.1)))
+
+removed_resource_whole : (base : Base) (row : Option (ℕ × Resource)) → Whole base → Leaves Whole (resource_removed base row)
+removed_resource_whole base None h = tt
+removed_resource_whole base (Some (n, resource)) h = (resource_gone base n h.0, (h.1.0, removal_differs resource_name (is_at (nat_cmp n)) base.resources h.1.1))
+
+put_whole : (base : Base) (key : ShareKey) (weight : ℕ) (zero full : Bool) → IsResource base key.resource → Whole base
+    → Leaves Whole (sharing key weight (cond zero (Ok (record base { shares = remove_entry (is_at (share_cmp key)) base.shares })) (cond full (Err refusal.LimitReached) (Ok (record base { shares = insert_entry share_cmp base.shares key weight })))))
+put_whole base key weight true full there h = ((h.0.0, each_removed (HasResource base.resources) (is_at (share_cmp key)) base.shares h.0.1), h.1)
+put_whole base key weight false true there h = tt
+put_whole base key weight false false there h = ((h.0.0, each_put (HasResource base.resources) share_cmp key weight there (λ e tied old. old) base.shares h.0.1), h.1)
+
+share_whole : (limits : Limits) (base : Base) (program : List ℕ) (resource : Option ℕ) (weight : ℕ) → IfSome resource (IsResource base) → Whole base → Leaves Whole (share_of_resource limits base program resource weight)
+share_whole limits base program None weight there h = tt
+share_whole limits base program (Some resource) weight there h =
     let key : ShareKey = record { program = program; resource = resource } in
-    tested Stands (nat_lt most_weight weight) refusal.BadShare (sharing key weight (share_put limits base key weight))
-    (put_stands base key weight (weight == 0) (is_none (at share_cmp key base.shares) && nat_le limits.shares (length base.shares)) there h)
+    tested Whole (nat_lt most_weight weight) refusal.BadShare (sharing key weight (share_put limits base key weight))
+    (put_whole base key weight (weight == 0) (is_none (at share_cmp key base.shares) && nat_le limits.shares (length base.shares)) there h)
 
-edit_stands : (limits : Limits) (now : ℕ) (base : Base) (c : Command) → Stands base → Leaves Stands (edit limits now base c)
+by_operator : (is_another : Bool) (r : Result (Option Answer × Base) Refusal) → Leaves Whole r → Leaves Whole (cond is_another (Err refusal.Forbidden) r)
+by_operator is_another r h = tested Whole is_another refusal.Forbidden r h
+
+edit_whole : (limits : Limits) (now : ℕ) (base : Base) (c : Command) → Whole base → Leaves Whole (edit limits now base c)
 unfolding edit
-edit_stands limits now base (Evidence founds polled) h = mirror_stands limits (record base { scan = scan_after base founds polled }) (joined base.mirror (evidence_of founds)) h
-edit_stands limits now base (Gone kind id) h = mirror_stands limits base (raised base.mirror (record { kind = kind; id = id }, Dead)) h
-edit_stands limits now base ScanBegin h = h
-edit_stands limits now base ScanEnd h = ended_stands base base.scan h
-edit_stands limits now base (VenAdd role ven) h = tested Stands (not (is_operator role)) refusal.Forbidden (enrolled_by limits now base ven.name) (enrolled_stands limits now base ven.name h)
-edit_stands limits now base (VenPut role id ven) h =
-    tested Stands (not (is_operator role)) refusal.Forbidden (ven_renamed now base (ven_row id base) ven.name) (renamed_ven_stands now base (ven_row id base) ven.name h)
-edit_stands limits now base (VenRemove role id) h = tested Stands (not (is_operator role)) refusal.Forbidden (ven_removed base (ven_row id base)) (removed_ven_stands base (ven_row id base) h)
-edit_stands limits now base (ResourceAdd role ven resource) h =
-    tested Stands (not (is_operator role)) refusal.Forbidden (resource_of_ven limits now base (ven_at ven base) resource.name)
-    (added_stands limits now base (ven_at ven base) resource.name (ven_there base (number_of 118 ven)) h)
-edit_stands limits now base (ResourcePut role ven id resource) h =
-    tested Stands (not (is_operator role)) refusal.Forbidden (resource_renamed now base (resource_row_under ven id base) resource.name)
-    (renamed_resource_stands now base (resource_row_under ven id base) resource.name (under_has_ven base ven (resource_row id base) (row_has_ven base h.0 (number_of 114 id))) h)
-edit_stands limits now base (ResourceRemove role ven id) h =
-    tested Stands (not (is_operator role)) refusal.Forbidden (resource_removed base (resource_row_under ven id base)) (removed_resource_stands base (resource_row_under ven id base) h)
-edit_stands limits now base (ShareSet role program resource share) h =
-    tested Stands (not (is_operator role)) refusal.Forbidden (share_of_resource limits base program (resource_at resource base) share.share)
-    (share_stands limits base program (resource_at resource base) share.share (resource_there base (number_of 114 resource)) h)
+edit_whole limits now base (Evidence founds polled) h = mirror_whole limits (record base { scan = scan_after base founds polled }) (joined base.mirror (evidence_of founds)) h
+edit_whole limits now base (Gone kind id) h = mirror_whole limits base (raised base.mirror (record { kind = kind; id = id }, Dead)) h
+edit_whole limits now base ScanBegin h = h
+edit_whole limits now base ScanEnd h = ended_whole base base.scan h
+edit_whole limits now base (VenAdd role ven) h = by_operator (not (is_operator role)) (enrolled_by limits now base ven.name) (enrolled_whole limits now base ven.name h)
+edit_whole limits now base (VenPut role id ven) h = by_operator (not (is_operator role)) (ven_renamed now base (ven_row id base) ven.name) (renamed_ven_whole now base (ven_row id base) ven.name h)
+edit_whole limits now base (VenRemove role id) h = by_operator (not (is_operator role)) (ven_removed base (ven_row id base)) (removed_ven_whole base (ven_row id base) h)
+edit_whole limits now base (ResourceAdd role ven resource) h =
+    by_operator (not (is_operator role)) (resource_of_ven limits now base (ven_at ven base) resource.name) (added_whole limits now base (ven_at ven base) resource.name (ven_there base (number_of 118 ven)) h)
+edit_whole limits now base (ResourcePut role ven id resource) h =
+    by_operator (not (is_operator role)) (resource_renamed now base (resource_row_under ven id base) resource.name)
+    (renamed_resource_whole now base (resource_row_under ven id base) resource.name (under_has_ven base ven (resource_row id base) (row_has_ven base h.0.0 (number_of 114 id))) h)
+edit_whole limits now base (ResourceRemove role ven id) h =
+    by_operator (not (is_operator role)) (resource_removed base (resource_row_under ven id base)) (removed_resource_whole base (resource_row_under ven id base) h)
+edit_whole limits now base (ShareSet role program resource share) h =
+    by_operator (not (is_operator role)) (share_of_resource limits base program (resource_at resource base) share.share)
+    (share_whole limits base program (resource_at resource base) share.share (resource_there base (number_of 114 resource)) h)
 
 -- ---- runs
 
-edited_stands : (s : State) (now : ℕ) (e : Result (Option Answer × Base) Refusal) → Stands s.base → Leaves Stands e → Stands (state_after s (e >>= λ e. Ok (committed s now e.0 e.1))).base
-edited_stands s now (Ok e) before after = after
-edited_stands s now (Err refusal) before after = before
+edited_whole : (s : State) (now : ℕ) (e : Result (Option Answer × Base) Refusal) → Whole s.base → Leaves Whole e → Whole (state_after s (e >>= λ e. Ok (committed s now e.0 e.1))).base
+edited_whole s now (Ok e) before after = after
+edited_whole s now (Err refusal) before after = before
 
-run_stands : (settings : Settings) (s : State) (cs : List (ℕ × Command)) → Stands s.base → Stands (state_of (step_at settings) s cs).base
-run_stands settings s [] h = h
-run_stands settings s (c ∷ cs) h =
-    run_stands settings (state_after s (step_at settings s c)) cs (edited_stands s c.0 (edit settings.limits c.0 s.base c.1) h (edit_stands settings.limits c.0 s.base c.1 h))
+run_whole : (settings : Settings) (s : State) (cs : List (ℕ × Command)) → Whole s.base → Whole (state_of (step_at settings) s cs).base
+run_whole settings s [] h = h
+run_whole settings s (c ∷ cs) h =
+    run_whole settings (state_after s (step_at settings s c)) cs (edited_whole s c.0 (edit settings.limits c.0 s.base c.1) h (edit_whole settings.limits c.0 s.base c.1 h))
 
 pub portfolio_whole : PortfolioIsWhole
 portfolio_whole settings cs =
     let base : Base = (state_of (step_at settings) empty cs).base in
-    let h : Stands base = run_stands settings empty cs (tt, tt) in
+    let h : Whole base = run_whole settings empty cs ((tt, tt), (tt, tt)) in
     record {
-      resources_have_vens = All-from_recursion (HasVen base.vens) base.resources h.0;
-      shares_have_resources = All-from_recursion (HasResource base.resources) base.shares h.1;
-      ven_names_differ = ven_names settings cs;
-      resource_names_differ = resource_names settings cs;
+      resources_have_vens = All-from_recursion (HasVen base.vens) base.resources h.0.0;
+      shares_have_resources = All-from_recursion (HasResource base.resources) base.shares h.0.1;
+      ven_names_differ = all_differ ven_name base.vens h.1.0;
+      resource_names_differ = all_differ resource_name base.resources h.1.1;
     }
