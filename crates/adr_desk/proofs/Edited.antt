@@ -9,7 +9,6 @@ use Rattle.adr_state.specs.declared.limits.Limits.{Limits}
 use Rattle.adr_sql.specs.Calls.{Stays, Commits}
 use Rattle.adr_db.specs.Bases.{HoldsBase}
 use Rattle.adr_db.proofs.Calls.{on_then}
-use Rattle.adr_machine.specs.declared.answer.Answer.{Answer}
 use Rattle.adr_machine.specs.declared.command.Command.{Command}
 use Rattle.adr_mirror.specs.Calls.{Makes}
 use Rattle.adr_desk.specs.declared.edit.Edit.{Edit}

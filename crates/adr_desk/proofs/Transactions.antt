@@ -33,10 +33,10 @@ module _ {S : Type 0} (g : Ghosts S) (old last end : Held S) where
       → Commits g old end IsDone IsLeft r
   ends_whole {T = T} x (Ok y) IsDone IsLeft stays made moves leaves ends =
       let it = committed g old last end {T = T} x (Ok y) IsDone IsLeft stays made moves leaves ends.over ends.ok (λ clean. tt) ends.crash in
-      record { done = it.done; undone = λ clean is_open. tt; over = it.over; crash = it.crash }
+      record { done = it.done; is_open = it.is_open; undone = λ clean is_open. tt; over = it.over; crash = it.crash }
   ends_whole {T = T} x (Err e) IsDone IsLeft stays made moves leaves ends =
       let it = committed g old last end {T = T} x (Err ends.err.0) IsDone IsLeft stays made moves leaves ends.over (λ clean. tt) ends.err.1 ends.crash in
-      record { done = λ clean. tt; undone = it.undone; over = it.over; crash = it.crash }
+      record { done = λ clean. tt; is_open = λ clean. tt; undone = it.undone; over = it.over; crash = it.crash }
 
 pub told_ok : (r : Result Unit Refusal) (edit : Option Edit) (P : Option Edit → Type 0) → OnOk r (P edit) → IfOk (told r edit) P
 told_ok (Ok u) edit P h = h
@@ -44,5 +44,5 @@ told_ok (Err e) edit P h = tt
 
 module _ {S : Type 0} (g : Ghosts S) (old end : Held S) where
   pub told_whole : (r : Result Unit Refusal) (edit : Option Edit) (IsDone : State → Type 0) (IsLeft : Trees → Type 0) → Commits g old end IsDone IsLeft r → Commits g old end IsDone IsLeft (told r edit)
-  told_whole (Ok u) edit IsDone IsLeft h = record { done = h.done; undone = λ clean is_open. tt; over = h.over; crash = h.crash }
-  told_whole (Err e) edit IsDone IsLeft h = record { done = λ clean. tt; undone = h.undone; over = h.over; crash = h.crash }
+  told_whole (Ok u) edit IsDone IsLeft h = record { done = h.done; is_open = h.is_open; undone = λ clean is_open. tt; over = h.over; crash = h.crash }
+  told_whole (Err e) edit IsDone IsLeft h = record { done = λ clean. tt; is_open = λ clean. tt; undone = h.undone; over = h.over; crash = h.crash }

@@ -6,6 +6,7 @@ mod desk;
 mod edit;
 mod frame;
 mod image;
+mod memory;
 
-pub use desk::SqlDesk;
+pub use desk::{MemoryDesk, SqlDesk};
 pub use edit::Edit;

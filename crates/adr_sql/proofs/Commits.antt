@@ -36,6 +36,7 @@ module _ {S : Type 0} (g : Ghosts S) (old last end : Held S) where
       → Commits g old end IsDone IsLeft r
   committed {T = T} x r IsDone IsLeft stays made moves leaves over ok err survives = record {
     done = λ clean. shown r (early clean) (ok clean);
+    is_open = λ clean. stays_open r (ok clean);
     undone = λ clean is_open. failed r (early clean) is_open (err clean);
     over = over;
     crash = survives_then (state g old) (state g last) (state g end) _ _ IsLeft (λ _ db none. absurd none)
@@ -51,6 +52,12 @@ module _ {S : Type 0} (g : Ghosts S) (old last end : Held S) where
       shown (Ok y) clean h = (moves (state g last) (state g end) h.1.now_is (made clean), h.1.committed_is ∙ sym h.1.now_is)
       shown (Err e) clean h = tt
 
+      stays_open : (r : Result T Error)
+          → OnOk r (IsTrue (state g last).in_transaction × Shows (state g last) (state g end) (state g last).now (state g last).now false × KeepsCounts (state g last) (state g end) × ((state g end).marks ≡ []))
+          → OnOk r (IsTrue (state g end).is_open)
+      stays_open (Ok y) h = h.1.is_open
+      stays_open (Err e) h = tt
+
       failed : (r : Result T Error) → HasCleanDisk (state g last) → IsTrue (state g end).is_open → IfErr r (FailsToCommit (state g last) (state g end))
           → OnErr r (((state g end).now ≡ (state g old).committed) × ((state g end).committed ≡ (state g old).committed))
       failed (Ok y) clean is_open h = tt
@@ -65,6 +72,7 @@ module _ {S : Type 0} (g : Ghosts S) (old last end : Held S) where
       → Commits g old end {T = T} {E = E} IsDone IsLeft (Err e)
   dropped q e IsDone IsLeft stays over undone survives = record {
     done = λ clean. tt;
+    is_open = λ clean. tt;
     undone = λ clean is_open.
         let early : HasCleanDisk (state g last) = omega (arith, survives.clean) in
         let back = (undone clean).undone is_open in

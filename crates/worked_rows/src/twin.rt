@@ -1,10 +1,9 @@
 //! A plain desk, and a desk over SQL that is told the same commands.
 use crate::same::is_same;
-use adr_desk::{Edit, SqlDesk};
+use adr_desk::{Edit, MemoryDesk};
 use adr_machine::{Answer, Command, Desk, PlainDesk, Query};
 use adr_state::{Image, Settings, State};
 use adr_text::{Moment, Refusal};
-use sqlite::MemStore;
 use std::alloc::Global;
 
 /// A plain desk that answers, and the tables beside it.
@@ -12,7 +11,7 @@ use std::alloc::Global;
 pub struct Twin {
     alloc: Global,
     plain: PlainDesk,
-    tables: SqlDesk<MemStore>,
+    tables: MemoryDesk,
     /// How many commands left another mirror or scan in the tables, or were answered otherwise.
     pub apart: u64,
 }
@@ -23,7 +22,7 @@ impl Twin {
         Ok(Twin {
             alloc,
             plain: PlainDesk::new(alloc, settings),
-            tables: SqlDesk::open_memory(alloc, again)?,
+            tables: MemoryDesk::open_memory(alloc, again)?,
             apart: 0,
         })
     }
@@ -46,7 +45,7 @@ fn agrees(said: &Result<Answer, Refusal>, edit: &Result<Option<Edit>, Refusal>) 
 /// Tells the tables the command, and answers whether they hold the same then.
 fn follow(
     alloc: Global,
-    tables: &mut SqlDesk<MemStore>,
+    tables: &mut MemoryDesk,
     now: Moment,
     command: &Command,
     said: &Result<Answer, Refusal>,
@@ -62,7 +61,7 @@ fn follow(
 
 fn has_followed(
     alloc: Global,
-    tables: &mut SqlDesk<MemStore>,
+    tables: &mut MemoryDesk,
     now: Moment,
     command: &Command,
     said: &Result<Answer, Refusal>,
