@@ -1,0 +1,106 @@
+//! Vens are enrolled, renamed and removed.
+ghost use Rattle.std.specs.Prelude.{◌≡◌, Ok, Some};
+ghost use Rattle.adr_sql.specs.Calls.{Stays};
+ghost use Rattle.adr_db.specs.Calls.{Finds};
+ghost use Rattle.adr_machine.specs.declared.answer.Answer.TheVariants as answer;
+ghost use Rattle.adr_machine.specs.declared.answer.Object.TheVariants as object;
+ghost use Rattle.adr_machine.specs.Edits.{has_ven, enrolled_by, ven_removed};
+ghost use Rattle.adr_machine.specs.Portfolio.{ven_row};
+ghost use Rattle.adr_mirror.specs.Calls.{Makes, Refuses};
+ghost use Rattle.adr_portfolio.specs.Checks.{new_ven};
+ghost use Rattle.adr_portfolio.specs.Calls.{RefusesBy};
+
+use crate::draw::draw;
+use adr_db::{put_ven, read_ven, read_vens, remove_ven};
+use adr_machine::number_of;
+use adr_schema::{Number, Stamps, VenObject};
+use adr_state::{Limits, Ven};
+use adr_text::{Moment, Name, ObjectId, Refusal, Table};
+use sqlite::{Alter, Transaction};
+use std::alloc::Global;
+
+fn has_name(vens: &Table<Number, Ven>, name: &Name) -> bool
+    ensures { result ≡ has_ven name.now vens.now }
+{
+    vens.iter().any(|(_, ven)| ven.name == *name)
+}
+
+/// Refuses a name that is taken, and then a ven beyond the limit.
+fn check_new<S: Alter>(
+    alloc: Global,
+    tx: &mut Transaction<'_, S>,
+    limits: &Limits,
+    name: &Name,
+) -> Result<(), Refusal>
+    ensures same_reference { tx.new.conn.ghost_name ≡ tx.old.conn.ghost_name }
+    ensures stays { Stays S.Store tx.old.conn.now tx.new.conn.now result }
+    ensures finds { Finds S.Store tx.old.conn.now tx.new.conn.now (λ kept _. new_ven limits.now name.now kept.vens ≡ Ok tt) result }
+    ensures refuses { RefusesBy S.Store tx.old.conn.now tx.new.conn.now (λ kept. new_ven limits.now name.now kept.vens) result }
+{
+    let vens = read_vens(alloc, tx)?;
+    if has_name(&vens, name) {
+        return Err(Refusal::Conflict);
+    }
+    if limits.vens.get() <= vens.len() as u64 {
+        return Err(Refusal::LimitReached);
+    }
+    Ok(())
+}
+
+/// Enrols a ven under the next number. Refused with `Conflict` where the name is taken, then with
+/// `LimitReached` and `Exhausted`.
+pub fn ven_add<S: Alter>(
+    alloc: Global,
+    tx: &mut Transaction<'_, S>,
+    limits: &Limits,
+    now: Moment,
+    name: &Name,
+) -> Result<VenObject, Refusal>
+    ensures same_reference { tx.new.conn.ghost_name ≡ tx.old.conn.ghost_name }
+    ensures stays { Stays S.Store tx.old.conn.now tx.new.conn.now result }
+    ensures makes { Makes S.Store tx.old.conn.now tx.new.conn.now (λ base. enrolled_by limits.now now base name.now) (λ _ said _ ven. said ≡ Some (answer.Object (object.Ven ven))) result }
+    ensures refuses { Refuses S.Store tx.old.conn.now tx.new.conn.now (λ base. enrolled_by limits.now now base name.now) result }
+{
+    check_new(alloc, tx, limits, name)?;
+    let number = draw(tx, limits)?;
+    let stamps = Stamps {
+        created: now,
+        modified: now,
+    };
+    let ven = Ven {
+        name: name.copy(alloc)?,
+        stamps,
+    };
+    put_ven(tx, number, &ven)?;
+    Ok(VenObject {
+        number,
+        name: ven.name,
+        stamps,
+    })
+}
+
+/// Removes a ven with its resources and their shares, and answers the ven that went. Refused with
+/// `NotFound` where it isn't there.
+pub fn ven_remove<S: Alter>(
+    alloc: Global,
+    tx: &mut Transaction<'_, S>,
+    id: &ObjectId,
+) -> Result<VenObject, Refusal>
+    ensures same_reference { tx.new.conn.ghost_name ≡ tx.old.conn.ghost_name }
+    ensures stays { Stays S.Store tx.old.conn.now tx.new.conn.now result }
+    ensures makes { Makes S.Store tx.old.conn.now tx.new.conn.now (λ base. ven_removed base (ven_row id.now base)) (λ _ said _ ven. said ≡ Some (answer.Object (object.Ven ven))) result }
+    ensures refuses { Refuses S.Store tx.old.conn.now tx.new.conn.now (λ base. ven_removed base (ven_row id.now base)) result }
+{
+    let Some(number) = number_of(b'v', id) else {
+        return Err(Refusal::NotFound);
+    };
+    let Some(ven) = read_ven(alloc, tx, number)? else {
+        return Err(Refusal::NotFound);
+    };
+    remove_ven(tx, number)?;
+    Ok(VenObject {
+        number,
+        name: ven.name,
+        stamps: ven.stamps,
+    })
+}
