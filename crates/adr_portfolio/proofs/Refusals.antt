@@ -1,5 +1,5 @@
 -- Tests one after another, the first that fails refused.
-use Rattle.std.proofs.Common.{◌≡◌, ℕ, Bool, true, false, cond, Result, Ok, Err, refl}
+use Rattle.std.proofs.Common.{◌≡◌, ℕ, Bool, true, false, cond, Result, Ok, Err, IfErr, refl}
 use Rattle.adr_text.specs.declared.refusal.Refusal.{Refusal}
 use Rattle.adr_text.specs.declared.refusal.Refusal.TheVariants.{OutOfMemory, Store, Conflict, LimitReached, Exhausted}
 use Rattle.adr_machine.specs.Steps.{IsRefusalOf}
@@ -51,3 +51,7 @@ module _ {A : Type 0} (taken full : Bool) where
       by false true ended p q = absurd cc
       by false false true p q = absurd cc
       by false false false p q = (refl, cc)
+
+pub err_then : {T E : Type 0} {P Q : E → Type 0} (r : Result T E) → ((e : E) → P e → Q e) → IfErr r P → IfErr r Q
+err_then (Ok x) f h = tt
+err_then (Err e) f h = f e h

@@ -1,10 +1,12 @@
 -- What is tested before an object is made: its name, the limit, and the numbers that are left.
-use Rattle.std.specs.Prelude.{ℕ, ◌+◌, nat_le, List, length, Result, Ok, Err, if◌then◌else◌}
+use Rattle.std.specs.Prelude.{ℕ, ◌+◌, nat_le, ◌&&◌, is_none, List, length, Result, Ok, Err, if◌then◌else◌}
 use Rattle.adr_text.specs.declared.refusal.Refusal.{Refusal}
 use Rattle.adr_text.specs.declared.refusal.Refusal.TheVariants.{Conflict, LimitReached, Exhausted}
 use Rattle.adr_state.specs.declared.base.Ven.{Ven}
 use Rattle.adr_state.specs.declared.base.Resource.{Resource}
 use Rattle.adr_state.specs.declared.limits.Limits.{Limits}
+use Rattle.adr_state.specs.declared.keys.ShareKey.{ShareKey}
+use Rattle.adr_state.specs.Keys.{share_cmp, at}
 use Rattle.adr_db.specs.Kept.{Kept}
 use Rattle.adr_machine.specs.Edits.{has_ven, has_resource}
 
@@ -22,3 +24,7 @@ drawn limits serial = if nat_le limits.serial serial then Err Exhausted else Ok 
 -- what is kept, with one more number drawn
 abbrev pub with_drawn : Kept → Kept
 with_drawn kept = record kept { meta = record kept.meta { serial = kept.meta.serial + 1 } }
+
+-- a share that is new has room
+abbrev pub new_share : Limits → ShareKey → List (ShareKey × ℕ) → Result Unit Refusal
+new_share limits key shares = if is_none (at share_cmp key shares) && nat_le limits.shares (length shares) then Err LimitReached else Ok tt

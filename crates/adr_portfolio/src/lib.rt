@@ -2,6 +2,9 @@
 #![tactic(auto)]
 
 mod draw;
+mod resource;
+mod share;
 mod ven;
 
-pub use ven::{ven_add, ven_remove};
+pub use resource::resource_add;
+pub use ven::{ven_add, ven_put, ven_remove};

@@ -4,7 +4,7 @@ ghost use Rattle.adr_sql.specs.Calls.{Stays};
 ghost use Rattle.adr_db.specs.Calls.{Finds};
 ghost use Rattle.adr_machine.specs.declared.answer.Answer.TheVariants as answer;
 ghost use Rattle.adr_machine.specs.declared.answer.Object.TheVariants as object;
-ghost use Rattle.adr_machine.specs.Edits.{has_ven, enrolled_by, ven_removed};
+ghost use Rattle.adr_machine.specs.Edits.{has_ven, has_other_ven, enrolled_by, ven_renamed, ven_removed};
 ghost use Rattle.adr_machine.specs.Portfolio.{ven_row};
 ghost use Rattle.adr_mirror.specs.Calls.{Makes, Refuses};
 ghost use Rattle.adr_portfolio.specs.Checks.{new_ven};
@@ -75,6 +75,54 @@ pub fn ven_add<S: Alter>(
     Ok(VenObject {
         number,
         name: ven.name,
+        stamps,
+    })
+}
+
+/// Whether another ven than that of the number has the name.
+fn has_other_name(number: Number, name: &Name, vens: &Table<Number, Ven>) -> bool
+    ensures { result ≡ has_other_ven number name.now vens.now }
+{
+    vens.iter()
+        .any(|(other, ven)| *other != number && ven.name == *name)
+}
+
+/// Gives a ven its name anew: it keeps when it was created, and was modified now. Refused with `NotFound`
+/// where it isn't there, and with `Conflict` where another ven has the name.
+pub fn ven_put<S: Alter>(
+    alloc: Global,
+    tx: &mut Transaction<'_, S>,
+    now: Moment,
+    id: &ObjectId,
+    name: &Name,
+) -> Result<VenObject, Refusal>
+    ensures same_reference { tx.new.conn.ghost_name ≡ tx.old.conn.ghost_name }
+    ensures stays { Stays S.Store tx.old.conn.now tx.new.conn.now result }
+    ensures makes { Makes S.Store tx.old.conn.now tx.new.conn.now (λ base. ven_renamed now base (ven_row id.now base) name.now) (λ _ said _ ven. said ≡ Some (answer.Object (object.Ven ven))) result }
+    ensures refuses { Refuses S.Store tx.old.conn.now tx.new.conn.now (λ base. ven_renamed now base (ven_row id.now base) name.now) result }
+{
+    let Some(number) = number_of(b'v', id) else {
+        return Err(Refusal::NotFound);
+    };
+    let Some(old) = read_ven(alloc, tx, number)? else {
+        return Err(Refusal::NotFound);
+    };
+    let vens = read_vens(alloc, tx)?;
+    if has_other_name(number, name, &vens) {
+        return Err(Refusal::Conflict);
+    }
+    let stamps = Stamps {
+        created: old.stamps.created,
+        modified: now,
+    };
+    let again = Ven {
+        name: name.copy(alloc)?,
+        stamps,
+    };
+    put_ven(tx, number, &again)?;
+    Ok(VenObject {
+        number,
+        name: again.name,
         stamps,
     })
 }

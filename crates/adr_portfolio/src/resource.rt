@@ -1,0 +1,113 @@
+//! Resources are added to a ven, renamed and removed.
+ghost use Rattle.std.specs.Prelude.{◌≡◌, Ok, Some, IfOk};
+ghost use Rattle.adr_sql.specs.Calls.{Stays};
+ghost use Rattle.adr_db.specs.Calls.{Finds};
+ghost use Rattle.adr_machine.specs.declared.answer.Answer.TheVariants as answer;
+ghost use Rattle.adr_machine.specs.declared.answer.Object.TheVariants as object;
+ghost use Rattle.adr_machine.specs.Edits.{has_resource, ven_at, resource_of_ven};
+ghost use Rattle.adr_mirror.specs.Calls.{Makes, Refuses};
+ghost use Rattle.adr_portfolio.specs.Checks.{new_resource};
+ghost use Rattle.adr_portfolio.specs.Calls.{RefusesBy};
+
+use crate::draw::draw;
+use adr_db::{put_resource, read_resources, read_ven};
+use adr_machine::number_of;
+use adr_schema::{Number, ResourceName, ResourceObject, Stamps};
+use adr_state::{Limits, Resource, Resources};
+use adr_text::{Moment, ObjectId, Refusal};
+use sqlite::{Alter, Transaction};
+use std::alloc::{AllocError, Global};
+
+fn has_name(resources: &Resources, name: &ResourceName) -> bool
+    ensures { result ≡ has_resource name.now resources.now }
+{
+    resources
+        .iter()
+        .any(|(_, resource)| resource.name.as_name() == name.as_name())
+}
+
+fn copy_of(name: &ResourceName) -> Result<ResourceName, AllocError>
+    ensures { IfOk result (λ copy. copy ≡ name.now) }
+{
+    name.clone()
+}
+
+/// Refuses a name that is taken, and then a resource beyond the limit.
+fn check_new<S: Alter>(
+    alloc: Global,
+    tx: &mut Transaction<'_, S>,
+    limits: &Limits,
+    name: &ResourceName,
+) -> Result<(), Refusal>
+    ensures same_reference { tx.new.conn.ghost_name ≡ tx.old.conn.ghost_name }
+    ensures stays { Stays S.Store tx.old.conn.now tx.new.conn.now result }
+    ensures finds { Finds S.Store tx.old.conn.now tx.new.conn.now (λ kept _. new_resource limits.now name.now kept.resources ≡ Ok tt) result }
+    ensures refuses { RefusesBy S.Store tx.old.conn.now tx.new.conn.now (λ kept. new_resource limits.now name.now kept.resources) result }
+{
+    let resources = read_resources(alloc, tx)?;
+    if has_name(&resources, name) {
+        return Err(Refusal::Conflict);
+    }
+    if limits.resources.get() <= resources.len() as u64 {
+        return Err(Refusal::LimitReached);
+    }
+    Ok(())
+}
+
+/// Adds a resource to the ven of a number.
+fn add_to<S: Alter>(
+    alloc: Global,
+    tx: &mut Transaction<'_, S>,
+    limits: &Limits,
+    now: Moment,
+    ven: Number,
+    name: &ResourceName,
+) -> Result<ResourceObject, Refusal>
+    ensures same_reference { tx.new.conn.ghost_name ≡ tx.old.conn.ghost_name }
+    ensures stays { Stays S.Store tx.old.conn.now tx.new.conn.now result }
+    ensures makes { Makes S.Store tx.old.conn.now tx.new.conn.now (λ base. resource_of_ven limits.now now base (Some ven) name.now) (λ _ said _ resource. said ≡ Some (answer.Object (object.Resource resource))) result }
+    ensures refuses { Refuses S.Store tx.old.conn.now tx.new.conn.now (λ base. resource_of_ven limits.now now base (Some ven) name.now) result }
+{
+    check_new(alloc, tx, limits, name)?;
+    let number = draw(tx, limits)?;
+    let stamps = Stamps {
+        created: now,
+        modified: now,
+    };
+    let resource = Resource {
+        ven,
+        name: copy_of(name)?,
+        stamps,
+    };
+    put_resource(tx, number, &resource)?;
+    Ok(ResourceObject {
+        number,
+        ven,
+        name: name.as_name().copy(alloc)?,
+        stamps,
+    })
+}
+
+/// Adds a resource to the ven of an id, under the next number. Refused with `NotFound` where the ven isn't
+/// there, then with `Conflict` where the name is taken, `LimitReached` and `Exhausted`.
+pub fn resource_add<S: Alter>(
+    alloc: Global,
+    tx: &mut Transaction<'_, S>,
+    limits: &Limits,
+    now: Moment,
+    ven: &ObjectId,
+    name: &ResourceName,
+) -> Result<ResourceObject, Refusal>
+    ensures same_reference { tx.new.conn.ghost_name ≡ tx.old.conn.ghost_name }
+    ensures stays { Stays S.Store tx.old.conn.now tx.new.conn.now result }
+    ensures makes { Makes S.Store tx.old.conn.now tx.new.conn.now (λ base. resource_of_ven limits.now now base (ven_at ven.now base) name.now) (λ _ said _ resource. said ≡ Some (answer.Object (object.Resource resource))) result }
+    ensures refuses { Refuses S.Store tx.old.conn.now tx.new.conn.now (λ base. resource_of_ven limits.now now base (ven_at ven.now base) name.now) result }
+{
+    let Some(number) = number_of(b'v', ven) else {
+        return Err(Refusal::NotFound);
+    };
+    let Some(_) = read_ven(alloc, tx, number)? else {
+        return Err(Refusal::NotFound);
+    };
+    add_to(alloc, tx, limits, now, number, name)
+}
