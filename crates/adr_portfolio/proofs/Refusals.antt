@@ -5,12 +5,12 @@ use Rattle.adr_text.specs.declared.refusal.Refusal.TheVariants.{OutOfMemory, Sto
 use Rattle.adr_machine.specs.Steps.{IsRefusalOf}
 
 -- a refusal is the same of any answer
-same_refusal : (A B : Type 0) (e d : Refusal) → IsRefusalOf {A = A} e (Err d) → IsRefusalOf {A = B} e (Err d)
+pub same_refusal : (A B : Type 0) (e d : Refusal) → IsRefusalOf {A = A} e (Err d) → IsRefusalOf {A = B} e (Err d)
 same_refusal A B OutOfMemory d h = tt
 same_refusal A B Store d h = tt
 same_refusal A B _ d h = cc
 
-not_refused : {A B : Type 0} (e : Refusal) (x : A) (r : Result B Refusal) → IsRefusalOf {A = A} e (Ok x) → IsRefusalOf e r
+pub not_refused : {A B : Type 0} (e : Refusal) (x : A) (r : Result B Refusal) → IsRefusalOf {A = A} e (Ok x) → IsRefusalOf e r
 not_refused OutOfMemory x r h = tt
 not_refused Store x r h = tt
 not_refused _ x r h = absurd cc

@@ -7,4 +7,5 @@ mod share;
 mod ven;
 
 pub use resource::resource_add;
+pub use share::share_set;
 pub use ven::{ven_add, ven_put, ven_remove};
