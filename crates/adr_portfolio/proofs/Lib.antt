@@ -1,3 +1,4 @@
 pub mod Refusals
 pub mod Vens
 pub mod Shares
+pub mod Under

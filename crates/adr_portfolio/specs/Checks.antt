@@ -1,5 +1,5 @@
 -- What is tested before an object is made: its name, the limit, and the numbers that are left.
-use Rattle.std.specs.Prelude.{ℕ, ◌+◌, nat_le, ◌&&◌, is_none, List, length, Result, Ok, Err, if◌then◌else◌}
+use Rattle.std.specs.Prelude.{ℕ, ◌+◌, nat_le, ◌&&◌, ◌||◌, ◌==◌, Bool, not, Option, None, Some, is_none, List, length, Result, Ok, Err, if◌then◌else◌}
 use Rattle.adr_text.specs.declared.refusal.Refusal.{Refusal}
 use Rattle.adr_text.specs.declared.refusal.Refusal.TheVariants.{Conflict, LimitReached, Exhausted}
 use Rattle.adr_state.specs.declared.base.Ven.{Ven}
@@ -28,3 +28,8 @@ with_drawn kept = record kept { meta = record kept.meta { serial = kept.meta.ser
 -- a share that is new has room
 abbrev pub new_share : Limits → ShareKey → List (ShareKey × ℕ) → Result Unit Refusal
 new_share limits key shares = if is_none (at share_cmp key shares) && nat_le limits.shares (length shares) then Err LimitReached else Ok tt
+
+-- the resource of a number, where it belongs to the ven of another, which is there
+abbrev pub found_under : ℕ → Option Resource → ℕ → Bool → Option (ℕ × Resource)
+found_under n None owner is_there = None
+found_under n (Some resource) owner is_there = if not is_there || not (owner == resource.ven) then None else Some (n, resource)

@@ -1,16 +1,21 @@
 //! Resources are added to a ven, renamed and removed.
-ghost use Rattle.std.specs.Prelude.{◌≡◌, Ok, Some, IfOk};
+ghost use Rattle.std.specs.Prelude.{◌≡◌, Ok, Some, IfOk, IfErr};
 ghost use Rattle.adr_sql.specs.Calls.{Stays};
-ghost use Rattle.adr_db.specs.Calls.{Finds};
+ghost use Rattle.sqlite.specs.Held.{state};
+ghost use Rattle.sqlite.specs.State.{HasCleanDisk};
+ghost use Rattle.adr_state.specs.declared.base.Base.{Base};
+ghost use Rattle.adr_db.specs.Bases.{HoldsBase};
+ghost use Rattle.adr_db.specs.Calls.{Finds, IsOfStore};
+ghost use Rattle.adr_machine.specs.Portfolio.{resource_row_under, resource_object};
 ghost use Rattle.adr_machine.specs.declared.answer.Answer.TheVariants as answer;
 ghost use Rattle.adr_machine.specs.declared.answer.Object.TheVariants as object;
-ghost use Rattle.adr_machine.specs.Edits.{has_resource, ven_at, resource_of_ven};
+ghost use Rattle.adr_machine.specs.Edits.{has_resource, ven_at, resource_of_ven, resource_removed};
 ghost use Rattle.adr_mirror.specs.Calls.{Makes, Refuses};
-ghost use Rattle.adr_portfolio.specs.Checks.{new_resource};
+ghost use Rattle.adr_portfolio.specs.Checks.{new_resource, found_under};
 ghost use Rattle.adr_portfolio.specs.Calls.{RefusesBy};
 
 use crate::draw::draw;
-use adr_db::{put_resource, read_resources, read_ven};
+use adr_db::{put_resource, read_resource, read_resources, read_ven, remove_resource};
 use adr_machine::number_of;
 use adr_schema::{Number, ResourceName, ResourceObject, Stamps};
 use adr_state::{Limits, Resource, Resources};
@@ -110,4 +115,76 @@ pub fn resource_add<S: Alter>(
         return Err(Refusal::NotFound);
     };
     add_to(alloc, tx, limits, now, number, name)
+}
+
+/// The resource of an id with its number, where it belongs to the ven of the other id.
+fn row_under<S: Alter>(
+    alloc: Global,
+    tx: &mut Transaction<'_, S>,
+    ven: &ObjectId,
+    id: &ObjectId,
+) -> Result<Option<(Number, Resource)>, Refusal>
+    ensures same_reference { tx.new.conn.ghost_name ≡ tx.old.conn.ghost_name }
+    ensures stays { Stays S.Store tx.old.conn.now tx.new.conn.now result }
+    ensures tells { HasCleanDisk (state S.Store tx.new.conn.now) → IfOk result (λ row. (base : Base) → HoldsBase base (state S.Store tx.old.conn.now) → (row ≡ resource_row_under ven.now id.now base) × HoldsBase base (state S.Store tx.new.conn.now)) }
+    ensures refused { IfErr result IsOfStore }
+{
+    let Some(number) = number_of(b'r', id) else {
+        return Ok(None);
+    };
+    let Some(owner) = number_of(b'v', ven) else {
+        return Ok(None);
+    };
+    let found = read_ven(alloc, tx, owner)?;
+    let resource = read_resource(alloc, tx, number)?;
+    Ok(under(number, resource, owner, found.is_some()))
+}
+
+// The resource, where it belongs to that ven, which is there.
+fn under(
+    number: Number,
+    resource: Option<Resource>,
+    owner: Number,
+    is_there: bool,
+) -> Option<(Number, Resource)>
+    ensures { result ≡ found_under number resource owner is_there }
+{
+    let found = resource?;
+    if !is_there || owner != found.ven {
+        return None;
+    }
+    Some((number, found))
+}
+
+fn object_of(alloc: Global, number: Number, resource: &Resource) -> Result<ResourceObject, Refusal>
+    ensures object { IfOk result (λ shown. object.Resource shown ≡ resource_object (number, resource.now)) }
+    ensures refused { IfErr result IsOfStore }
+{
+    Ok(ResourceObject {
+        number,
+        ven: resource.ven,
+        name: resource.name.as_name().copy(alloc)?,
+        stamps: resource.stamps,
+    })
+}
+
+/// Removes a resource of a ven with its shares, and answers the resource that went. Refused with `NotFound`
+/// where it isn't there, or belongs to another ven.
+pub fn resource_remove<S: Alter>(
+    alloc: Global,
+    tx: &mut Transaction<'_, S>,
+    ven: &ObjectId,
+    id: &ObjectId,
+) -> Result<ResourceObject, Refusal>
+    ensures same_reference { tx.new.conn.ghost_name ≡ tx.old.conn.ghost_name }
+    ensures stays { Stays S.Store tx.old.conn.now tx.new.conn.now result }
+    ensures makes { Makes S.Store tx.old.conn.now tx.new.conn.now (λ base. resource_removed base (resource_row_under ven.now id.now base)) (λ _ said _ resource. said ≡ Some (answer.Object (object.Resource resource))) result }
+    ensures refuses { Refuses S.Store tx.old.conn.now tx.new.conn.now (λ base. resource_removed base (resource_row_under ven.now id.now base)) result }
+{
+    let Some(row) = row_under(alloc, tx, ven, id)? else {
+        return Err(Refusal::NotFound);
+    };
+    let number = row.0;
+    remove_resource(tx, number)?;
+    object_of(alloc, number, &row.1)
 }

@@ -1,5 +1,4 @@
-use Rattle.std.proofs.Common.{rules, ◌≡◌, ◌+◌, Ok, cond, Err, sym, ap, ap₂, subst, ◌∙◌, arith, ℕ, Bool}
-use Rattle.std.proofs.lemmas.Bool.{not-true, not-false}
+use Rattle.std.proofs.Common.{rules, ◌≡◌, ◌+◌, Ok, sym, ap, subst, ◌∙◌, arith}
 use Rattle.sqlite.specs.Held.{state}
 use Rattle.sqlite.specs.State.{HasCleanDisk}
 use Rattle.adr_db.specs.declared.meta.Meta.{Meta}

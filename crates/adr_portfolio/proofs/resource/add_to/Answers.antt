@@ -1,4 +1,4 @@
-use Rattle.std.proofs.Common.{◌+◌, nat_le, length, Ok, Some, List, ℕ, sym, ap, subst, ◌∙◌, ◌≡◌, arith}
+use Rattle.std.proofs.Common.{◌+◌, nat_le, length, Some, List, ℕ, sym, subst, ◌∙◌, ◌≡◌, arith}
 use Rattle.std.specs.Ordering.{nat_cmp}
 use Rattle.std.specs.BTreeMap.{insert_entry}
 use Rattle.sqlite.specs.Held.{state}

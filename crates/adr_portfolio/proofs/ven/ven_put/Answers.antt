@@ -7,7 +7,7 @@ use Rattle.adr_db.specs.Bases.{kept_of}
 use Rattle.adr_machine.specs.declared.answer.Answer.TheVariants as answer
 use Rattle.adr_machine.specs.declared.answer.Object.TheVariants as object
 use Rattle.adr_machine.specs.Edits.{has_other_ven, ven_renamed}
-use Rattle.adr_machine.specs.Portfolio.{ven_row, ven_again, ven_object, with_ven_put}
+use Rattle.adr_machine.specs.Portfolio.{ven_again, ven_object, with_ven_put}
 use Rattle.adr_portfolio.proofs.Vens.{ven_there, ven_absent, renames, renames_other}
 use Rattle.adr_portfolio.proofs.ven.ven_put.Goals as goal
 
