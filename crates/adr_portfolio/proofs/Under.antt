@@ -1,5 +1,5 @@
 -- A resource by its id, under the ven of another id.
-use Rattle.std.proofs.Common.{◌≡◌, ℕ, Bool, true, false, not, ◌==◌, ◌||◌, cond, List, Option, Some, None, refl}
+use Rattle.std.proofs.Common.{◌≡◌, ℕ, Bool, true, false, not, ◌==◌, ◌||◌, cond, List, Option, Some, None, Err, refl}
 use Rattle.std.specs.Prelude.{is_some, option_map, option_and_then}
 use Rattle.std.specs.Option.{option_map_or}
 use Rattle.std.specs.Ordering.{nat_cmp}
@@ -8,7 +8,9 @@ use Rattle.adr_state.specs.declared.base.Resource.{Resource}
 use Rattle.adr_state.specs.declared.base.Ven.{Ven}
 use Rattle.adr_state.specs.Keys.{at}
 use Rattle.adr_machine.specs.Digits.{number_of}
-use Rattle.adr_machine.specs.Portfolio.{resource_row_under}
+use Rattle.adr_machine.specs.Portfolio.{resource_row_under, resource_again}
+use Rattle.adr_machine.specs.Edits.{has_other_resource, resource_renamed, putting_resource}
+use Rattle.adr_text.specs.declared.refusal.Refusal.TheVariants.{Conflict}
 use Rattle.adr_portfolio.specs.Checks.{found_under}
 
 pub no_number : (ven id : List ℕ) (base : Base) → number_of 114 id ≡ None → resource_row_under ven id base ≡ None
@@ -35,3 +37,11 @@ is_under ven id base n owner resource found number named resources vens = rw (nu
     by None found = refl
     by (Some r) None = refl
     by (Some r) (Some v) = both (owner == r.ven) (n, r)
+
+-- ---- a name anew
+
+pub renames : (now : ℕ) (base : Base) (row : Option (ℕ × Resource)) (n : ℕ) (old : Resource) (name : List ℕ) → row ≡ Some (n, old) → has_other_resource n name base.resources ≡ false → resource_renamed now base row name ≡ putting_resource base n (resource_again now name old)
+renames now base row n old name there other = rw (there, other) refl
+
+pub renames_other : (now : ℕ) (base : Base) (row : Option (ℕ × Resource)) (n : ℕ) (old : Resource) (name : List ℕ) → row ≡ Some (n, old) → has_other_resource n name base.resources ≡ true → resource_renamed now base row name ≡ Err Conflict
+renames_other now base row n old name there other = rw (there, other) refl

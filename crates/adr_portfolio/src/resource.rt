@@ -6,10 +6,10 @@ ghost use Rattle.sqlite.specs.State.{HasCleanDisk};
 ghost use Rattle.adr_state.specs.declared.base.Base.{Base};
 ghost use Rattle.adr_db.specs.Bases.{HoldsBase};
 ghost use Rattle.adr_db.specs.Calls.{Finds, IsOfStore};
-ghost use Rattle.adr_machine.specs.Portfolio.{resource_row_under, resource_object};
+ghost use Rattle.adr_machine.specs.Portfolio.{resource_row_under, resource_again, resource_object};
 ghost use Rattle.adr_machine.specs.declared.answer.Answer.TheVariants as answer;
 ghost use Rattle.adr_machine.specs.declared.answer.Object.TheVariants as object;
-ghost use Rattle.adr_machine.specs.Edits.{has_resource, ven_at, resource_of_ven, resource_removed};
+ghost use Rattle.adr_machine.specs.Edits.{has_resource, has_other_resource, ven_at, resource_of_ven, resource_renamed, resource_removed};
 ghost use Rattle.adr_mirror.specs.Calls.{Makes, Refuses};
 ghost use Rattle.adr_portfolio.specs.Checks.{new_resource, found_under};
 ghost use Rattle.adr_portfolio.specs.Calls.{RefusesBy};
@@ -187,4 +187,55 @@ pub fn resource_remove<S: Alter>(
     let number = row.0;
     remove_resource(tx, number)?;
     object_of(alloc, number, &row.1)
+}
+
+/// Whether another resource than that of the number has the name.
+fn has_other_name(number: Number, name: &ResourceName, resources: &Resources) -> bool
+    ensures { result ≡ has_other_resource number name.now resources.now }
+{
+    resources.iter().any(|(other, resource)| {
+        *other != number && resource.name.as_name() == name.as_name()
+    })
+}
+
+fn again_of(now: Moment, name: &ResourceName, resource: &Resource) -> Result<Resource, AllocError>
+    ensures { IfOk result (λ again. again ≡ resource_again now name.now resource.now) }
+{
+    Ok(Resource {
+        ven: resource.ven,
+        name: copy_of(name)?,
+        stamps: Stamps {
+            created: resource.stamps.created,
+            modified: now,
+        },
+    })
+}
+
+/// Gives a resource of a ven its name anew: it keeps when it was created, and was modified now. Refused with
+/// `NotFound` where it isn't there, or belongs to another ven, and with `Conflict` where another resource has
+/// the name.
+pub fn resource_put<S: Alter>(
+    alloc: Global,
+    tx: &mut Transaction<'_, S>,
+    now: Moment,
+    ven: &ObjectId,
+    id: &ObjectId,
+    name: &ResourceName,
+) -> Result<ResourceObject, Refusal>
+    ensures same_reference { tx.new.conn.ghost_name ≡ tx.old.conn.ghost_name }
+    ensures stays { Stays S.Store tx.old.conn.now tx.new.conn.now result }
+    ensures makes { Makes S.Store tx.old.conn.now tx.new.conn.now (λ base. resource_renamed now base (resource_row_under ven.now id.now base) name.now) (λ _ said _ resource. said ≡ Some (answer.Object (object.Resource resource))) result }
+    ensures refuses { Refuses S.Store tx.old.conn.now tx.new.conn.now (λ base. resource_renamed now base (resource_row_under ven.now id.now base) name.now) result }
+{
+    let Some(row) = row_under(alloc, tx, ven, id)? else {
+        return Err(Refusal::NotFound);
+    };
+    let number = row.0;
+    let resources = read_resources(alloc, tx)?;
+    if has_other_name(number, name, &resources) {
+        return Err(Refusal::Conflict);
+    }
+    let again = again_of(now, name, &row.1)?;
+    put_resource(tx, number, &again)?;
+    object_of(alloc, number, &again)
 }
