@@ -10,9 +10,10 @@ use Rattle.adr_sql.specs.Calls.{Stays, Commits}
 use Rattle.adr_db.specs.Bases.{HoldsBase}
 use Rattle.adr_db.proofs.Calls.{on_then}
 use Rattle.adr_machine.specs.declared.command.Command.{Command}
+use Rattle.adr_machine.specs.Edits.{edit}
 use Rattle.adr_mirror.specs.Calls.{Makes}
 use Rattle.adr_desk.specs.declared.edit.Edit.{Edit}
-use Rattle.adr_desk.specs.Edits.{table_edit, IsAnswer, HoldsEdited, LeftEdited, told}
+use Rattle.adr_desk.specs.Edits.{IsAnswer, HoldsEdited, LeftEdited, told}
 use Rattle.adr_desk.specs.Transactions.{Ends}
 use Rattle.adr_desk.proofs.Transactions.{held_now, ends_whole, told_whole, told_ok}
 
@@ -20,21 +21,21 @@ use Rattle.adr_desk.proofs.Transactions.{held_now, ends_whole, told_whole, told_
 pub moved : {H : Type 0} (P : H → Type 0) (x y : H) → x ≡ y → P x → P y
 moved P x y same h = subst P same h
 
-module _ {S : Type 0} (g : Ghosts S) (old begun last end : Held S) (limits : Limits) (now : ℕ) (command : Command) (edit : Option Edit) (ended : Result Unit Refusal) (answer : Result (Option Edit) Refusal) where
+module _ {S : Type 0} (g : Ghosts S) (old begun last end : Held S) (limits : Limits) (now : ℕ) (command : Command) (edited : Option Edit) (ended : Result Unit Refusal) (answer : Result (Option Edit) Refusal) where
   -- all of it is committed, or nothing is left of it
-  pub edited_whole : begun ≡ record old { in_transaction = true } → Stays g begun last {T = Option Edit} {E = Refusal} (Ok edit) → Makes g begun last {T = Option Edit} {E = Refusal} (table_edit limits now command) IsAnswer (Ok edit) → Ends g last end ended → answer ≡ told ended edit
-      → Commits g old end (λ s. (base : Base) → HoldsBase base (state g old) → HoldsEdited (table_edit limits now command) base s) (λ trees. (base : Base) → HoldsBase base (state g old) → LeftEdited (table_edit limits now command) base trees) answer
+  pub edited_whole : begun ≡ record old { in_transaction = true } → Stays g begun last {T = Option Edit} {E = Refusal} (Ok edited) → Makes g begun last {T = Option Edit} {E = Refusal} (λ base. edit limits now base command) IsAnswer (Ok edited) → Ends g last end ended → answer ≡ told ended edited
+      → Commits g old end (λ s. (base : Base) → HoldsBase base (state g old) → HoldsEdited (λ base. edit limits now base command) base s) (λ trees. (base : Base) → HoldsBase base (state g old) → LeftEdited (λ base. edit limits now base command) base trees) answer
   edited_whole is stays makes ends same =
-      rw same (told_whole g old end ended edit _ _ (ends_whole g old last end edit ended _ _ (subst (λ (b : Held S). Stays g b last {T = Option Edit} {E = Refusal} (Ok edit)) is stays)
-      (λ clean base was. let it = (subst (λ (b : Held S). Makes g b last {T = Option Edit} {E = Refusal} (table_edit limits now command) IsAnswer (Ok edit)) is makes) clean base (held_now base (state g old) _ refl was) in (it.0, it.1, it.2, it.3))
+      rw same (told_whole g old end ended edited _ _ (ends_whole g old last end edited ended _ _ (subst (λ (b : Held S). Stays g b last {T = Option Edit} {E = Refusal} (Ok edited)) is stays)
+      (λ clean base was. let it = (subst (λ (b : Held S). Makes g b last {T = Option Edit} {E = Refusal} (λ base. edit limits now base command) IsAnswer (Ok edited)) is makes) clean base (held_now base (state g old) _ refl was) in (it.0, it.1, it.2, it.3))
       (λ a b same done base was. let it = done base was in (it.0, it.1, it.2, held_now it.1 a b same it.3))
       (λ s done base was. let it = done base was in (it.0, it.1, it.2, it.3.rows.each))
       ends))
 
   -- and what is answered is right for what was committed
-  pub edited_makes : begun ≡ record old { in_transaction = true } → Makes g begun last {T = Option Edit} {E = Refusal} (table_edit limits now command) IsAnswer (Ok edit) → Ends g last end ended → answer ≡ told ended edit → Makes g old end (table_edit limits now command) IsAnswer answer
+  pub edited_makes : begun ≡ record old { in_transaction = true } → Makes g begun last {T = Option Edit} {E = Refusal} (λ base. edit limits now base command) IsAnswer (Ok edited) → Ends g last end ended → answer ≡ told ended edited → Makes g old end (λ base. edit limits now base command) IsAnswer answer
   edited_makes is makes ends same clean =
       let early : HasCleanDisk (state g last) = omega (arith, ends.crash.clean) in
-      rw same (told_ok ended edit _ (on_then ended (λ shown base was.
-      let it = (subst (λ (b : Held S). Makes g b last {T = Option Edit} {E = Refusal} (table_edit limits now command) IsAnswer (Ok edit)) is makes) early base (held_now base (state g old) _ refl was) in
+      rw same (told_ok ended edited _ (on_then ended (λ shown base was.
+      let it = (subst (λ (b : Held S). Makes g b last {T = Option Edit} {E = Refusal} (λ base. edit limits now base command) IsAnswer (Ok edited)) is makes) early base (held_now base (state g old) _ refl was) in
       (it.0, it.1, it.2, held_now it.1 (state g last) _ shown.1.now_is it.3, it.4)) (ends.ok clean)))

@@ -16,25 +16,7 @@ use Rattle.adr_machine.specs.declared.command.Command.TheVariants.{Evidence, Gon
 use Rattle.adr_machine.specs.Edits.{edit}
 use Rattle.adr_mirror.specs.Raises.{HaveRisen}
 use Rattle.adr_desk.specs.declared.edit.Edit.{Edit}
-use Rattle.adr_desk.specs.declared.edit.Edit.TheVariants.{Raised, Done, Probes}
-
--- whether the objects of a command have no table yet
-abbrev pub is_without_table : Command → Bool
-is_without_table (Evidence founds polled) = false
-is_without_table (Gone kind id) = false
-is_without_table ScanBegin = false
-is_without_table ScanEnd = false
-is_without_table (VenAdd role ven) = true
-is_without_table (VenPut role id ven) = true
-is_without_table (VenRemove role id) = true
-is_without_table (ResourceAdd role ven resource) = true
-is_without_table (ResourcePut role ven id resource) = true
-is_without_table (ResourceRemove role ven id) = true
-is_without_table (ShareSet role program resource share) = true
-
--- the machine's edit, where the tables take the command; else the base stays
-abbrev pub table_edit : Limits → ℕ → Command → Base → Result (Option Answer × Base) Refusal
-table_edit limits now command base = if is_without_table command then Ok (None, base) else edit limits now base command
+use Rattle.adr_desk.specs.declared.edit.Edit.TheVariants.{Raised, Done, Probes, Object, Share}
 
 -- what is answered beside what the machine says: for evidence and a deletion the keys whose mark rose
 abbrev pub IsAnswer : Base → Option Answer → Base → Option Edit → Type 0
@@ -42,6 +24,8 @@ IsAnswer before said after None = Unit {0}
 IsAnswer before said after (Some (Raised keys)) = (said ≡ None) × HaveRisen before.mirror after.mirror keys
 IsAnswer before said after (Some Done) = said ≡ Some answer.Done
 IsAnswer before said after (Some (Probes keys)) = said ≡ Some (answer.Probes keys)
+IsAnswer before said after (Some (Object object)) = said ≡ Some (answer.Object object)
+IsAnswer before said after (Some (Share share)) = said ≡ Some (answer.Share share)
 
 -- the answer, where the commit went well
 abbrev pub told : Result Unit Refusal → Option Edit → Result (Option Edit) Refusal

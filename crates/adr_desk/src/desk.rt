@@ -7,9 +7,10 @@ ghost use Rattle.adr_state.specs.States.{empty};
 ghost use Rattle.adr_db.specs.Bases.{HoldsBase};
 ghost use Rattle.adr_db.specs.Calls.{IsOfStore};
 ghost use Rattle.adr_machine.specs.declared.answer.Answer.{Answer};
+ghost use Rattle.adr_machine.specs.Edits.{edit};
 ghost use Rattle.adr_machine.specs.Steps.{IsRefusalOf};
 ghost use Rattle.adr_desk.specs.Images.{image_of};
-ghost use Rattle.adr_desk.specs.Edits.{is_without_table, table_edit, IsAnswer, LeftEdited};
+ghost use Rattle.adr_desk.specs.Edits.{IsAnswer, LeftEdited};
 
 use crate::create::create_in;
 use crate::edit::{Edit, edit_in};
@@ -77,17 +78,17 @@ impl<S: Alter> SqlDesk<S> {
         image_in(self.alloc, &mut self.conn)
     }
 
-    /// Applies a command to the tables, in one transaction, and answers what it made of them. None is
-    /// answered for a command whose objects have no table yet; it changes nothing. A refusal leaves all
-    /// as it was, where the store is open.
+    /// Applies a command to the tables, in one transaction, and answers what it made of them. Every command
+    /// there is has tables, so None is never answered. A refusal leaves all as it was, where the store is
+    /// open.
     pub fn edit(&mut self, now: Moment, command: &Command) -> Result<Option<Edit>, Refusal>
-        ensures makes { HasCleanDisk (shown S.Store self.new) → IfOk result (λ edit. (base : Base) → HoldsBase base (shown S.Store self.old) → (said : Option Answer) × (after : Base) × (table_edit (settings_of self.old).limits now command.now base ≡ Ok (said, after)) × HoldsBase after (shown S.Store self.new) × IsAnswer base said after edit) }
+        ensures makes { HasCleanDisk (shown S.Store self.new) → IfOk result (λ told. (base : Base) → HoldsBase base (shown S.Store self.old) → (said : Option Answer) × (after : Base) × (edit (settings_of self.old).limits now base command.now ≡ Ok (said, after)) × HoldsBase after (shown S.Store self.new) × IsAnswer base said after told) }
         ensures committed { HasCleanDisk (shown S.Store self.new) → OnOk result ((shown S.Store self.new).committed ≡ (shown S.Store self.new).now) }
-        ensures without { IfOk result (λ edit. is_none edit ≡ is_without_table command.now) }
-        ensures refused { HasCleanDisk (shown S.Store self.new) → IfErr result (λ refusal. (base : Base) → HoldsBase base (shown S.Store self.old) → IsRefusalOf refusal (table_edit (settings_of self.old).limits now command.now base)) }
+        ensures some { IfOk result (λ edit. is_none edit ≡ false) }
+        ensures refused { HasCleanDisk (shown S.Store self.new) → IfErr result (λ refusal. (base : Base) → HoldsBase base (shown S.Store self.old) → IsRefusalOf refusal (edit (settings_of self.old).limits now base command.now)) }
         ensures unchanged { HasCleanDisk (shown S.Store self.new) → IsTrue (shown S.Store self.new).is_open → OnErr result ((base : Base) → HoldsBase base (shown S.Store self.old) → HoldsBase base (shown S.Store self.new)) }
         ensures same_settings { settings_of self.new ≡ settings_of self.old }
-        ensures crash { Survives (shown S.Store self.old) (shown S.Store self.new) (λ trees. (base : Base) → HoldsBase base (shown S.Store self.old) → LeftEdited (table_edit (settings_of self.old).limits now command.now) base trees) }
+        ensures crash { Survives (shown S.Store self.old) (shown S.Store self.new) (λ trees. (base : Base) → HoldsBase base (shown S.Store self.old) → LeftEdited (λ base. edit (settings_of self.old).limits now base command.now) base trees) }
     {
         edit_in(
             self.alloc,

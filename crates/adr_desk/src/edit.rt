@@ -5,14 +5,18 @@ ghost use Rattle.sqlite.specs.State.{HasCleanDisk};
 ghost use Rattle.adr_state.specs.declared.base.Base.{Base};
 ghost use Rattle.adr_sql.specs.Calls.{Stays, Commits};
 ghost use Rattle.adr_db.specs.Bases.{HoldsBase};
-ghost use Rattle.adr_machine.specs.Edits.{evidence, gone, scan_begin, scan_end};
+ghost use Rattle.adr_machine.specs.Edits.{evidence, gone, scan_begin, scan_end, edit};
 ghost use Rattle.adr_mirror.specs.Calls.{Makes, Refuses};
-ghost use Rattle.adr_desk.specs.Edits.{is_without_table, table_edit, IsAnswer, HoldsEdited, LeftEdited, told};
+ghost use Rattle.adr_desk.specs.Edits.{IsAnswer, HoldsEdited, LeftEdited, told};
 
 use crate::frame::{begin, commit};
-use adr_machine::Command;
+use crate::portfolio::{
+    with_resource, with_resource_removed, with_resource_renamed, with_share, with_ven,
+    with_ven_removed, with_ven_renamed,
+};
+use adr_machine::{Command, Object};
 use adr_mirror::{gone, put_evidence, scan_begin, scan_end};
-use adr_schema::{Found, Kind};
+use adr_schema::{Found, Kind, ShareObject};
 use adr_state::{Limits, MirrorKey};
 use adr_text::{Moment, ObjectId, Refusal, Rows};
 use sqlite::{Alter, Connection, Transaction};
@@ -28,6 +32,10 @@ pub enum Edit {
     Done,
     /// A scan was closed: the live keys that it missed, in the same order.
     Probes(Rows<MirrorKey>),
+    /// A ven or a resource: as it is after it was added or renamed, or as it was when it went.
+    Object(Object),
+    /// A share as it was set.
+    Share(ShareObject),
 }
 
 fn with_evidence<S: Alter>(
@@ -107,8 +115,7 @@ fn with_scan_begun<S: Alter>(tx: &mut Transaction<'_, S>) -> Result<Option<Edit>
     Ok(Some(Edit::Done))
 }
 
-/// The command on a lent transaction. None where its objects have no table yet: then all stays.
-#[tactic(auto, unfolding(crate::specs::Edits::table_edit))]
+/// The command on a lent transaction.
 fn edited<S: Alter>(
     alloc: Global,
     tx: &mut Transaction<'_, S>,
@@ -118,9 +125,9 @@ fn edited<S: Alter>(
 ) -> Result<Option<Edit>, Refusal>
     ensures same_reference { tx.new.conn.ghost_name ≡ tx.old.conn.ghost_name }
     ensures stays { Stays S.Store tx.old.conn.now tx.new.conn.now result }
-    ensures makes { Makes S.Store tx.old.conn.now tx.new.conn.now (table_edit limits.now now command.now) IsAnswer result }
-    ensures refuses { Refuses S.Store tx.old.conn.now tx.new.conn.now (table_edit limits.now now command.now) result }
-    ensures without { IfOk result (λ edit. is_none edit ≡ is_without_table command.now) }
+    ensures makes { Makes S.Store tx.old.conn.now tx.new.conn.now (λ base. edit limits.now now base command.now) IsAnswer result }
+    ensures refuses { Refuses S.Store tx.old.conn.now tx.new.conn.now (λ base. edit limits.now now base command.now) result }
+    ensures some { IfOk result (λ edit. is_none edit ≡ false) }
 {
     match command {
         Command::Evidence { found, polled } => {
@@ -129,13 +136,31 @@ fn edited<S: Alter>(
         Command::Gone { kind, id } => with_gone(alloc, tx, limits, *kind, id),
         Command::ScanBegin => with_scan_begun(tx),
         Command::ScanEnd => with_scan_ended(alloc, tx),
-        Command::VenAdd { .. }
-        | Command::VenPut { .. }
-        | Command::VenRemove { .. }
-        | Command::ResourceAdd { .. }
-        | Command::ResourcePut { .. }
-        | Command::ResourceRemove { .. }
-        | Command::ShareSet { .. } => Ok(None),
+        Command::VenAdd { role, ven } => with_ven(alloc, tx, limits, now, role, &ven.name),
+        Command::VenPut { role, id, ven } => {
+            with_ven_renamed(alloc, tx, now, role, id, &ven.name)
+        }
+        Command::VenRemove { role, id } => with_ven_removed(alloc, tx, role, id),
+        Command::ResourceAdd {
+            role,
+            ven,
+            resource,
+        } => with_resource(alloc, tx, limits, now, role, ven, &resource.name),
+        Command::ResourcePut {
+            role,
+            ven,
+            id,
+            resource,
+        } => with_resource_renamed(alloc, tx, now, role, ven, id, &resource.name),
+        Command::ResourceRemove { role, ven, id } => {
+            with_resource_removed(alloc, tx, role, ven, id)
+        }
+        Command::ShareSet {
+            role,
+            program,
+            resource,
+            share,
+        } => with_share(alloc, tx, limits, role, program, resource, share.share),
     }
 }
 
@@ -159,13 +184,13 @@ pub(crate) fn edit_in<S: Alter>(
 ) -> Result<Option<Edit>, Refusal>
     requires { conn.old.in_transaction ≡ false }
     ensures whole { Commits S.Store conn.old conn.new
-        (λ s. (base : Base) → HoldsBase base (state S.Store conn.old) → HoldsEdited (table_edit limits.now now command.now) base s)
-        (λ trees. (base : Base) → HoldsBase base (state S.Store conn.old) → LeftEdited (table_edit limits.now now command.now) base trees)
+        (λ s. (base : Base) → HoldsBase base (state S.Store conn.old) → HoldsEdited (λ base. edit limits.now now base command.now) base s)
+        (λ trees. (base : Base) → HoldsBase base (state S.Store conn.old) → LeftEdited (λ base. edit limits.now now base command.now) base trees)
         result }
-    ensures makes { Makes S.Store conn.old conn.new (table_edit limits.now now command.now) IsAnswer result }
-    ensures refuses { Refuses S.Store conn.old conn.new (table_edit limits.now now command.now) result }
+    ensures makes { Makes S.Store conn.old conn.new (λ base. edit limits.now now base command.now) IsAnswer result }
+    ensures refuses { Refuses S.Store conn.old conn.new (λ base. edit limits.now now base command.now) result }
     ensures unchanged { HasCleanDisk (state S.Store conn.new) → IsTrue (state S.Store conn.new).is_open → OnErr result ((state S.Store conn.new).now ≡ (state S.Store conn.old).now) }
-    ensures without { IfOk result (λ edit. is_none edit ≡ is_without_table command.now) }
+    ensures some { IfOk result (λ edit. is_none edit ≡ false) }
 {
     let mut tx = begin(conn);
     let edit = edited(alloc, &mut tx, limits, now, command)?;

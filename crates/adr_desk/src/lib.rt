@@ -7,6 +7,7 @@ mod edit;
 mod frame;
 mod image;
 mod memory;
+mod portfolio;
 
 pub use desk::{MemoryDesk, SqlDesk};
 pub use edit::Edit;

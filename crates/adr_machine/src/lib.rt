@@ -27,4 +27,4 @@ pub use plain::PlainDesk;
 pub use query::{Page, Query};
 pub use role::Role;
 pub use runs::run;
-pub use sight::Sight;
+pub use sight::{Sight, is_operator};

@@ -18,7 +18,8 @@ pub enum Sight {
     Of(Number),
 }
 
-pub(crate) fn is_operator(role: &Role) -> bool
+/// Whether the role is the operator's, who alone changes vens, resources and shares.
+pub fn is_operator(role: &Role) -> bool
     ensures { result ≡ is_operator role.now }
 {
     match role {

@@ -18,6 +18,7 @@
 #![tactic(auto)]
 
 mod play;
+mod portfolio;
 mod reader;
 mod report;
 mod row;

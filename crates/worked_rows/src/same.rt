@@ -1,4 +1,5 @@
-//! Whether two images hold the same mirror and the same scan.
+//! Whether two images hold the same base.
+use crate::portfolio::is_same_portfolio;
 use adr_schema::{Body, canonical};
 use adr_state::{Image, Mark, MirrorKey, Polled};
 use adr_text::Table;
@@ -57,8 +58,9 @@ fn is_same_scan(scan: &Option<Polled>, other: &Option<Polled>) -> bool {
     }
 }
 
-/// Whether both hold the same mirror and the same scan.
+/// Whether both hold the same mirror, the same scan, the same vens, resources and shares, and the same serial.
 pub fn is_same(alloc: Global, image: &Image, other: &Image) -> Result<bool, AllocError> {
     let mirror = is_same_mirror(alloc, &image.base.mirror, &other.base.mirror)?;
-    Ok(mirror && is_same_scan(&image.base.scan, &other.base.scan))
+    let scan = is_same_scan(&image.base.scan, &other.base.scan);
+    Ok(mirror && scan && is_same_portfolio(&image.base, &other.base))
 }

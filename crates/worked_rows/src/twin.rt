@@ -1,4 +1,5 @@
 //! A plain desk, and a desk over SQL that is told the same commands.
+use crate::portfolio::{is_same_object, is_same_share};
 use crate::same::is_same;
 use adr_desk::{Edit, MemoryDesk};
 use adr_machine::{Answer, Command, Desk, PlainDesk, Query};
@@ -12,7 +13,7 @@ pub struct Twin {
     alloc: Global,
     plain: PlainDesk,
     tables: MemoryDesk,
-    /// How many commands left another mirror or scan in the tables, or were answered otherwise.
+    /// How many commands left another base in the tables, or were answered otherwise.
     pub apart: u64,
 }
 
@@ -28,15 +29,18 @@ impl Twin {
     }
 }
 
-/// Whether the tables answered as the machine does, so far as they answer.
+/// Whether the tables answered as the machine does; of evidence they answer the keys, and not their number.
 fn agrees(said: &Result<Answer, Refusal>, edit: &Result<Option<Edit>, Refusal>) -> bool {
     match (said, edit) {
-        (_, Ok(None)) => true,
         (Ok(Answer::Changes(_)), Ok(Some(Edit::Raised(_)))) => true,
         (Ok(Answer::Done), Ok(Some(Edit::Done))) => true,
         (Ok(Answer::Probes(keys)), Ok(Some(Edit::Probes(others)))) => {
             keys.as_slice() == others.as_slice()
         }
+        (Ok(Answer::Object(object)), Ok(Some(Edit::Object(other)))) => {
+            is_same_object(object, other)
+        }
+        (Ok(Answer::Share(share)), Ok(Some(Edit::Share(other)))) => is_same_share(share, other),
         (Err(refusal), Err(other)) => refusal == other,
         _ => false,
     }

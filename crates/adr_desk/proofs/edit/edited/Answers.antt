@@ -29,3 +29,59 @@ returns-in-ScanEnd-clause-makes g c = rw c.in-ScanEnd.is c.with_scan_ended.ensur
 pub returns-in-ScanEnd-clause-refuses : goal.returns-in-ScanEnd-clause-refuses
 unfolding edit
 returns-in-ScanEnd-clause-refuses g c = rw c.in-ScanEnd.is c.with_scan_ended.ensures.refuses
+
+pub returns-in-VenAdd-clause-makes : goal.returns-in-VenAdd-clause-makes
+unfolding edit
+returns-in-VenAdd-clause-makes g c = rw c.in-VenAdd.is c.with_ven.ensures.makes
+
+pub returns-in-VenAdd-clause-refuses : goal.returns-in-VenAdd-clause-refuses
+unfolding edit
+returns-in-VenAdd-clause-refuses g c = rw c.in-VenAdd.is c.with_ven.ensures.refuses
+
+pub returns-in-VenPut-clause-makes : goal.returns-in-VenPut-clause-makes
+unfolding edit
+returns-in-VenPut-clause-makes g c = rw c.in-VenPut.is c.with_ven_renamed.ensures.makes
+
+pub returns-in-VenPut-clause-refuses : goal.returns-in-VenPut-clause-refuses
+unfolding edit
+returns-in-VenPut-clause-refuses g c = rw c.in-VenPut.is c.with_ven_renamed.ensures.refuses
+
+pub returns-in-VenRemove-clause-makes : goal.returns-in-VenRemove-clause-makes
+unfolding edit
+returns-in-VenRemove-clause-makes g c = rw c.in-VenRemove.is c.with_ven_removed.ensures.makes
+
+pub returns-in-VenRemove-clause-refuses : goal.returns-in-VenRemove-clause-refuses
+unfolding edit
+returns-in-VenRemove-clause-refuses g c = rw c.in-VenRemove.is c.with_ven_removed.ensures.refuses
+
+pub returns-in-ResourceAdd-clause-makes : goal.returns-in-ResourceAdd-clause-makes
+unfolding edit
+returns-in-ResourceAdd-clause-makes g c = rw c.in-ResourceAdd.is c.with_resource.ensures.makes
+
+pub returns-in-ResourceAdd-clause-refuses : goal.returns-in-ResourceAdd-clause-refuses
+unfolding edit
+returns-in-ResourceAdd-clause-refuses g c = rw c.in-ResourceAdd.is c.with_resource.ensures.refuses
+
+pub returns-in-ResourcePut-clause-makes : goal.returns-in-ResourcePut-clause-makes
+unfolding edit
+returns-in-ResourcePut-clause-makes g c = rw c.in-ResourcePut.is c.with_resource_renamed.ensures.makes
+
+pub returns-in-ResourcePut-clause-refuses : goal.returns-in-ResourcePut-clause-refuses
+unfolding edit
+returns-in-ResourcePut-clause-refuses g c = rw c.in-ResourcePut.is c.with_resource_renamed.ensures.refuses
+
+pub returns-in-ResourceRemove-clause-makes : goal.returns-in-ResourceRemove-clause-makes
+unfolding edit
+returns-in-ResourceRemove-clause-makes g c = rw c.in-ResourceRemove.is c.with_resource_removed.ensures.makes
+
+pub returns-in-ResourceRemove-clause-refuses : goal.returns-in-ResourceRemove-clause-refuses
+unfolding edit
+returns-in-ResourceRemove-clause-refuses g c = rw c.in-ResourceRemove.is c.with_resource_removed.ensures.refuses
+
+pub returns-in-ShareSet-clause-makes : goal.returns-in-ShareSet-clause-makes
+unfolding edit
+returns-in-ShareSet-clause-makes g c = rw c.in-ShareSet.is c.with_share.ensures.makes
+
+pub returns-in-ShareSet-clause-refuses : goal.returns-in-ShareSet-clause-refuses
+unfolding edit
+returns-in-ShareSet-clause-refuses g c = rw c.in-ShareSet.is c.with_share.ensures.refuses
