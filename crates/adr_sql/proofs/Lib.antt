@@ -4,6 +4,7 @@ pub mod Places
 pub mod References
 pub mod Puts
 pub mod Selections
+pub mod Joins
 pub mod Removals
 pub mod Upserts
 pub mod Counts

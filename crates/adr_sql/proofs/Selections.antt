@@ -193,7 +193,7 @@ shown_cells : (n at : ℕ) (env : Env) (e : Row) → slice_index_or env 1 [] ≡
 shown_cells zero at env e h = refl
 shown_cells (suc n) at env e h = ap₂ ◌∷◌ (ap (λ r. column r (suc at)) h) (shown_cells n (suc at) env e h)
 
-sort_cells : (n at : ℕ) (env : Env) (e : Row) → slice_index_or env 1 [] ≡ Null ∷ e → eval_all (map (λ (k : Term × Key). k.0) (order_from at n)) env ≡ cells at n e
+pub sort_cells : (n at : ℕ) (env : Env) (e : Row) → slice_index_or env 1 [] ≡ Null ∷ e → eval_all (map (λ (k : Term × Key). k.0) (order_from at n)) env ≡ cells at n e
 sort_cells zero at env e h = refl
 sort_cells (suc n) at env e h = ap₂ ◌∷◌ (ap (λ r. column r (suc at)) h) (sort_cells n (suc at) env e h)
 
@@ -206,10 +206,43 @@ same_order zero at a b = refl
 same_order (suc n) at a b =
     ap (ordering_then (by_key (ascending Binary) (column a at) (column b at))) (key_cmp_shift (rising n []) 0 (column a at) (column b at) (cells (suc at) n a) (cells (suc at) n b) ∙ same_order n (suc at) a b)
 
-ordered_as : (q : Query) (n : ℕ) → q.order ≡ order_from 0 n → (x y : Output) (a b : Row) → x.0 ≡ cells 0 n a → y.0 ≡ cells 0 n b → output_cmp q x y ≡ key_order n a b
+pub ordered_as : (q : Query) (n : ℕ) → q.order ≡ order_from 0 n → (x y : Output) (a b : Row) → x.0 ≡ cells 0 n a → y.0 ≡ cells 0 n b → output_cmp q x y ≡ key_order n a b
 ordered_as q n is x y a b p q' = ap₂ (λ u v. key_cmp 0 (map (λ (k : Term × Key). k.1) q.order) u v) p q' ∙ ap (λ ks. key_cmp 0 ks (cells 0 n a) (cells 0 n b)) (ap (map (λ (k : Term × Key). k.1)) is ∙ sort_keys n 0) ∙ same_order n 0 a b
 
 -- ---- the statement
+
+-- what `refl` finds of the text of a query over known tables that reads no rowid
+pub record IsQueryText (schema : Schema) (q : Query) (sql : List ℕ) : Type 0 where
+  pub names : List (List ℕ)
+  pub command : command_of (understood schema sql) ≡ Select (record { lets = []; body = q }) names
+  pub alone : IsPlainText (understood schema sql)
+  pub unlisted : reads_listing schema sql ≡ false
+  pub ungrouped : q.group ≡ None
+  pub undistinct : q.distinct ≡ false
+  pub joins : fair (is_tree schema.tables) (false ∷ []) q.filter q.from ≡ true
+  pub sorts : list_all (blind (slots (false ∷ []) q.from)) (map (λ (k : Term × Key). k.0) q.order) ≡ true
+  pub shows : list_all (blind (slots (false ∷ []) q.from)) q.project ≡ true
+
+module _ (schema : Schema) (q : Query) (sql : List ℕ) (params : Row) (text : IsQueryText schema q sql) where
+  abbrev pub found_in : Contents → List Output
+  found_in all = map (output q) (matches (seen schema.tables all) q.filter q.from (params ∷ []))
+
+  -- what a query finds in the contents of the tables is its answer, where it is found in the order of the query
+  pub query_runs : (old new : State) (rows : List Row) (all : Contents) → Shown sql params old new rows → Holds schema all old
+      → IsAscending (λ x y. output_cmp q x y ≡ Less) (found_in all) → rows ≡ page q params (map (λ (o : Output). o.1) (found_in all))
+  query_runs old new rows all h was up =
+      let db = old.now.trees in
+      let read = reads_as sql params old new schema was.has _ text.command text.alone text.unlisted rows h in
+      let a : IsAnswer q (overlay db []) params rows = read.answer Null in
+      let over : overlay db [] ≡ db = λ i t. overlay_none db t i in
+      let kept : a.kept ≡ map (output q) (matches db q.filter q.from (params ∷ [])) =
+      subst (λ b. Rattle.sqlite_sql.specs.Query.IsKept b q.collations (map (output q) a.staged) a.kept) text.undistinct a.distinct
+      ∙ ap (map (output q)) (subst (λ g. Rattle.sqlite_sql.specs.Group.IsGrouped g params (matches (overlay db []) q.filter q.from (params ∷ [])) a.staged) text.ungrouped a.grouped ∙ ap (λ (d : Trees). matches d q.filter q.from (params ∷ [])) over) in
+      let known : (t : ℕ) → is_tree schema.tables t ≡ true → IsPermutation (map bare (db t)) (seen schema.tables all t) = λ t is. stored_is_seen schema.tables db all t was.each is in
+      let blind_out : (e : Env) → output q e ≡ output q (erased (slots (false ∷ []) q.from) e) = λ e. ap₂ (λ (x y : Row). (x, y)) (eval_all_same _ _ e text.sorts) (eval_all_same _ _ e text.shows) in
+      let there = sees db (seen schema.tables all) (is_tree schema.tables) known (output q) q.from (false ∷ []) q.filter (params ∷ []) refl text.joins blind_out in
+      let all_same : IsPermutation (found_in all) a.ordered = IsPermutation-trans _ _ _ (IsPermutation-sym _ _ there) (subst (λ l. IsPermutation l a.ordered) kept a.same) in
+      a.shown ∙ ap (λ os. page q params (map (λ (o : Output). o.1) os)) (sorted_unique (output_cmp q) (output_cmp_total q) _ _ up all_same a.sorted)
 
 -- what `refl` finds of a text that selects from a table, whose tests count in other tables
 pub record IsSelectText (schema : Schema) (table : Table) (q : Query) (rest : Join) (sql : List ℕ) : Type 0 where
@@ -234,11 +267,24 @@ module _ (schema : Schema) (at : ℕ) (table : Table) (it : IsFound schema at ta
   abbrev pub is_match : Contents → Row → Bool
   is_match all e = list_all (holds (scope all e)) q.filter
 
-  abbrev found_in : Contents → List Output
-  found_in all = map (output q) (matches (seen schema.tables all) q.filter q.from (params ∷ []))
+  query_text : IsQueryText schema q sql
+  query_text = record {
+    names = text.names;
+    command = text.command;
+    alone = text.alone;
+    unlisted = text.unlisted;
+    ungrouped = text.ungrouped;
+    undistinct = text.undistinct;
+    joins = text.joins;
+    sorts = text.sorts;
+    shows = text.shows;
+  }
+
+  abbrev found : Contents → List Output
+  found all = found_in schema q sql params query_text all
 
   -- what is found are the rows of the table that pass
-  found_is : (all : Contents) → found_in all ≡ map (λ e. output q (scope all e)) (filter (is_match all) (rows_of_table all at))
+  found_is : (all : Contents) → found all ≡ map (λ e. output q (scope all e)) (filter (is_match all) (rows_of_table all at))
   found_is all =
       let them = seen schema.tables all in
       let one : (e : Row) → matches them q.filter rest (params ∷ (Null ∷ e) ∷ []) ≡ cond (is_match all e) (scope all e ∷ []) [] = λ e. flat_one them q.filter rest (params ∷ (Null ∷ e) ∷ []) text.flat in
@@ -248,34 +294,19 @@ module _ (schema : Schema) (at : ℕ) (table : Table) (it : IsFound schema at ta
       ∙ map-map (output q) (scope all) (filter (is_match all) (by_tree schema.tables all table.tree))
       ∙ ap (λ rows. map (λ e. output q (scope all e)) (filter (is_match all) rows)) (by_tree_is schema.tables at table all it.found it.alone)
 
-  found_rises : (all : Contents) → IsAscending (λ a b. key_order (length table.primary) a b ≡ Less) (rows_of_table all at) → IsAscending (λ x y. output_cmp q x y ≡ Less) (found_in all)
+  found_rises : (all : Contents) → IsAscending (λ a b. key_order (length table.primary) a b ≡ Less) (rows_of_table all at) → IsAscending (λ x y. output_cmp q x y ≡ Less) (found all)
   found_rises all rises =
       let n = length table.primary in
       let keyed : (e : Row) → (output q (scope all e)).0 ≡ cells 0 n e = λ e. ap (λ o. eval_all (map (λ (k : Term × Key). k.0) o) (scope all e)) text.order ∙ sort_cells n 0 (scope all e) e (slot_kept (seen schema.tables all) rest params (Null ∷ e) []) in
       subst (IsAscending (λ (x y : Output). output_cmp q x y ≡ Less)) (sym (found_is all))
       (ascending-map _ (λ e. output q (scope all e)) _ (ascending_weaker _ (λ a b. output_cmp q (output q (scope all a)) (output q (scope all b)) ≡ Less) (λ a b less. ordered_as q n text.order (output q (scope all a)) (output q (scope all b)) a b (keyed a) (keyed b) ∙ less) _ (ascending-filter _ (is_match all) (rows_of_table all at) rises)))
 
-  answer_is : (db : Trees) (all : Contents) (rows : List Row) → StoresEach schema.tables db all → IsSureAnswer q (overlay db []) params rows
-      → IsAscending (λ x y. output_cmp q x y ≡ Less) (found_in all) → rows ≡ page q params (map (λ (o : Output). o.1) (found_in all))
-  answer_is db all rows holds sure up =
-      let a : IsAnswer q (overlay db []) params rows = sure Null in
-      let over : overlay db [] ≡ db = λ i t. overlay_none db t i in
-      let kept : a.kept ≡ map (output q) (matches db q.filter q.from (params ∷ [])) =
-      subst (λ b. Rattle.sqlite_sql.specs.Query.IsKept b q.collations (map (output q) a.staged) a.kept) text.undistinct a.distinct
-      ∙ ap (map (output q)) (subst (λ g. Rattle.sqlite_sql.specs.Group.IsGrouped g params (matches (overlay db []) q.filter q.from (params ∷ [])) a.staged) text.ungrouped a.grouped ∙ ap (λ (d : Trees). matches d q.filter q.from (params ∷ [])) over) in
-      let known : (t : ℕ) → is_tree schema.tables t ≡ true → IsPermutation (map bare (db t)) (seen schema.tables all t) = λ t is. stored_is_seen schema.tables db all t holds is in
-      let blind_out : (e : Env) → output q e ≡ output q (erased (slots (false ∷ []) q.from) e) = λ e. ap₂ (λ (x y : Row). (x, y)) (eval_all_same _ _ e text.sorts) (eval_all_same _ _ e text.shows) in
-      let there = sees db (seen schema.tables all) (is_tree schema.tables) known (output q) q.from (false ∷ []) q.filter (params ∷ []) refl text.joins blind_out in
-      let all_same : IsPermutation (found_in all) a.ordered = IsPermutation-trans _ _ _ (IsPermutation-sym _ _ there) (subst (λ l. IsPermutation l a.ordered) kept a.same) in
-      a.shown ∙ ap (λ os. page q params (map (λ (o : Output). o.1) os)) (sorted_unique (output_cmp q) (output_cmp_total q) _ _ up all_same a.sorted)
-
   -- the answer: the rows that pass, in order, as the query shows them
   pub select_runs : (old new : State) (rows : List Row) (all : Contents) → Shown sql params old new rows → Holds schema all old
       → rows ≡ page q params (map (λ e. eval_all q.project (scope all e)) (filter (is_match all) (rows_of_table all at)))
   select_runs old new rows all h was =
-      let read = reads_as sql params old new schema was.has _ text.command text.alone text.unlisted rows h in
       let held = stores_at schema.tables at table old.now.trees all it.found was.each in
-      answer_is old.now.trees all rows was.each read.answer (found_rises all held.rising)
+      query_runs schema q sql params query_text old new rows all h was (found_rises all held.rising)
       ∙ ap (λ os. page q params (map (λ (o : Output). o.1) os)) (found_is all) ∙ ap (page q params) (map-map (λ (o : Output). o.1) (λ e. output q (scope all e)) _)
 
 -- ---- whole rows by a leading part of the key
