@@ -9,5 +9,6 @@ pub mod ResourceStatements
 pub mod ShareStatements
 pub mod Portfolio
 pub mod Unseen
+pub mod Sharing
 pub mod Calls
 pub mod MapLemmas

@@ -16,13 +16,14 @@ use Rattle.adr_state.specs.declared.base.Ven.{Ven}
 use Rattle.adr_state.specs.declared.base.Resource.{Resource}
 use Rattle.adr_state.specs.declared.keys.MirrorKey.{MirrorKey}
 use Rattle.adr_state.specs.declared.keys.ShareKey.{ShareKey}
+use Rattle.adr_state.specs.declared.participants.Participant.{Participant}
 use Rattle.adr_state.specs.Keys.{kind_cmp, id_cmp, mirror_cmp, share_cmp}
 use Rattle.adr_sql.specs.Keys.{key_order}
 use Rattle.std.specs.Option.{option_map}
 use Rattle.adr_sql.specs.Codecs.{IsCodec, entry_at}
 use Rattle.adr_sql.proofs.Maps.{number_key, text_number_key, number_text_key, text_same}
 use Rattle.adr_db.specs.declared.meta.Meta.{Meta}
-use Rattle.adr_db.specs.Rows.{number, kind_number, meta_row, key_row, mark_columns, mark_row, key_cells, columns_cells, mirror_cells, number_row, stamps_columns, ven_columns, resource_columns, share_key_row, share_row}
+use Rattle.adr_db.specs.Rows.{number, kind_number, meta_row, key_row, mark_columns, mark_row, key_cells, columns_cells, mirror_cells, number_row, stamps_columns, ven_columns, resource_columns, share_key_row, share_row, participant_row}
 
 -- ---- keys
 
@@ -223,6 +224,17 @@ share_kept d e h =
     let two = first_same _ _ _ _ one.1 in
     let three = first_same _ _ _ _ two.1 in
     ap₂ (λ (key : ShareKey) (weight : ℕ). (key, weight)) (ap₂ (λ (program : List ℕ) (resource : ℕ). record { program = program; resource = resource }) (id_kept _ _ one.0) (number_kept _ _ two.0)) (number_kept _ _ three.0)
+
+pub participant_kept : (p q : Participant) → participant_row p ≡ participant_row q → p ≡ q
+participant_kept p q h =
+    let one = first_same _ _ _ _ h in
+    let two = first_same _ _ _ _ one.1 in
+    let three = first_same _ _ _ _ two.1 in
+    let four = first_same _ _ _ _ three.1 in
+    fields (number_kept _ _ one.0) (number_kept _ _ two.0) (id_kept _ _ three.0) (id_kept _ _ four.0)
+  where
+    fields : p.resource ≡ q.resource → p.weight ≡ q.weight → p.name ≡ q.name → p.ven_name ≡ q.ven_name → p ≡ q
+    fields a b c d = λ i. record { resource = a i; weight = b i; name = c i; ven_name = d i }
 
 -- rows that each keep one value keep one list
 pub all_kept : {X : Type 0} (row_of : X → Row) → ((x y : X) → row_of x ≡ row_of y → x ≡ y) → (xs ys : List X) → map row_of xs ≡ map row_of ys → xs ≡ ys

@@ -16,6 +16,7 @@ use Rattle.adr_state.specs.declared.base.Ven.{Ven}
 use Rattle.adr_state.specs.declared.base.Resource.{Resource}
 use Rattle.adr_state.specs.declared.keys.MirrorKey.{MirrorKey}
 use Rattle.adr_state.specs.declared.keys.ShareKey.{ShareKey}
+use Rattle.adr_state.specs.declared.participants.Participant.{Participant}
 use Rattle.adr_schema.specs.declared.shown.Stamps.{Stamps}
 use Rattle.adr_db.specs.declared.meta.Meta.{Meta}
 use Rattle.adr_db.specs.declared.mirror.MarkColumns.{MarkColumns}
@@ -87,6 +88,10 @@ share_key_row key = Text key.program ∷ number key.resource ∷ []
 abbrev pub share_row : ShareKey × ℕ → Row
 share_row e = Text e.0.program ∷ number e.0.resource ∷ number e.1 ∷ []
 
+-- a resource with its weight in a program and the names
+abbrev pub participant_row : Participant → Row
+participant_row p = number p.resource ∷ number p.weight ∷ Text p.name ∷ Text p.ven_name ∷ []
+
 -- ---- rows as they are read, by their columns
 
 -- what is read of a column: a value that no call wrote is the store's refusal
@@ -137,3 +142,6 @@ resource_cells row = column row 0 ∷ resource_columns_cells row
 
 abbrev pub share_cells : Row → Row
 share_cells row = column row 0 ∷ column row 1 ∷ column row 2 ∷ []
+
+abbrev pub participant_cells : Row → Row
+participant_cells row = column row 0 ∷ column row 1 ∷ column row 2 ∷ column row 3 ∷ []

@@ -8,7 +8,7 @@ ghost use Rattle.adr_db.specs.Rows.{kind_number, key_row, key_cells, stamps_colu
 
 use crate::statement::refusal_of;
 use adr_schema::{Kind, ResourceName, Stamps};
-use adr_state::MirrorKey;
+use adr_state::{MirrorKey, Weight};
 use adr_text::{Fault, Moment, Name, ObjectId, Refusal, Rows};
 use sqlite::Row;
 use sqlite::types::{FromSql, ValueRef};
@@ -100,6 +100,18 @@ pub(crate) fn moment_of(nanos: u64) -> Result<Moment, Refusal>
     match Moment::at(nanos) {
         Ok(moment) => Ok(moment),
         Err(_) => Err(Refusal::Store),
+    }
+}
+
+/// The weight in a column.
+pub(crate) fn weight_in(row: &Row, at: usize) -> Result<Weight, Refusal>
+    ensures weight { IfOk result (λ weight. column row.now at ≡ Int (pos weight)) }
+    ensures refused { IfErr result IsOfStore }
+{
+    let amount: u32 = column(row, at)?;
+    match Weight::new(amount) {
+        Some(weight) => Ok(weight),
+        None => Err(Refusal::Store),
     }
 }
 

@@ -10,6 +10,7 @@ mod probes;
 mod resource;
 mod schema;
 mod share;
+mod sharers;
 mod statement;
 mod ven;
 
@@ -21,5 +22,6 @@ pub use probes::read_unseen;
 pub use resource::{put_resource, read_resource, read_resources, remove_resource};
 pub use schema::create;
 pub use share::{put_share, read_share, read_shares, remove_share};
+pub use sharers::read_sharers;
 pub use statement::refusal_of;
 pub use ven::{put_ven, read_ven, read_vens, remove_ven};

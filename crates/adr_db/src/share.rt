@@ -1,14 +1,13 @@
 //! The table `share`: the shares of resources in programs.
-ghost use Rattle.std.specs.Prelude.{◌≡◌, pos, [], ◌∷◌, map, IfOk, IfErr};
+ghost use Rattle.std.specs.Prelude.{◌≡◌, [], ◌∷◌, map, IfOk, IfErr};
 ghost use Rattle.sqlite.specs.Order.{column};
-ghost use Rattle.sqlite.specs.declared.types.Value.TheVariants.{Int};
 ghost use Rattle.adr_state.specs.Keys.{share_cmp, at};
 ghost use Rattle.adr_sql.specs.Calls.{Stays};
-ghost use Rattle.adr_db.specs.Rows.{number, share_key_row, share_row, share_cells};
+ghost use Rattle.adr_db.specs.Rows.{share_key_row, share_row, share_cells};
 ghost use Rattle.adr_db.specs.Kept.{with_share, without_share};
 ghost use Rattle.adr_db.specs.Calls.{Leaves, Finds, IsOfStore};
 
-use crate::cells::{column, id_of, number};
+use crate::cells::{column, id_of, number, weight_in};
 use crate::maps::table_of;
 use crate::statement::{rows_of, run};
 use adr_schema::Number;
@@ -56,17 +55,6 @@ pub fn remove_share<S: Alter>(tx: &mut Transaction<'_, S>, key: &ShareKey) -> Re
     )
 }
 
-fn weight_in(row: &Row) -> Result<Weight, Refusal>
-    ensures weight { IfOk result (λ weight. column row.now 2 ≡ Int (pos weight)) }
-    ensures refused { IfErr result IsOfStore }
-{
-    let amount: u32 = column(row, 2)?;
-    match Weight::new(amount) {
-        Some(weight) => Ok(weight),
-        None => Err(Refusal::Store),
-    }
-}
-
 fn key_in(alloc: Global, row: &Row) -> Result<ShareKey, Refusal>
     ensures key { IfOk result (λ key. share_key_row key ≡ column row.now 0 ∷ column row.now 1 ∷ []) }
     ensures refused { IfErr result IsOfStore }
@@ -83,7 +71,7 @@ fn entry_in(alloc: Global, row: &Row) -> Result<(ShareKey, Weight), Refusal>
     ensures entry { IfOk result (λ e. share_row e ≡ share_cells row.now) }
     ensures refused { IfErr result IsOfStore }
 {
-    Ok((key_in(alloc, row)?, weight_in(row)?))
+    Ok((key_in(alloc, row)?, weight_in(row, 2)?))
 }
 
 fn entries_in(alloc: Global, rows: &[Row]) -> Result<Rows<(ShareKey, Weight)>, Refusal>
@@ -114,7 +102,7 @@ pub fn read_share<S: Alter>(
         &[key.program.as_str().to_sql(), resource],
     )?;
     match rows.first() {
-        Some(row) => Ok(Some(weight_in(row)?)),
+        Some(row) => Ok(Some(weight_in(row, 2)?)),
         None => Ok(None),
     }
 }
