@@ -2,3 +2,4 @@ pub mod Refusals
 pub mod Vens
 pub mod Shares
 pub mod Under
+pub mod Sharing

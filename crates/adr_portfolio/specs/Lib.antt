@@ -1,2 +1,3 @@
 pub mod Checks
 pub mod Calls
+pub mod Parts

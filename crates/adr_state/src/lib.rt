@@ -23,7 +23,7 @@ pub use keys::{MirrorKey, ShareKey, ViewKey};
 pub use limits::{Limit, Limits, Settings};
 pub use lists::push_some;
 pub use mirror::{join, key_of, mark_of, raise};
-pub use participants::Participant;
+pub use participants::{Participant, is_for};
 pub use polled::{Polled, poll, probes};
 pub use state::{Image, State};
 pub use view::{Content, View, view_of};

@@ -20,7 +20,7 @@ pub struct Participant {
 }
 
 /// Whether an event with these resource names, if any, is for a resource of that name.
-fn is_for(names: &Option<NameSet>, name: &Name) -> bool
+pub fn is_for(names: &Option<NameSet>, name: &Name) -> bool
     ensures { result ≡ is_for names.now name.now }
 {
     match names {
