@@ -15,8 +15,11 @@
 //! - `around TEXT` is what stands around each text that follows, with `$` in place of the text;
 //! - `> TEXT` is a text;
 //! - `< ANSWER` is what the reader makes of the text before.
+//!
+//! The participants of events are read from tables of its own, since no line of a script asks for them yet.
 #![tactic(auto)]
 
+mod participants;
 mod play;
 mod portfolio;
 mod reader;
@@ -26,6 +29,7 @@ mod same;
 mod texts;
 mod twin;
 
+use crate::participants::run_participants;
 use crate::play::play;
 use crate::report::{report, report_twin};
 use crate::row::{Row, read_row};
@@ -125,7 +129,8 @@ fn run_all<R: Env + Files + Print + AllocGlobal + Clone + Drop>(rt: &R) -> Resul
     let folder = folder(rt)?;
     let rows = run_rows(rt, folder.as_str())?;
     let texts = run_texts_of(rt, folder.as_str())?;
-    Ok(rows && texts)
+    let participants = run_participants(rt)?;
+    Ok(rows && texts && participants)
 }
 
 fn main(rt: HostRuntime) -> Result<ExitCode> {
