@@ -1,3 +1,4 @@
 pub mod Checks
 pub mod Calls
 pub mod Parts
+pub mod Refusals

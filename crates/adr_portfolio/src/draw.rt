@@ -1,8 +1,10 @@
 //! Numbers are drawn from the serial.
-ghost use Rattle.std.specs.Prelude.{◌≡◌, Ok};
+ghost use Rattle.std.specs.Prelude.{◌≡◌, Ok, [], ◌∷◌, IfErr};
+ghost use Rattle.adr_text.specs.declared.refusal.Refusal.TheVariants.{Exhausted};
 ghost use Rattle.adr_sql.specs.Calls.{Stays};
 ghost use Rattle.adr_mirror.specs.Calls.{Turns};
 ghost use Rattle.adr_portfolio.specs.Checks.{drawn, with_drawn};
+ghost use Rattle.adr_portfolio.specs.Refusals.{IsOneOf};
 ghost use Rattle.adr_portfolio.specs.Calls.{RefusesBy};
 
 use adr_db::{put_meta, read_meta};
@@ -20,6 +22,7 @@ pub(crate) fn draw<S: Alter>(
     ensures stays { Stays S.Store tx.old.conn.now tx.new.conn.now result }
     ensures turns { Turns S.Store tx.old.conn.now tx.new.conn.now with_drawn (λ kept number. drawn limits.now kept.meta.serial ≡ Ok number) result }
     ensures refuses { RefusesBy S.Store tx.old.conn.now tx.new.conn.now (λ kept. drawn limits.now kept.meta.serial) result }
+    ensures refused { IfErr result (IsOneOf (Exhausted ∷ [])) }
 {
     let mut meta = read_meta(tx)?;
     if limits.serial.get() <= meta.serial {

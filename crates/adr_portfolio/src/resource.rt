@@ -1,5 +1,6 @@
 //! Resources are added to a ven, renamed and removed.
-ghost use Rattle.std.specs.Prelude.{◌≡◌, Ok, Some, IfOk, IfErr};
+ghost use Rattle.std.specs.Prelude.{◌≡◌, Ok, Some, IfOk, IfErr, [], ◌∷◌};
+ghost use Rattle.adr_text.specs.declared.refusal.Refusal.TheVariants.{NotFound, Conflict, LimitReached, Exhausted};
 ghost use Rattle.adr_sql.specs.Calls.{Stays};
 ghost use Rattle.sqlite.specs.Held.{state};
 ghost use Rattle.sqlite.specs.State.{HasCleanDisk};
@@ -12,6 +13,7 @@ ghost use Rattle.adr_machine.specs.declared.answer.Object.TheVariants as object;
 ghost use Rattle.adr_machine.specs.Edits.{has_resource, has_other_resource, ven_at, resource_of_ven, resource_renamed, resource_removed};
 ghost use Rattle.adr_mirror.specs.Calls.{Makes, Refuses};
 ghost use Rattle.adr_portfolio.specs.Checks.{new_resource, found_under};
+ghost use Rattle.adr_portfolio.specs.Refusals.{IsOneOf};
 ghost use Rattle.adr_portfolio.specs.Calls.{RefusesBy};
 
 use crate::draw::draw;
@@ -48,6 +50,7 @@ fn check_new<S: Alter>(
     ensures stays { Stays S.Store tx.old.conn.now tx.new.conn.now result }
     ensures finds { Finds S.Store tx.old.conn.now tx.new.conn.now (λ kept _. new_resource limits.now name.now kept.resources ≡ Ok tt) result }
     ensures refuses { RefusesBy S.Store tx.old.conn.now tx.new.conn.now (λ kept. new_resource limits.now name.now kept.resources) result }
+    ensures refused { IfErr result (IsOneOf (Conflict ∷ LimitReached ∷ [])) }
 {
     let resources = read_resources(alloc, tx)?;
     if has_name(&resources, name) {
@@ -72,6 +75,7 @@ fn add_to<S: Alter>(
     ensures stays { Stays S.Store tx.old.conn.now tx.new.conn.now result }
     ensures makes { Makes S.Store tx.old.conn.now tx.new.conn.now (λ base. resource_of_ven limits.now now base (Some ven) name.now) (λ _ said _ resource. said ≡ Some (answer.Object (object.Resource resource))) result }
     ensures refuses { Refuses S.Store tx.old.conn.now tx.new.conn.now (λ base. resource_of_ven limits.now now base (Some ven) name.now) result }
+    ensures refused { IfErr result (IsOneOf (Exhausted ∷ Conflict ∷ LimitReached ∷ [])) }
 {
     check_new(alloc, tx, limits, name)?;
     let number = draw(tx, limits)?;
@@ -107,6 +111,7 @@ pub fn resource_add<S: Alter>(
     ensures stays { Stays S.Store tx.old.conn.now tx.new.conn.now result }
     ensures makes { Makes S.Store tx.old.conn.now tx.new.conn.now (λ base. resource_of_ven limits.now now base (ven_at ven.now base) name.now) (λ _ said _ resource. said ≡ Some (answer.Object (object.Resource resource))) result }
     ensures refuses { Refuses S.Store tx.old.conn.now tx.new.conn.now (λ base. resource_of_ven limits.now now base (ven_at ven.now base) name.now) result }
+    ensures refused { IfErr result (IsOneOf (NotFound ∷ Exhausted ∷ Conflict ∷ LimitReached ∷ [])) }
 {
     let Some(number) = number_of(b'v', ven) else {
         return Err(Refusal::NotFound);
@@ -180,6 +185,7 @@ pub fn resource_remove<S: Alter>(
     ensures stays { Stays S.Store tx.old.conn.now tx.new.conn.now result }
     ensures makes { Makes S.Store tx.old.conn.now tx.new.conn.now (λ base. resource_removed base (resource_row_under ven.now id.now base)) (λ _ said _ resource. said ≡ Some (answer.Object (object.Resource resource))) result }
     ensures refuses { Refuses S.Store tx.old.conn.now tx.new.conn.now (λ base. resource_removed base (resource_row_under ven.now id.now base)) result }
+    ensures refused { IfErr result (IsOneOf (NotFound ∷ [])) }
 {
     let Some(row) = row_under(alloc, tx, ven, id)? else {
         return Err(Refusal::NotFound);
@@ -226,6 +232,7 @@ pub fn resource_put<S: Alter>(
     ensures stays { Stays S.Store tx.old.conn.now tx.new.conn.now result }
     ensures makes { Makes S.Store tx.old.conn.now tx.new.conn.now (λ base. resource_renamed now base (resource_row_under ven.now id.now base) name.now) (λ _ said _ resource. said ≡ Some (answer.Object (object.Resource resource))) result }
     ensures refuses { Refuses S.Store tx.old.conn.now tx.new.conn.now (λ base. resource_renamed now base (resource_row_under ven.now id.now base) name.now) result }
+    ensures refused { IfErr result (IsOneOf (NotFound ∷ Conflict ∷ [])) }
 {
     let Some(row) = row_under(alloc, tx, ven, id)? else {
         return Err(Refusal::NotFound);

@@ -1,12 +1,14 @@
 //! Shares of resources in programs are set.
-ghost use Rattle.std.specs.Prelude.{◌≡◌, ◌≤◌, Ok, Some, IfOk};
+ghost use Rattle.std.specs.Prelude.{◌≡◌, ◌≤◌, Ok, Some, IfOk, [], ◌∷◌, IfErr};
 ghost use Rattle.adr_state.specs.Weights.{most_weight};
+ghost use Rattle.adr_text.specs.declared.refusal.Refusal.TheVariants.{NotFound, BadShare, LimitReached};
 ghost use Rattle.adr_sql.specs.Calls.{Stays};
 ghost use Rattle.adr_db.specs.Calls.{Finds};
 ghost use Rattle.adr_machine.specs.declared.answer.Answer.TheVariants as answer;
 ghost use Rattle.adr_machine.specs.Edits.{resource_at, share_put, share_of_resource};
 ghost use Rattle.adr_mirror.specs.Calls.{Makes, Refuses};
 ghost use Rattle.adr_portfolio.specs.Checks.{new_share};
+ghost use Rattle.adr_portfolio.specs.Refusals.{IsOneOf};
 ghost use Rattle.adr_portfolio.specs.Calls.{RefusesBy, Sets};
 
 use adr_db::{put_share, read_resource, read_share, read_shares, remove_share};
@@ -37,6 +39,7 @@ fn check_new<S: Alter>(
     ensures stays { Stays S.Store tx.old.conn.now tx.new.conn.now result }
     ensures finds { Finds S.Store tx.old.conn.now tx.new.conn.now (λ kept _. new_share limits.now key.now kept.shares ≡ Ok tt) result }
     ensures refuses { RefusesBy S.Store tx.old.conn.now tx.new.conn.now (λ kept. new_share limits.now key.now kept.shares) result }
+    ensures refused { IfErr result (IsOneOf (LimitReached ∷ [])) }
 {
     let found = read_share(tx, key)?;
     if found.is_some() {
@@ -73,6 +76,7 @@ fn put_weight<S: Alter>(
     ensures stays { Stays S.Store tx.old.conn.now tx.new.conn.now result }
     ensures sets { Sets S.Store tx.old.conn.now tx.new.conn.now (λ base. share_put limits.now base key.now share) result }
     ensures refuses { Refuses S.Store tx.old.conn.now tx.new.conn.now (λ base. share_put limits.now base key.now share) result }
+    ensures refused { IfErr result (IsOneOf (LimitReached ∷ [])) }
 {
     if share == 0 {
         return remove_share(tx, key);
@@ -94,6 +98,7 @@ fn set_of<S: Alter>(
     ensures stays { Stays S.Store tx.old.conn.now tx.new.conn.now result }
     ensures makes { Makes S.Store tx.old.conn.now tx.new.conn.now (λ base. share_of_resource limits.now base program.now (Some resource) share) (λ _ said _ set. said ≡ Some (answer.Share set)) result }
     ensures refuses { Refuses S.Store tx.old.conn.now tx.new.conn.now (λ base. share_of_resource limits.now base program.now (Some resource) share) result }
+    ensures refused { IfErr result (IsOneOf (BadShare ∷ LimitReached ∷ [])) }
 {
     if 1_000_000 < share {
         return Err(Refusal::BadShare);
@@ -121,6 +126,7 @@ pub fn share_set<S: Alter>(
     ensures stays { Stays S.Store tx.old.conn.now tx.new.conn.now result }
     ensures makes { Makes S.Store tx.old.conn.now tx.new.conn.now (λ base. share_of_resource limits.now base program.now (resource_at resource.now base) share) (λ _ said _ set. said ≡ Some (answer.Share set)) result }
     ensures refuses { Refuses S.Store tx.old.conn.now tx.new.conn.now (λ base. share_of_resource limits.now base program.now (resource_at resource.now base) share) result }
+    ensures refused { IfErr result (IsOneOf (NotFound ∷ BadShare ∷ LimitReached ∷ [])) }
 {
     let Some(number) = number_of(b'r', resource) else {
         return Err(Refusal::NotFound);

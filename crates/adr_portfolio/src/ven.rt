@@ -1,5 +1,6 @@
 //! Vens are enrolled, renamed and removed.
-ghost use Rattle.std.specs.Prelude.{◌≡◌, Ok, Some};
+ghost use Rattle.std.specs.Prelude.{◌≡◌, Ok, Some, [], ◌∷◌, IfErr};
+ghost use Rattle.adr_text.specs.declared.refusal.Refusal.TheVariants.{NotFound, Conflict, LimitReached, Exhausted};
 ghost use Rattle.adr_sql.specs.Calls.{Stays};
 ghost use Rattle.adr_db.specs.Calls.{Finds};
 ghost use Rattle.adr_machine.specs.declared.answer.Answer.TheVariants as answer;
@@ -8,6 +9,7 @@ ghost use Rattle.adr_machine.specs.Edits.{has_ven, has_other_ven, enrolled_by, v
 ghost use Rattle.adr_machine.specs.Portfolio.{ven_row};
 ghost use Rattle.adr_mirror.specs.Calls.{Makes, Refuses};
 ghost use Rattle.adr_portfolio.specs.Checks.{new_ven};
+ghost use Rattle.adr_portfolio.specs.Refusals.{IsOneOf};
 ghost use Rattle.adr_portfolio.specs.Calls.{RefusesBy};
 
 use crate::draw::draw;
@@ -36,6 +38,7 @@ fn check_new<S: Alter>(
     ensures stays { Stays S.Store tx.old.conn.now tx.new.conn.now result }
     ensures finds { Finds S.Store tx.old.conn.now tx.new.conn.now (λ kept _. new_ven limits.now name.now kept.vens ≡ Ok tt) result }
     ensures refuses { RefusesBy S.Store tx.old.conn.now tx.new.conn.now (λ kept. new_ven limits.now name.now kept.vens) result }
+    ensures refused { IfErr result (IsOneOf (Conflict ∷ LimitReached ∷ [])) }
 {
     let vens = read_vens(alloc, tx)?;
     if has_name(&vens, name) {
@@ -60,6 +63,7 @@ pub fn ven_add<S: Alter>(
     ensures stays { Stays S.Store tx.old.conn.now tx.new.conn.now result }
     ensures makes { Makes S.Store tx.old.conn.now tx.new.conn.now (λ base. enrolled_by limits.now now base name.now) (λ _ said _ ven. said ≡ Some (answer.Object (object.Ven ven))) result }
     ensures refuses { Refuses S.Store tx.old.conn.now tx.new.conn.now (λ base. enrolled_by limits.now now base name.now) result }
+    ensures refused { IfErr result (IsOneOf (Exhausted ∷ Conflict ∷ LimitReached ∷ [])) }
 {
     check_new(alloc, tx, limits, name)?;
     let number = draw(tx, limits)?;
@@ -100,6 +104,7 @@ pub fn ven_put<S: Alter>(
     ensures stays { Stays S.Store tx.old.conn.now tx.new.conn.now result }
     ensures makes { Makes S.Store tx.old.conn.now tx.new.conn.now (λ base. ven_renamed now base (ven_row id.now base) name.now) (λ _ said _ ven. said ≡ Some (answer.Object (object.Ven ven))) result }
     ensures refuses { Refuses S.Store tx.old.conn.now tx.new.conn.now (λ base. ven_renamed now base (ven_row id.now base) name.now) result }
+    ensures refused { IfErr result (IsOneOf (NotFound ∷ Conflict ∷ [])) }
 {
     let Some(number) = number_of(b'v', id) else {
         return Err(Refusal::NotFound);
@@ -138,6 +143,7 @@ pub fn ven_remove<S: Alter>(
     ensures stays { Stays S.Store tx.old.conn.now tx.new.conn.now result }
     ensures makes { Makes S.Store tx.old.conn.now tx.new.conn.now (λ base. ven_removed base (ven_row id.now base)) (λ _ said _ ven. said ≡ Some (answer.Object (object.Ven ven))) result }
     ensures refuses { Refuses S.Store tx.old.conn.now tx.new.conn.now (λ base. ven_removed base (ven_row id.now base)) result }
+    ensures refused { IfErr result (IsOneOf (NotFound ∷ [])) }
 {
     let Some(number) = number_of(b'v', id) else {
         return Err(Refusal::NotFound);
