@@ -1,8 +1,12 @@
 -- What is kept of a base, as a state.
-use Rattle.std.proofs.Common.{◌≡◌, List, Option, None, Some, cond, refl, ap}
+use Rattle.std.proofs.Common.{◌≡◌, List, [], Option, None, Some, cond, refl, ap}
 use Rattle.std.specs.Prelude.{is_some}
+use Rattle.sqlite.specs.State.{State}
+use Rattle.sqlite.specs.Steps.{IsEmpty}
 use Rattle.adr_state.specs.declared.base.Base.{Base}
 use Rattle.adr_state.specs.declared.keys.MirrorKey.{MirrorKey}
+use Rattle.adr_sql.specs.Contents.{Holds}
+use Rattle.adr_sql.specs.Schemas.{no_schema}
 use Rattle.adr_db.specs.Bases.{keys_polled, kept_of}
 use Rattle.adr_desk.specs.Images.{image_kept, image_of}
 
@@ -12,3 +16,7 @@ scan_again (Some keys) = refl
 
 pub image_again : (base : Base) → image_kept (kept_of base) ≡ image_of base
 image_again base = ap (λ scan. image_of (record base { scan = scan })) (scan_again base.scan)
+
+-- an empty database holds no tables
+pub holds_none : (s : State) → IsEmpty s → Holds no_schema [] s
+holds_none s empty = record { has = empty.2; each = tt }

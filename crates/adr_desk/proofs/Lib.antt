@@ -2,4 +2,4 @@ pub mod Kept
 pub mod Transactions
 pub mod Edited
 pub mod Created
-pub mod MemoryFiles
+pub mod RunLemmas

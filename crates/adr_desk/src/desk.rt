@@ -1,7 +1,7 @@
 //! The desk.
 ghost use Rattle.std.specs.Prelude.{◌≡◌, false, Option, Ok, is_none, IsTrue, IfOk, IfErr, OnOk, OnErr};
 ghost use Rattle.sqlite.specs.State.{HasCleanDisk, Survives};
-ghost use Rattle.sqlite.specs.Files.{over_files};
+ghost use Rattle.sqlite.specs.Steps.{over_memory};
 ghost use Rattle.adr_state.specs.declared.base.Base.{Base};
 ghost use Rattle.adr_state.specs.States.{empty};
 ghost use Rattle.adr_db.specs.Bases.{HoldsBase};
@@ -15,12 +15,10 @@ ghost use Rattle.adr_desk.specs.Edits.{IsAnswer, LeftEdited};
 use crate::create::create_in;
 use crate::edit::{Edit, edit_in};
 use crate::image::image_in;
-use crate::memory::open_empty;
 use adr_machine::Command;
 use adr_state::{Image, Settings};
 use adr_text::{Moment, Refusal};
-use sqlite::{Alter, Connection, FileStore};
-use sqlite_disk::Memory;
+use sqlite::{Alter, Connection, MemStore};
 use std::alloc::Global;
 
 /// Keeps the machine's state in a SQL database. Between calls no transaction stands.
@@ -32,21 +30,21 @@ pub struct SqlDesk<S: Alter> {
     ghost idle: { conn.in_transaction ≡ false },
 }
 
-/// A desk over files that are kept in memory.
-pub type MemoryDesk = SqlDesk<FileStore<Memory>>;
+/// A desk in memory. Its store is always open, and gives back what was written (`laws::memory_is_sound`).
+pub type MemoryDesk = SqlDesk<MemStore>;
 
-impl SqlDesk<FileStore<Memory>> {
+impl SqlDesk<MemStore> {
     ghost use Rattle.adr_desk.specs.Desks.{shown, settings_of};
 
     /// A desk in memory, with the state at first, or want of memory or the store's refusal.
     pub fn open_memory(alloc: Global, settings: Settings) -> Result<MemoryDesk, Refusal>
-        ensures state { IfOk result (λ desk. HoldsBase empty.base (shown over_files desk)) }
-        ensures is_open { IfOk result (λ desk. IsTrue (shown over_files desk).is_open) }
-        ensures committed { IfOk result (λ desk. (shown over_files desk).committed ≡ (shown over_files desk).now) }
+        ensures state { IfOk result (λ desk. HoldsBase empty.base (shown over_memory desk)) }
+        ensures is_open { IfOk result (λ desk. IsTrue (shown over_memory desk).is_open) }
+        ensures committed { IfOk result (λ desk. (shown over_memory desk).committed ≡ (shown over_memory desk).now) }
         ensures settings { IfOk result (λ desk. settings_of desk ≡ settings) }
         ensures refused { IfErr result IsOfStore }
     {
-        let mut conn = open_empty(alloc)?;
+        let mut conn = Connection::open_in_memory(alloc)?;
         create_in(&mut conn)?;
         Ok(SqlDesk {
             settings,

@@ -6,8 +6,10 @@ mod desk;
 mod edit;
 mod frame;
 mod image;
-mod memory;
+pub mod laws;
 mod portfolio;
+mod runs;
 
 pub use desk::{MemoryDesk, SqlDesk};
 pub use edit::Edit;
+pub use runs::edit_each;

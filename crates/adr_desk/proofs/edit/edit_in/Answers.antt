@@ -16,7 +16,7 @@ pub returns-clause-whole : goal.returns-clause-whole
 returns-clause-whole g c =
     let old = c.args.conn.now in
     let by : Base → Result (Option Answer × Base) Refusal = λ base. edit c.args.limits.now c.args.now base c.args.command.now in
-    moved (λ end. Commits g.S.Store old end (λ s. (base : Base) → HoldsBase base (state g.S.Store old) → HoldsEdited by base s) (λ trees. (base : Base) → HoldsBase base (state g.S.Store old) → LeftEdited by base trees) c.told.result) c.commit-ended.new.tx.0 c.conn-2-1.given.0 (search rules)
+    moved (λ end. Commits g.S.Store old end (λ s. (base : Base) → HoldsBase base (state g.S.Store old) → HoldsEdited by base s) (λ trees. (base : Base) → HoldsBase base (state g.S.Store old) → LeftEdited by base trees) c.told.result) c.commit-ended.new.tx.0 _ (search rules)
     (edited_whole g.S.Store old c.begin-tx.result.conn.now c.edited.new.tx.conn.now c.commit-ended.new.tx.0 c.args.limits.now c.args.now c.args.command.now c.in_ok-edit.edit c.commit-ended.result c.told.result
     c.begin-tx.ensures.begun c.in_ok-edit.ensures.stays c.in_ok-edit.ensures.makes c.commit-ended.ensures.ends c.told.ensures)
 
