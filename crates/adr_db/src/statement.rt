@@ -2,15 +2,16 @@
 ghost use Rattle.std.specs.Prelude.{◌≡◌, IfErr};
 ghost use Rattle.sqlite.specs.Values.{bound};
 ghost use Rattle.adr_sql.specs.Calls.{Stays, Runs, Answers};
-ghost use Rattle.adr_db.specs.Calls.{IsOfStore};
+ghost use Rattle.adr_db.specs.Calls.{IsOfStore, refusal_of};
 
 use adr_text::Refusal;
 use sqlite::types::ValueRef;
 use sqlite::{Alter, Error, ErrorCode, Row, Transaction};
 
-/// Want of memory, or the store's refusal.
+/// An error of the store as a refusal: want of memory, or else the store's.
 pub fn refusal_of(error: Error) -> Refusal
-    ensures { IsOfStore result }
+    ensures gives { result ≡ refusal_of error }
+    ensures refused { IsOfStore result }
 {
     match error {
         Error::SqliteFailure(ErrorCode::OutOfMemory) => Refusal::OutOfMemory,

@@ -1,15 +1,19 @@
 -- CREATE TABLE, one text after another.
-use Rattle.std.proofs.Common.{◌≡◌, ℕ, false, List, [], ◌∷◌, ◌++◌, fold, None, Ok, sym, ap, subst, ◌∙◌, refl}
+use Rattle.std.proofs.Common.{◌≡◌, ℕ, false, List, [], ◌∷◌, ◌++◌, fold, None, Ok, Err, inl, inr, sym, ap, subst, ◌∙◌, refl}
 use Rattle.std.specs.List.{AllByRecursion}
 use Rattle.sqlite_schema.specs.declared.schema.Table.{Table}
 use Rattle.sqlite_schema.specs.declared.schema.Schema.{Schema}
 use Rattle.sqlite.specs.Change.{created, next_tree}
 use Rattle.sqlite.specs.Effect.{Database}
 use Rattle.sqlite.specs.Does.{Tally, lacks_sequence}
-use Rattle.sqlite.specs.State.{State, Executes, Writes}
+use Rattle.sqlite.specs.Store.{Ghosts}
+use Rattle.sqlite.specs.Held.{Held, state}
+use Rattle.sqlite.specs.State.{State, Executes, ExecutesInside, Writes}
+use Rattle.sqlite.specs.declared.error.Error.{Error}
 use Rattle.sqlite.specs.Command.TheVariants.{CreateTable}
 use Rattle.sqlite.proofs.Callers.{runs_as}
 use Rattle.adr_sql.specs.Contents.{Contents, empty_tables, StoresEach, Holds}
+use Rattle.adr_sql.specs.Calls.{FailsAmong}
 use Rattle.adr_sql.specs.Creations.{IsCreateText, Makes, IsUnderWay}
 use Rattle.adr_sql.proofs.Places.{stores_none, stores_more, stores_same}
 use Rattle.adr_sql.proofs.References.{went, same_value}
@@ -51,3 +55,16 @@ pub made_all : (schema : Schema) (tables : List Table) (s : State) → IsUnderWa
 made_all schema tables s it =
     let all : it.so_far ≡ fold created schema tables = ap (fold created it.so_far) (sym it.makes) ∙ it.same in
     subst (λ x. Holds x (empty_tables x.tables) s) all it.holds
+
+-- ---- an error of one of the texts
+
+-- the first of the texts ran and these are left: where one of these fails, one of all fails
+abbrev pub HaveRun : {S : Type 0} → Ghosts S → List (List ℕ) → List (List ℕ) → Held S → Held S → Type 0
+HaveRun {S} g texts left old now = (new : Held S) → (e : Error) → FailsAmong g left now new e → FailsAmong g texts old new e
+
+module _ {S : Type 0} (g : Ghosts S) (texts : List (List ℕ)) (sql : List ℕ) (left : List (List ℕ)) (old now : Held S) where
+  pub one_ran : (next : Held S) (count : ℕ) → HaveRun g texts (sql ∷ left) old now → Executes sql [] (state g now) (state g next) (Ok count) → HaveRun g texts left old next
+  one_ran next count so_far ran new e fails = so_far new e (inr (next, count, ran, fails))
+
+  pub one_failed : (new : Held S) (e : Error) → HaveRun g texts (sql ∷ left) old now → ExecutesInside 0 sql [] (state g now) (state g new) (Err e) → FailsAmong g texts old new e
+  one_failed new e so_far failed = so_far new e (inl failed)

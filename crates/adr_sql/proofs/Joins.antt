@@ -1,5 +1,5 @@
 -- What a join answers: for each row of a table, in the order of its key, what is found with it in other tables. A row that names another by its key finds that one at most.
-use Rattle.std.proofs.Common.{◌≡◌, ◌≤◌, ℕ, zero, suc, Bool, true, false, cond, List, [], ◌∷◌, ◌++◌, map, flat_map, length, slice_index_or, Option, Some, None, refl, sym, ap, subst, ◌∙◌, append-nil, arith, Ordering, Less, Equal, Greater, is_eq}
+use Rattle.std.proofs.Common.{◌≡◌, ◌≤◌, ℕ, Bool, true, false, cond, List, [], ◌∷◌, ◌++◌, map, flat_map, length, slice_index_or, Some, refl, sym, ap, subst, ◌∙◌, append-nil, arith, Ordering, Less, Equal, Greater, is_eq}
 use Rattle.std.specs.List.{AllByRecursion, list_all}
 use Rattle.std.specs.Option.{option_map_or}
 use Rattle.std.specs.Map.{lookup}
@@ -9,7 +9,7 @@ use Rattle.sqlite_value.specs.declared.value.Value.TheVariants.{Null}
 use Rattle.sqlite_value.specs.declared.keys.Key.{Key}
 use Rattle.sqlite_value.specs.Order.{Row}
 use Rattle.sqlite_trees.specs.Tree.{Trees, IsAscending}
-use Rattle.sqlite_trees.proofs.ListLemmas.{map-map, map-flat_map, flat_map-map, ascending-append, all_weaker, all_of, all-flat_map, all-map, all_both}
+use Rattle.sqlite_trees.proofs.ListLemmas.{map-map, map-flat_map, flat_map-map, ascending-append, all_weaker, all_of, all-flat_map, all-map}
 use Rattle.sqlite_sql.specs.Term.{Term, Env, eval_all, holds}
 use Rattle.sqlite_sql.specs.Query.{Query, Join, inner, counted, end, matches, Output, output, output_cmp, page}
 use Rattle.sqlite_schema.specs.declared.schema.Table.{Table}

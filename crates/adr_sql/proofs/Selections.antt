@@ -32,7 +32,7 @@ use Rattle.sqlite.specs.Given.{IsPlain as IsPlainText}
 use Rattle.sqlite.specs.Command.TheVariants.{Select}
 use Rattle.sqlite.proofs.Callers.{command_of, reads_as}
 use Rattle.adr_sql.specs.Keys.{key_order, has_key, rows_at}
-use Rattle.adr_sql.specs.Contents.{Contents, rows_of_table, StoresEach, Holds}
+use Rattle.adr_sql.specs.Contents.{Contents, rows_of_table, Holds}
 use Rattle.adr_sql.proofs.Keys.{full_parts, then_eq, equal_is, column_drop, are_full}
 use Rattle.adr_sql.proofs.Places.{by_tree, is_tree, bare, seen, stored_is_seen, by_tree_is, stores_at, IsFound}
 

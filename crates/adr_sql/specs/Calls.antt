@@ -1,5 +1,5 @@
 -- What a call leaves of the transaction that it was lent, and what it does to the tables.
-use Rattle.std.specs.Prelude.{◌≡◌, ℕ, List, Result, Ok, IfOk, OnOk, OnErr, IfErr, Err, ◌⊎◌, false, IsTrue}
+use Rattle.std.specs.Prelude.{◌≡◌, ℕ, List, [], ◌∷◌, Result, Ok, IfOk, OnOk, OnErr, IfErr, Err, ◌⊎◌, false, IsTrue}
 use Rattle.sqlite.specs.Order.{Row}
 use Rattle.sqlite.specs.Schema.{Schema}
 use Rattle.sqlite.specs.Tree.{Trees}
@@ -8,6 +8,12 @@ use Rattle.sqlite.specs.Held.{Held, state}
 use Rattle.sqlite.specs.State.{State, HasCleanDisk, KeepsCommit, Survives, Executes, ExecutesInside, FailsToQuery, IsTooLate, Shown}
 use Rattle.sqlite.specs.declared.error.Error.{Error}
 use Rattle.adr_sql.specs.Contents.{Contents, Holds}
+
+module _ {S : Type 0} (g : Ghosts S) where
+  -- the first of these statements ran, one after another, and the next one failed with this error, as its own
+  abbrev pub FailsAmong : List (List ℕ) → Held S → Held S → Error → Type 0
+  FailsAmong [] old new e = ⊥
+  FailsAmong (sql ∷ texts) old new e = ExecutesInside 0 sql [] (state g old) (state g new) (Err e) ⊎ ((mid : Held S) × (count : ℕ) × Executes sql [] (state g old) (state g mid) (Ok count) × FailsAmong texts mid new e)
 
 module _ {S : Type 0} (g : Ghosts S) (old new : Held S) where
   -- A call leaves the transaction as it was lent: a crash may leave what it could before, the last commit stays, and after Ok the
@@ -28,6 +34,10 @@ module _ {S : Type 0} (g : Ghosts S) (old new : Held S) where
   -- an error of a statement that writes is the statement's own: its text, the parameters, the rows or the store were at fault, as it says
   abbrev pub FailsToRun : {T : Type 0} → List ℕ → Row → Result T Error → Type 0
   FailsToRun sql params result = HasCleanDisk (state g new) → IsTrue (state g old).in_transaction → IfErr result (λ e. ExecutesInside 0 sql params (state g old) (state g new) (Err e))
+
+  -- so is that of statements which run one after another, without parameters: it is that of the first one that failed, where those before it led
+  abbrev pub FailsToRunAll : {T : Type 0} → List (List ℕ) → Result T Error → Type 0
+  FailsToRunAll texts result = HasCleanDisk (state g new) → IsTrue (state g old).in_transaction → IfErr result (λ e. FailsAmong g texts old new e)
 
   -- so is that of a query
   abbrev pub FailsToAnswer : {T : Type 0} → List ℕ → Row → Result T Error → Type 0

@@ -6,7 +6,7 @@ ghost use Rattle.sqlite.specs.State.{HasCleanDisk};
 ghost use Rattle.adr_sql.specs.Contents.{Holds, empty_tables};
 ghost use Rattle.adr_sql.specs.Schemas.{no_schema, schema_of};
 ghost use Rattle.adr_sql.specs.Creations.{Makes};
-ghost use Rattle.adr_sql.specs.Calls.{Stays};
+ghost use Rattle.adr_sql.specs.Calls.{Stays, FailsToRunAll};
 
 use crate::statement::run;
 use sqlite::{Alter, Error, Transaction};
@@ -17,6 +17,7 @@ pub fn create_tables<S: Alter>(tx: &mut Transaction<'_, S>, texts: &[&str]) -> R
     ensures stays { Stays S.Store tx.old.conn.now tx.new.conn.now result }
     ensures made { HasCleanDisk (state S.Store tx.new.conn.now) → OnOk result ((tables : List Table) → Makes no_schema (map (λ t. t.now) texts.now) tables
         → Holds no_schema [] (state S.Store tx.old.conn.now) → Holds (schema_of tables) (empty_tables (schema_of tables).tables) (state S.Store tx.new.conn.now)) }
+    ensures fails { FailsToRunAll S.Store tx.old.conn.now tx.new.conn.now (map (λ t. t.now) texts.now) result }
 {
     'texts: for text in texts {
         run(tx, text, &[])?;

@@ -1,9 +1,10 @@
+use Rattle.std.proofs.lemmas.Result.{err_from_is_err_and}
 use Rattle.std.proofs.Common.{map, drop, subst, arith, rules, drop-cons, add-one, suc}
 use Rattle.sqlite.specs.State.{HasCleanDisk}
 use Rattle.sqlite.specs.Held.{state}
 use Rattle.adr_sql.specs.Creations.{IsUnderWay}
 use Rattle.adr_sql.specs.Schemas.{no_schema}
-use Rattle.adr_sql.proofs.Creations.{makes_one}
+use Rattle.adr_sql.proofs.Creations.{makes_one, HaveRun, one_ran, one_failed}
 use Rattle.adr_sql.proofs.Transactions.{stays_then}
 use Rattle.adr_sql.proofs.create.create_tables.Goals as goal
 
@@ -19,4 +20,23 @@ texts-preserved g c = record {
       let now = state g.S.Store c.texts.tx.conn.now in
       let next = makes_one no_schema tables _ (map (λ t. t.now) (drop (suc c.texts.text-index) c.args.texts.now)) now (state g.S.Store c.run.new.tx.conn.now) ran.0 (subst (λ l. IsUnderWay no_schema tables (map (λ t. t.now) l) now) cell so_far) ran.1 in
       rw add-one next;
+  ran = λ clean inside.
+      let early : HasCleanDisk (state g.S.Store c.texts.tx.conn.now) = omega (arith, c.run.ensures.stays.crash.clean) in
+      let so_far = c.texts.invariant.ran early inside in
+      let executed = c.in_ok-run.ensures.runs clean in
+      let cell = drop-cons c.args.texts.now c.texts.text-index _ c.texts-test.true in
+      let texts = map (λ t. t.now) c.args.texts.now in
+      let next = one_ran g.S.Store texts _ (map (λ t. t.now) (drop (suc c.texts.text-index) c.args.texts.now)) c.args.tx.now.conn.now c.texts.tx.conn.now c.run.new.tx.conn.now executed.0
+      (subst (λ l. HaveRun g.S.Store texts (map (λ t. t.now) l) c.args.tx.now.conn.now c.texts.tx.conn.now) cell so_far) executed.1 in
+      rw add-one next;
 }
+
+pub returns-in_err-run-clause-fails : goal.returns-in_err-run-clause-fails
+returns-in_err-run-clause-fails g c clean inside =
+    let early : HasCleanDisk (state g.S.Store c.texts.tx.conn.now) = omega (arith, c.run.ensures.stays.crash.clean) in
+    let so_far = c.texts.invariant.ran early inside in
+    let cell = drop-cons c.args.texts.now c.texts.text-index _ c.texts-test.true in
+    let texts = map (λ t. t.now) c.args.texts.now in
+    let p = err_from_is_err_and c.from_residual.result c.from_residual.ensures.1 in
+    rw (p.1, p.2) (one_failed g.S.Store texts _ (map (λ t. t.now) (drop (suc c.texts.text-index) c.args.texts.now)) c.args.tx.now.conn.now c.texts.tx.conn.now c.run.new.tx.conn.now _
+    (subst (λ l. HaveRun g.S.Store texts (map (λ t. t.now) l) c.args.tx.now.conn.now c.texts.tx.conn.now) cell so_far) (c.in_err-run.ensures.fails clean (c.texts.invariant.stays.inside early inside)))

@@ -1,4 +1,4 @@
-use Rattle.std.proofs.Common.{◌≡◌, List, [], map, drop, Ok}
+use Rattle.std.proofs.Common.{◌≡◌, List, [], map, drop, Ok, IsTrue}
 use Rattle.sqlite.specs.Table.{Table}
 use Rattle.sqlite.specs.Held.{state}
 use Rattle.sqlite.specs.State.{HasCleanDisk}
@@ -7,6 +7,7 @@ use Rattle.adr_sql.specs.Contents.{Holds}
 use Rattle.adr_sql.specs.Schemas.{no_schema}
 use Rattle.adr_sql.specs.Creations.{Makes, IsUnderWay}
 use Rattle.adr_sql.specs.Calls.{Stays}
+use Rattle.adr_sql.proofs.Creations.{HaveRun}
 use Rattle.adr_sql.proofs.create.create_tables.Given as goal
 
 abbrev pub invariant-texts : goal.invariant-texts
@@ -15,4 +16,6 @@ invariant-texts g l = record {
   stays : Stays g.S.Store l.fn.tx.conn.now l.tx.conn.now {T = Unit {0}} {E = Error} (Ok tt);
   made : HasCleanDisk (state g.S.Store l.tx.conn.now) → (tables : List Table) → Makes no_schema (map (λ t. t.now) l.texts) tables
       → Holds no_schema [] (state g.S.Store l.fn.tx.conn.now) → IsUnderWay no_schema tables (map (λ t. t.now) (drop l.text-index l.texts)) (state g.S.Store l.tx.conn.now);
+  ran : HasCleanDisk (state g.S.Store l.tx.conn.now) → IsTrue (state g.S.Store l.fn.tx.conn.now).in_transaction
+      → HaveRun g.S.Store (map (λ t. t.now) l.texts) (map (λ t. t.now) (drop l.text-index l.texts)) l.fn.tx.conn.now l.tx.conn.now;
 }
