@@ -27,7 +27,7 @@ use Rattle.adr_db.specs.Rows.{number, kind_number, key_row, mark_columns, mark_r
 use Rattle.adr_db.specs.declared.mirror.MarkColumns.{MarkColumns}
 use Rattle.adr_db.specs.declared.mirror.MirrorRow.{MirrorRow}
 use Rattle.adr_db.specs.Kept.{Kept, Keeps, IsMark, AreMarks, contents_of}
-use Rattle.adr_db.proofs.Tables.{mirror, mirror_is, polled, polled_is, ven, ven_keyed, resource, resource_keyed, share, share_keyed}
+use Rattle.adr_db.proofs.Tables.{mirror, mirror_keyed, polled, polled_keyed, ven, ven_keyed, resource, resource_keyed, share, share_keyed}
 use Rattle.adr_db.proofs.Rows.{key_kept, mirror_codec, polled_codec, number_codec, share_codec}
 
 -- ---- a mark
@@ -109,10 +109,10 @@ one_more rows row marks new so_far puts es valid h =
 -- ---- a whole table
 
 pub mirror_again : (kept : Kept) (s : State) → Keeps kept s → map_of mirror_cmp kept.mirror ≡ kept.mirror
-mirror_again kept s held = map_read schema 1 mirror mirror_is.place s (contents_of kept) held.rows mirror_cmp mark_row key_row mirror_codec kept.mirror refl
+mirror_again kept s held = map_read schema 1 mirror mirror_keyed.place s (contents_of kept) held.rows mirror_cmp mark_row key_row mirror_codec kept.mirror refl
 
 pub polled_again : (kept : Kept) (s : State) → Keeps kept s → fold (insert_key mirror_cmp) [] kept.polled ≡ kept.polled
-polled_again kept s held = set_read schema 2 polled polled_is.place s (contents_of kept) held.rows mirror_cmp key_row polled_codec kept.polled refl
+polled_again kept s held = set_read schema 2 polled polled_keyed.place s (contents_of kept) held.rows mirror_cmp key_row polled_codec kept.polled refl
 
 pub vens_again : (kept : Kept) (s : State) → Keeps kept s → map_of nat_cmp kept.vens ≡ kept.vens
 vens_again kept s held = map_read schema 3 ven ven_keyed.place s (contents_of kept) held.rows nat_cmp ven_row number_row (number_codec ven_columns) kept.vens refl

@@ -11,7 +11,7 @@ use Rattle.sqlite.specs.Listing.{understood}
 use Rattle.sqlite_tied.specs.Compute.{everything}
 use Rattle.adr_sql.specs.Keys.{with_row}
 use Rattle.adr_sql.specs.Contents.{Contents, rows_of_table, with_table, empty_tables, Holds}
-use Rattle.adr_sql.proofs.Puts.{AreValues}
+use Rattle.adr_sql.proofs.Values.{AreValues}
 use Rattle.adr_sql.proofs.Upserts.{IsUpsertText, upsert_runs}
 use Rattle.adr_sql.proofs.Selections.{IsSelectText, whole_rows}
 use Rattle.adr_sql.proofs.Maps.{number_key, read_all_runs}
@@ -19,7 +19,7 @@ use Rattle.adr_db.specs.declared.meta.Meta.{Meta}
 use Rattle.adr_db.specs.Tables.{schema, tables}
 use Rattle.adr_db.specs.Rows.{number, meta_row}
 use Rattle.adr_db.specs.Kept.{Kept, Keeps, AreMarks, contents_of, nothing_kept, with_meta}
-use Rattle.adr_db.proofs.Tables.{meta, meta_is, meta_keyed}
+use Rattle.adr_db.proofs.Tables.{meta, meta_keyed}
 
 abbrev pub put_text : List ℕ
 put_text = codes "INSERT INTO meta (k, version, serial, scan, made, sent, given_up, dropped, keys) VALUES (1, 1, ?1, ?2, ?3, ?4, ?5, ?6, ?7) ON CONFLICT (k) DO UPDATE SET k = excluded.k, version = excluded.version, serial = excluded.serial, scan = excluded.scan, made = excluded.made, sent = excluded.sent, given_up = excluded.given_up, dropped = excluded.dropped, keys = excluded.keys"
@@ -45,7 +45,7 @@ puts m = record {
 }
 
 values : (m : Meta) → AreValues meta (meta_row m)
-values m = record { mended = refl; fits = refl; full = refl; width = refl }
+values m = record { fits = refl; full = refl; width = refl }
 
 pub meta_put : (m : Meta) (old new : State) (count : ℕ) (all : Contents) → Executes put_text (numbers m) old new (Ok count) → Holds schema all old → Holds schema (with_table all 0 (with_row 1 (meta_row m) (rows_of_table all 0))) new
 meta_put m = upsert_runs schema 0 meta meta_keyed put_text (numbers m) (meta_row m) (puts m) (values m)
@@ -78,7 +78,7 @@ pub read_is_plain : IsPlain (understood schema read_text)
 read_is_plain = reads.alone
 
 pub meta_read : (old new : State) (rows : List Row) (kept : Kept) → Shown read_text [] old new rows → Keeps kept old → rows ≡ meta_row kept.meta ∷ []
-meta_read old new rows kept h was = read_all_runs schema 0 meta meta_is.place read_text [] reads old new rows (contents_of kept) h was.rows
+meta_read old new rows kept h was = read_all_runs schema 0 meta meta_keyed.place read_text [] reads old new rows (contents_of kept) h was.rows
 
 -- the first row, in empty tables
 pub keeps_first : (m : Meta) (new : State) → Holds schema (with_table (empty_tables tables) 0 (with_row 1 (meta_row m) [])) new → Keeps (with_meta m nothing_kept) new

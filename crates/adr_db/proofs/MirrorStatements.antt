@@ -14,14 +14,14 @@ use Rattle.adr_state.specs.declared.base.Mark.{Mark}
 use Rattle.adr_state.specs.declared.keys.MirrorKey.{MirrorKey}
 use Rattle.adr_state.specs.Keys.{mirror_cmp, at}
 use Rattle.adr_sql.specs.Codecs.{entry_at}
-use Rattle.adr_sql.proofs.Puts.{AreValues}
+use Rattle.adr_sql.proofs.Values.{AreValues}
 use Rattle.adr_sql.proofs.Upserts.{IsUpsertText}
 use Rattle.adr_sql.proofs.Selections.{IsSelectText, whole_rows}
 use Rattle.adr_sql.proofs.Maps.{upsert_entry_runs, read_entry_runs, read_all_runs}
 use Rattle.adr_db.specs.Tables.{schema}
 use Rattle.adr_db.specs.Rows.{number, kind_number, key_row, mark_columns, mark_row}
 use Rattle.adr_db.specs.Kept.{Kept, Keeps, IsMark, AreMarks, contents_of, with_mark}
-use Rattle.adr_db.proofs.Tables.{mirror, mirror_is, mirror_keyed}
+use Rattle.adr_db.proofs.Tables.{mirror, mirror_keyed}
 use Rattle.adr_db.proofs.Rows.{mirror_codec}
 
 abbrev pub put_text : List ℕ
@@ -54,7 +54,7 @@ module _ (kind : ℕ) (id : List ℕ) (state moment : ℕ) (body : List ℕ) whe
   }
 
   values : AreValues mirror row
-  values = record { mended = refl; fits = refl; full = refl; width = refl }
+  values = record { fits = refl; full = refl; width = refl }
 
 -- a mark that is put joins those that are kept
 marks_put : (es : List (MirrorKey × Mark)) (k : MirrorKey) (v : Mark) → AreMarks es → IsMark v → AreMarks (insert_entry mirror_cmp es k v)
@@ -87,7 +87,7 @@ read_one_is_plain = reads_one.alone
 
 pub mark_read : (key : MirrorKey) (old new : State) (rows : List Row) (kept : Kept) → Shown read_one_text (key_row key) old new rows → Keeps kept old → rows ≡ map mark_row (entry_at key (at mirror_cmp key kept.mirror))
 mark_read key old new rows kept h was =
-    read_entry_runs schema 1 mirror mirror_is.place read_one_text (key_row key) mirror_cmp mark_row key_row mirror_codec key kept.mirror reads_one refl refl old new rows (contents_of kept) refl h was.rows
+    read_entry_runs schema 1 mirror mirror_keyed.place read_one_text (key_row key) mirror_cmp mark_row key_row mirror_codec key kept.mirror reads_one refl refl old new rows (contents_of kept) refl h was.rows
 
 reads_all : IsSelectText schema mirror (whole_rows 0 mirror) end read_all_text
 unfolding understood everything
@@ -97,4 +97,4 @@ pub read_all_is_plain : IsPlain (understood schema read_all_text)
 read_all_is_plain = reads_all.alone
 
 pub marks_read : (old new : State) (rows : List Row) (kept : Kept) → Shown read_all_text [] old new rows → Keeps kept old → rows ≡ map mark_row kept.mirror
-marks_read old new rows kept h was = read_all_runs schema 1 mirror mirror_is.place read_all_text [] reads_all old new rows (contents_of kept) h was.rows
+marks_read old new rows kept h was = read_all_runs schema 1 mirror mirror_keyed.place read_all_text [] reads_all old new rows (contents_of kept) h was.rows

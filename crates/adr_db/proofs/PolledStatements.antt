@@ -10,7 +10,7 @@ use Rattle.sqlite.specs.Listing.{understood}
 use Rattle.sqlite_tied.specs.Compute.{everything}
 use Rattle.adr_state.specs.declared.keys.MirrorKey.{MirrorKey}
 use Rattle.adr_state.specs.Keys.{mirror_cmp}
-use Rattle.adr_sql.proofs.Puts.{AreValues}
+use Rattle.adr_sql.proofs.Values.{AreValues}
 use Rattle.adr_sql.proofs.Upserts.{IsUpsertText}
 use Rattle.adr_sql.proofs.Removals.{IsRemoveText}
 use Rattle.adr_sql.proofs.Selections.{IsSelectText, whole_rows}
@@ -18,7 +18,7 @@ use Rattle.adr_sql.proofs.Maps.{upsert_key_runs, clear_runs, read_all_runs}
 use Rattle.adr_db.specs.Tables.{schema}
 use Rattle.adr_db.specs.Rows.{key_row}
 use Rattle.adr_db.specs.Kept.{Kept, Keeps, contents_of, with_polled, with_none_polled}
-use Rattle.adr_db.proofs.Tables.{polled, polled_is, polled_keyed}
+use Rattle.adr_db.proofs.Tables.{polled, polled_keyed, polled_childless}
 use Rattle.adr_db.proofs.Rows.{polled_codec}
 
 abbrev pub put_text : List ℕ
@@ -44,7 +44,7 @@ puts key = record {
 }
 
 values : (key : MirrorKey) → AreValues polled (key_row key)
-values key = record { mended = refl; fits = refl; full = refl; width = refl }
+values key = record { fits = refl; full = refl; width = refl }
 
 pub polled_put : (key : MirrorKey) (old new : State) (count : ℕ) → Executes put_text (key_row key) old new (Ok count) → (kept : Kept) → Keeps kept old → Keeps (with_polled key kept) new
 polled_put key old new count h kept was = record {
@@ -57,7 +57,7 @@ unfolding understood everything
 clears = record { command = refl; alone = (refl, refl); flat = refl; joins = refl }
 
 pub polled_cleared : (old new : State) (count : ℕ) → Executes clear_text [] old new (Ok count) → (kept : Kept) → Keeps kept old → Keeps (with_none_polled kept) new
-polled_cleared old new count h kept was = record { rows = clear_runs schema 2 polled polled_is clear_text [] clears old new count (contents_of kept) h was.rows; marks = was.marks }
+polled_cleared old new count h kept was = record { rows = clear_runs schema 2 polled polled_keyed.place polled_childless clear_text [] clears old new count (contents_of kept) h was.rows; marks = was.marks }
 
 reads : IsSelectText schema polled (whole_rows 0 polled) end read_text
 unfolding understood everything
@@ -67,4 +67,4 @@ pub read_is_plain : IsPlain (understood schema read_text)
 read_is_plain = reads.alone
 
 pub polled_read : (old new : State) (rows : List Row) (kept : Kept) → Shown read_text [] old new rows → Keeps kept old → rows ≡ map key_row kept.polled
-polled_read old new rows kept h was = read_all_runs schema 2 polled polled_is.place read_text [] reads old new rows (contents_of kept) h was.rows
+polled_read old new rows kept h was = read_all_runs schema 2 polled polled_keyed.place read_text [] reads old new rows (contents_of kept) h was.rows

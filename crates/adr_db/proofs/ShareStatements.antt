@@ -10,7 +10,7 @@ use Rattle.sqlite.specs.Listing.{understood}
 use Rattle.sqlite_tied.specs.Compute.{everything}
 use Rattle.adr_state.specs.Keys.{at, share_cmp}
 use Rattle.adr_sql.specs.Codecs.{entry_at}
-use Rattle.adr_sql.proofs.Puts.{AreValues}
+use Rattle.adr_sql.proofs.Values.{AreValues}
 use Rattle.adr_sql.proofs.Upserts.{IsUpsertText}
 use Rattle.adr_sql.proofs.Removals.{IsRemoveText}
 use Rattle.adr_sql.proofs.Selections.{IsSelectText, whole_rows, equalities}
@@ -19,7 +19,7 @@ use Rattle.adr_db.specs.Tables.{schema}
 use Rattle.adr_state.specs.declared.keys.ShareKey.{ShareKey}
 use Rattle.adr_db.specs.Rows.{share_key_row, share_row}
 use Rattle.adr_db.specs.Kept.{Kept, Keeps, contents_of, with_share, without_share}
-use Rattle.adr_db.proofs.Tables.{share, share_is, share_keyed}
+use Rattle.adr_db.proofs.Tables.{share, share_keyed, share_childless}
 use Rattle.adr_db.proofs.Rows.{share_codec}
 
 abbrev pub put_text : List ℕ
@@ -51,7 +51,7 @@ puts e = record {
 }
 
 values : (e : ShareKey × ℕ) → AreValues share (share_row e)
-values e = record { mended = refl; fits = refl; full = refl; width = refl }
+values e = record { fits = refl; full = refl; width = refl }
 
 removes : IsRemoveText schema 5 share end (equalities 0 2) remove_text
 unfolding understood everything
@@ -86,6 +86,6 @@ shares_read old new rows kept h was = read_all_runs schema 5 share share_keyed.p
 
 pub share_removed : (k : ShareKey) (old new : State) (count : ℕ) → Executes remove_text (share_key_row k) old new (Ok count) → (kept : Kept) → Keeps kept old → Keeps (without_share k kept) new
 share_removed k old new count h kept was = record {
-  rows = remove_entry_runs schema 5 share share_is remove_text (share_key_row k) share_cmp share_row share_key_row share_codec k kept.shares removes refl refl old new count (contents_of kept) refl h was.rows;
+  rows = remove_entry_runs schema 5 share share_keyed.place share_childless remove_text (share_key_row k) share_cmp share_row share_key_row share_codec k kept.shares removes refl refl old new count (contents_of kept) refl h was.rows;
   marks = was.marks;
 }

@@ -27,7 +27,7 @@ use Rattle.adr_db.specs.Tables.{schema}
 use Rattle.adr_db.specs.Rows.{number, key_row, mark_columns, mark_row}
 use Rattle.adr_state.specs.Scans.{is_live, has_key as is_polled, probes}
 use Rattle.adr_db.specs.Kept.{Kept, Keeps, contents_of, at_most, limit_number}
-use Rattle.adr_db.proofs.Tables.{mirror, mirror_is}
+use Rattle.adr_db.proofs.Tables.{mirror, mirror_keyed}
 use Rattle.adr_db.proofs.Rows.{keys_as_rows}
 
 abbrev pub text : List ℕ
@@ -65,7 +65,7 @@ any_map p f [] = refl
 any_map p f (x ∷ xs) = ap (λ b. p (f x) || b) (any_map p f xs)
 
 -- the tests of WHERE, at a key with its mark
-passes_is : (limit : ℤ) (kept : Kept) (e : MirrorKey × Mark) → is_match schema 1 mirror mirror_is.place query rest text (Int limit ∷ []) selects (contents_of kept) (mark_row e) ≡ (is_live e.1 && not (is_polled kept.polled e.0))
+passes_is : (limit : ℤ) (kept : Kept) (e : MirrorKey × Mark) → is_match schema 1 mirror mirror_keyed.place query rest text (Int limit ∷ []) selects (contents_of kept) (mark_row e) ≡ (is_live e.1 && not (is_polled kept.polled e.0))
 passes_is limit kept e =
     ap₂ ◌&&◌ (equal_is (column (mark_row e) 2) (number 1) refl ∙ live_is e.1)
     (and_true _ ∙ absent_key schema.tables (contents_of kept) 2 4 (Int limit ∷ []) (mark_row e) refl
@@ -75,13 +75,13 @@ passes_is limit kept e =
     polled_order e k = keys_as_rows e.0 k (mark_columns e.1) []
 
 found_is : (limit : ℤ) (kept : Kept)
-    → map (λ row. column row 0 ∷ column row 1 ∷ []) (filter (is_match schema 1 mirror mirror_is.place query rest text (Int limit ∷ []) selects (contents_of kept)) (map mark_row kept.mirror)) ≡ map key_row (probes kept.mirror kept.polled)
+    → map (λ row. column row 0 ∷ column row 1 ∷ []) (filter (is_match schema 1 mirror mirror_keyed.place query rest text (Int limit ∷ []) selects (contents_of kept)) (map mark_row kept.mirror)) ≡ map key_row (probes kept.mirror kept.polled)
 found_is limit kept =
     ap (map (λ row. column row 0 ∷ column row 1 ∷ [])) (filter-map _ mark_row kept.mirror ∙ ap (λ (p : MirrorKey × Mark → Bool). map mark_row (filter p kept.mirror)) (λ i e. passes_is limit kept e i))
     ∙ map-map (λ row. column row 0 ∷ column row 1 ∷ []) mark_row _ ∙ sym (map-map key_row (λ e. e.0) _)
 
 pub unseen_read : (limit : Option ℕ) (old new : State) (rows : List Row) (kept : Kept) → Shown text (Int (limit_number limit) ∷ []) old new rows → Keeps kept old → rows ≡ map key_row (at_most limit (probes kept.mirror kept.polled))
 unseen_read None old new rows kept h was =
-    select_runs schema 1 mirror mirror_is.place query rest text (Int (negsuc 0) ∷ []) selects old new rows (contents_of kept) h was.rows ∙ found_is (negsuc 0) kept
+    select_runs schema 1 mirror mirror_keyed.place query rest text (Int (negsuc 0) ∷ []) selects old new rows (contents_of kept) h was.rows ∙ found_is (negsuc 0) kept
 unseen_read (Some n) old new rows kept h was =
-    select_runs schema 1 mirror mirror_is.place query rest text (Int (pos n) ∷ []) selects old new rows (contents_of kept) h was.rows ∙ ap (take n) (found_is (pos n) kept) ∙ take-map key_row n (probes kept.mirror kept.polled)
+    select_runs schema 1 mirror mirror_keyed.place query rest text (Int (pos n) ∷ []) selects old new rows (contents_of kept) h was.rows ∙ ap (take n) (found_is (pos n) kept) ∙ take-map key_row n (probes kept.mirror kept.polled)

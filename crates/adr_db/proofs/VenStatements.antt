@@ -11,7 +11,7 @@ use Rattle.sqlite.specs.Listing.{understood}
 use Rattle.sqlite_tied.specs.Compute.{everything}
 use Rattle.adr_state.specs.Keys.{at}
 use Rattle.adr_sql.specs.Codecs.{entry_at}
-use Rattle.adr_sql.proofs.Puts.{AreValues}
+use Rattle.adr_sql.proofs.Values.{AreValues}
 use Rattle.adr_sql.proofs.Upserts.{IsUpsertText}
 use Rattle.adr_sql.proofs.Removals.{IsRemoveText}
 use Rattle.adr_sql.proofs.Selections.{IsSelectText, whole_rows, equalities}
@@ -52,7 +52,7 @@ puts e = record {
 }
 
 values : (e : ℕ × Ven) → AreValues ven (ven_row e)
-values e = record { mended = refl; fits = refl; full = refl; width = refl }
+values e = record { fits = refl; full = refl; width = refl }
 
 pub removes : IsRemoveText schema 3 ven end (equalities 0 1) remove_text
 unfolding understood everything

@@ -12,7 +12,6 @@ use Rattle.sqlite_value.proofs.OrderLemmas.{value_cmp_total}
 use Rattle.sqlite_sql.specs.Ops.{binary, is_null, is_true, from_truth}
 use Rattle.sqlite_sql.specs.Query.{key_cmp}
 use Rattle.sqlite_schema.specs.Rules.{equal, agree}
-use Rattle.sqlite_trees.specs.View.{is_int}
 use Rattle.sqlite_rules.specs.Lists.{Has}
 use Rattle.adr_sql.specs.Keys.{has_key}
 
@@ -61,13 +60,6 @@ null_apart (Int n) full = refl
 null_apart (Real x) full = refl
 null_apart (Text t) full = refl
 null_apart (Blob b) full = refl
-
-pub int_full : (v : Value) → is_int v ≡ true → is_null v ≡ false
-int_full Null h = absurd cc
-int_full (Int n) h = refl
-int_full (Real x) h = refl
-int_full (Text t) h = refl
-int_full (Blob b) h = refl
 
 -- `=` where the second value is not NULL
 pub equal_is : (x y : Value) → is_null y ≡ false → equal Binary x y ≡ is_eq (value_cmp y x)

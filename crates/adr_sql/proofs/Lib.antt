@@ -2,7 +2,7 @@ pub mod Keys
 pub mod Rows
 pub mod Places
 pub mod References
-pub mod Puts
+pub mod Values
 pub mod Selections
 pub mod Joins
 pub mod Removals

@@ -25,7 +25,8 @@ use Rattle.sqlite_rules.specs.Lists.{Has}
 use Rattle.sqlite_rules.proofs.ListLemmas.{has_kept}
 use Rattle.adr_sql.proofs.Keys.{are_full, ties}
 use Rattle.adr_sql.proofs.Places.{IsFound, stores_at}
-use Rattle.adr_sql.proofs.Puts.{IsKept, IsPutText, AreValues, put_runs}
+use Rattle.adr_sql.proofs.Values.{AreValues}
+use Rattle.adr_sql.proofs.References.{is_childless}
 use Rattle.adr_sql.proofs.Upserts.{IsKeyed, IsUpsertText, upsert_runs}
 use Rattle.adr_sql.proofs.Selections.{IsSelectText, whole_rows, equalities, read_runs}
 use Rattle.adr_sql.proofs.Removals.{IsRemoveText, remove_at_runs}
@@ -177,29 +178,21 @@ module _ (schema : Schema) (at : ℕ) (table : Table) (it : IsFound schema at ta
         read_runs schema at (length table.primary) table it sql params text full old new rows all h was
         ∙ ap₂ (rows_at (length table.primary)) key is ∙ read_entry (length table.primary) cmp row_of key_of codec k es up
 
-module _ (schema : Schema) (at : ℕ) (table : Table) (it : IsKept schema at table) (sql : List ℕ) (params : Row) where
+-- what goes, of a table to which no reference points
+module _ (schema : Schema) (at : ℕ) (table : Table) (it : IsFound schema at table) (childless : is_childless schema table.tree ≡ true) (sql : List ℕ) (params : Row) where
   -- all rows go
   pub clear_runs : (text : IsRemoveText schema at table end [] sql) → (old new : State) (count : ℕ) (all : Contents) → Executes sql params old new (Ok count) → Holds schema all old → Holds schema (with_table all at []) new
   clear_runs text old new count all h was =
-      subst (λ rows. Holds schema (with_table all at rows) new) (rows_without_none params (rows_of_table all at)) (remove_at_runs schema at 0 table it.place it.childless sql params text refl old new count all h was)
+      subst (λ rows. Holds schema (with_table all at rows) new) (rows_without_none params (rows_of_table all at)) (remove_at_runs schema at 0 table it childless sql params text refl old new count all h was)
 
   module _ {K V : Type 0} (cmp : K → K → Ordering) (row_of : K × V → Row) (key_of : K → Row) (codec : IsCodec (length table.primary) cmp row_of key_of) where
-    pub put_entry_runs : (k : K) (v : V) (es : List (K × V)) → IsPutText schema at table sql params (row_of (k, v)) → AreValues table (row_of (k, v)) → (old new : State) (count : ℕ) (all : Contents) → rows_of_table all at ≡ map row_of es
-        → Executes sql params old new (Ok count) → Holds schema all old → Holds schema (with_table all at (map row_of (insert_entry cmp es k v))) new
-    put_entry_runs k v es text are old new count all is h was = entry_inserted schema at table cmp row_of key_of codec k v es new all is (put_runs schema at table it sql params (row_of (k, v)) text are old new count all h was)
-
     pub remove_entry_runs : (k : K) (es : List (K × V)) → IsRemoveText schema at table end (equalities 0 (length table.primary)) sql → params ≡ key_of k → are_full 0 (length table.primary) params ≡ true → (old new : State) (count : ℕ) (all : Contents)
         → rows_of_table all at ≡ map row_of es → Executes sql params old new (Ok count) → Holds schema all old → Holds schema (with_table all at (map row_of (remove_entry (is_at (cmp k)) es))) new
     remove_entry_runs k es text key full old new count all is h was =
-        let held = stores_at schema.tables at table old.now.trees all it.place.found was.each in
+        let held = stores_at schema.tables at table old.now.trees all it.found was.each in
         let up = subst (IsAscending (λ a b. key_order (length table.primary) a b ≡ Less)) is held.rising in
         subst (λ rows. Holds schema (with_table all at rows) new) (ap₂ (rows_without (length table.primary)) key is ∙ remove_entry_is (length table.primary) cmp row_of key_of codec k es up)
-        (remove_at_runs schema at (length table.primary) table it.place it.childless sql params text full old new count all h was)
-
-  -- a set
-  pub put_key_runs : {K : Type 0} (cmp : K → K → Ordering) (row_of : K → Row) → IsCodec {K = K} {V = Unit {0}} (length table.primary) cmp (λ e. row_of e.0) row_of → (k : K) (ks : List K) → IsPutText schema at table sql params (row_of k) → AreValues table (row_of k)
-      → (old new : State) (count : ℕ) (all : Contents) → rows_of_table all at ≡ map row_of ks → Executes sql params old new (Ok count) → Holds schema all old → Holds schema (with_table all at (map row_of (insert_key cmp ks k))) new
-  put_key_runs cmp row_of codec k ks text are old new count all is h was = key_inserted schema at table cmp row_of codec k ks new all is (put_runs schema at table it sql params (row_of k) text are old new count all h was)
+        (remove_at_runs schema at (length table.primary) table it childless sql params text full old new count all h was)
 
 -- a put that writes over the row of the key where it stands
 module _ (schema : Schema) (at : ℕ) (table : Table) (it : IsKeyed schema at table) (sql : List ℕ) (params : Row) where

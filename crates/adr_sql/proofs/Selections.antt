@@ -342,8 +342,12 @@ passes_from (suc k) at params r full =
 pub passes_is : (k : ℕ) (params r : Row) → are_full 0 k params ≡ true → passes params (equalities 0 k) r ≡ has_key k params (drop 1 r)
 passes_is k params r full = passes_from k 0 params r full
 
+-- the first columns of the rows that pass tests, in the order of the key
+abbrev pub first_columns : ℕ → List Term → Table → Query
+first_columns m terms table = simple table.tree terms (columns_from 0 m) (order_from 0 (length table.primary))
+
 abbrev pub whole_rows : ℕ → Table → Query
-whole_rows k table = simple table.tree (equalities 0 k) (columns_from 0 (length table.columns)) (order_from 0 (length table.primary))
+whole_rows k table = first_columns (length table.columns) (equalities 0 k) table
 
 map_same_on : {A B : Type 0} (f g : A → B) (xs : List A) → AllByRecursion (λ x. f x ≡ g x) xs → map f xs ≡ map g xs
 map_same_on f g [] h = refl
@@ -353,16 +357,22 @@ map_itself : (xs : List Row) → map (λ (e : Row). e) xs ≡ xs
 map_itself [] = refl
 map_itself (x ∷ xs) = ap (λ l. x ∷ l) (map_itself xs)
 
+module _ (schema : Schema) (at m : ℕ) (terms : List Term) (table : Table) (it : IsFound schema at table) (sql : List ℕ) (params : Row) (text : IsSelectText schema table (first_columns m terms table) end sql) where
+  pub first_runs : (old new : State) (rows : List Row) (all : Contents) → Shown sql params old new rows → Holds schema all old
+      → rows ≡ map (cells 0 m) (filter (λ e. passes params terms (Null ∷ e)) (rows_of_table all at))
+  first_runs old new rows all h was =
+      select_runs schema at table it (first_columns m terms table) end sql params text old new rows all h was
+      ∙ ap (λ (show : Row → Row). map show (filter (λ e. passes params terms (Null ∷ e)) (rows_of_table all at))) (λ i e. shown_cells m 0 (params ∷ (Null ∷ e) ∷ []) e refl i)
+
 module _ (schema : Schema) (at k : ℕ) (table : Table) (it : IsFound schema at table) (sql : List ℕ) (params : Row) (text : IsSelectText schema table (whole_rows k table) end sql) (full : are_full 0 k params ≡ true) where
   pub read_runs : (old new : State) (rows : List Row) (all : Contents) → Shown sql params old new rows → Holds schema all old → rows ≡ rows_at k params (rows_of_table all at)
   read_runs old new rows all h was =
       let held = stores_at schema.tables at table old.now.trees all it.found was.each in
       let width = length table.columns in
-      let show : Row → Row = λ e. eval_all (columns_from 0 width) (params ∷ (Null ∷ e) ∷ []) in
-      let whole : (e : Row) → length e ≡ width → show e ≡ e = λ e wide. shown_cells width 0 (params ∷ (Null ∷ e) ∷ []) e refl ∙ ap (λ w. cells 0 w e) (sym wide) ∙ cells_whole e in
-      select_runs schema at table it (whole_rows k table) end sql params text old new rows all h was
-      ∙ ap (λ (p : Row → Bool). map show (filter p (rows_of_table all at))) (λ i e. passes_is k params (Null ∷ e) full i)
-      ∙ map_same_on show (λ e. e) _ (all_weaker _ (λ e. show e ≡ e) whole _ (all-filter _ (has_key k params) (rows_of_table all at) held.whole))
+      let whole : (e : Row) → length e ≡ width → cells 0 width e ≡ e = λ e wide. ap (λ w. cells 0 w e) (sym wide) ∙ cells_whole e in
+      first_runs schema at width (equalities 0 k) table it sql params text old new rows all h was
+      ∙ ap (λ (p : Row → Bool). map (cells 0 width) (filter p (rows_of_table all at))) (λ i e. passes_is k params (Null ∷ e) full i)
+      ∙ map_same_on (cells 0 width) (λ e. e) _ (all_weaker _ (λ e. cells 0 width e ≡ e) whole _ (all-filter _ (has_key k params) (rows_of_table all at) held.whole))
       ∙ map_itself _
 
 -- ---- rows that another table lacks

@@ -54,7 +54,7 @@ use Rattle.adr_sql.proofs.Places.{LeavesOthers, IsFound, stores_at, stores_with_
 use Rattle.adr_sql.proofs.References.{is_unfollowed, no_follow, went, same_value, cast_null, cast_int}
 use Rattle.adr_sql.proofs.Selections.{simple, passes, picked, overlay_none}
 use Rattle.adr_sql.proofs.Removals.{taken_out}
-use Rattle.adr_sql.proofs.Puts.{AreValues, fit_kept}
+use Rattle.adr_sql.proofs.Values.{AreValues, fit_kept}
 
 -- ---- the rows with a key are at most one
 
