@@ -13,7 +13,7 @@ texts =
     ∷ codes "CREATE TABLE polled (kind INT NOT NULL, id TEXT NOT NULL, PRIMARY KEY (kind, id)) STRICT"
     ∷ codes "CREATE TABLE ven (id INT NOT NULL, name TEXT NOT NULL, created INT NOT NULL, modified INT NOT NULL, PRIMARY KEY (id), UNIQUE (name)) STRICT"
     ∷ codes "CREATE TABLE resource (id INT NOT NULL, ven INT NOT NULL REFERENCES ven (id) ON DELETE CASCADE, name TEXT NOT NULL, created INT NOT NULL, modified INT NOT NULL, PRIMARY KEY (id), UNIQUE (name)) STRICT"
-    ∷ codes "CREATE TABLE share (program TEXT NOT NULL, resource INT NOT NULL REFERENCES resource (id) ON DELETE CASCADE, weight INT NOT NULL CHECK (weight >= 1 AND weight <= 1000000), PRIMARY KEY (program, resource)) STRICT"
+    ∷ codes "CREATE TABLE share (program TEXT NOT NULL, resource INT NOT NULL REFERENCES resource (id) ON DELETE CASCADE, weight INT NOT NULL CHECK (weight >= 1 AND weight <= 1000000), PRIMARY KEY (program, resource), UNIQUE (resource, program)) STRICT"
     ∷ []
 
 pub make_tables : Makes no_schema texts tables

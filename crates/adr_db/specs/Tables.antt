@@ -61,13 +61,13 @@ resource_table =
 abbrev pub weight_check : Term
 weight_check = op2 And (op2 (Compare Ge Binary) (col 1 3) (lit (Int (pos 1)))) (op2 (Compare Le Binary) (col 1 3) (lit (Int (pos 1_000_000))))
 
--- the shares of resources in programs, which go with their resource
+-- the shares of resources in programs, which go with their resource: the second unique key is there to find them by it
 abbrev pub share_table : Table
 share_table =
     checked_table (codes "share") (column (codes "program") Text
     ∷ column (codes "resource") Integer
     ∷ column (codes "weight") Integer
-    ∷ []) ((1 ∷ 2 ∷ []) ∷ []) (1 ∷ 2 ∷ []) (weight_check ∷ []) (cascades_to 2 (codes "resource") (codes "id") ∷ [])
+    ∷ []) ((1 ∷ 2 ∷ []) ∷ (2 ∷ 1 ∷ []) ∷ []) (1 ∷ 2 ∷ []) (weight_check ∷ []) (cascades_to 2 (codes "resource") (codes "id") ∷ [])
 
 abbrev pub tables : List Table
 tables = meta_table ∷ mirror_table ∷ polled_table ∷ ven_table ∷ resource_table ∷ share_table ∷ []

@@ -27,7 +27,7 @@ fn create_empty<S: Alter>(tx: &mut Transaction<'_, S>) -> Result<(), Refusal>
         "CREATE TABLE polled (kind INT NOT NULL, id TEXT NOT NULL, PRIMARY KEY (kind, id)) STRICT",
         "CREATE TABLE ven (id INT NOT NULL, name TEXT NOT NULL, created INT NOT NULL, modified INT NOT NULL, PRIMARY KEY (id), UNIQUE (name)) STRICT",
         "CREATE TABLE resource (id INT NOT NULL, ven INT NOT NULL REFERENCES ven (id) ON DELETE CASCADE, name TEXT NOT NULL, created INT NOT NULL, modified INT NOT NULL, PRIMARY KEY (id), UNIQUE (name)) STRICT",
-        "CREATE TABLE share (program TEXT NOT NULL, resource INT NOT NULL REFERENCES resource (id) ON DELETE CASCADE, weight INT NOT NULL CHECK (weight >= 1 AND weight <= 1000000), PRIMARY KEY (program, resource)) STRICT",
+        "CREATE TABLE share (program TEXT NOT NULL, resource INT NOT NULL REFERENCES resource (id) ON DELETE CASCADE, weight INT NOT NULL CHECK (weight >= 1 AND weight <= 1000000), PRIMARY KEY (program, resource), UNIQUE (resource, program)) STRICT",
     ];
     match create_tables(tx, &texts) {
         Ok(()) => Ok(()),
