@@ -4,6 +4,7 @@ pub mod Creating
 pub mod MetaStatements
 pub mod MirrorStatements
 pub mod PolledStatements
+pub mod Named
 pub mod VenStatements
 pub mod ResourceStatements
 pub mod ShareStatements

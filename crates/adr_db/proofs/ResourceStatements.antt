@@ -1,9 +1,10 @@
 -- The statements on the table `resource`.
-use Rattle.std.proofs.Common.{◌≡◌, ℕ, List, [], ◌∷◌, codes, map, Ok, refl}
+use Rattle.std.proofs.Common.{◌≡◌, ◌∙◌, ℕ, List, [], ◌∷◌, codes, map, length, Ok, refl}
 use Rattle.std.specs.Ordering.{nat_cmp}
-use Rattle.sqlite_value.specs.declared.value.Value.TheVariants.{Null}
+use Rattle.sqlite_value.specs.declared.value.Value.TheVariants.{Null, Text}
 use Rattle.sqlite_value.specs.Order.{Row}
 use Rattle.sqlite_sql.specs.Term.{lit, col}
+use Rattle.sqlite_sql.specs.Aggregate.{count}
 use Rattle.sqlite_sql.specs.Query.{end}
 use Rattle.sqlite.specs.State.{State, Executes, Shown}
 use Rattle.sqlite.specs.Given.{IsPlain}
@@ -14,12 +15,14 @@ use Rattle.adr_sql.specs.Codecs.{entry_at}
 use Rattle.adr_sql.proofs.Values.{AreValues}
 use Rattle.adr_sql.proofs.Upserts.{IsUpsertText}
 use Rattle.adr_sql.proofs.Removals.{IsRemoveText}
-use Rattle.adr_sql.proofs.Selections.{IsSelectText, whole_rows, equalities}
-use Rattle.adr_sql.proofs.Maps.{upsert_entry_runs, read_entry_runs, read_all_runs}
+use Rattle.adr_sql.proofs.Counts.{IsCountText}
+use Rattle.adr_sql.proofs.Selections.{IsSelectText, first_columns, whole_rows, equalities, first_runs}
+use Rattle.adr_sql.proofs.Maps.{is_text, upsert_entry_runs, read_entry_runs, read_all_runs, count_all_runs}
+use Rattle.adr_db.proofs.Named.{named}
 use Rattle.adr_db.specs.Tables.{schema}
 use Rattle.adr_state.specs.declared.base.Resource.{Resource}
 use Rattle.adr_db.specs.Rows.{number_row, resource_columns, resource_row}
-use Rattle.adr_db.specs.Kept.{Kept, Keeps, contents_of, with_resource}
+use Rattle.adr_db.specs.Kept.{Kept, Keeps, contents_of, resources_named, with_resource}
 use Rattle.adr_db.proofs.Tables.{resource, resource_keyed}
 use Rattle.adr_db.proofs.Rows.{number_codec}
 
@@ -84,3 +87,34 @@ resource_read k old new rows kept h was =
 
 pub resources_read : (old new : State) (rows : List Row) (kept : Kept) → Shown read_all_text [] old new rows → Keeps kept old → rows ≡ map resource_row kept.resources
 resources_read old new rows kept h was = read_all_runs schema 4 resource resource_keyed.place read_all_text [] reads_all old new rows (contents_of kept) h was.rows
+
+-- ---- by name
+
+abbrev pub named_text : List ℕ
+named_text = codes "SELECT id FROM resource WHERE name = ?1 ORDER BY id"
+
+reads_named : IsSelectText schema resource (first_columns 1 (is_text 2) resource) end named_text
+unfolding understood everything
+reads_named = record { names = codes "id" ∷ []; command = refl; alone = (refl, refl); unlisted = refl; from = refl; flat = refl; order = refl; ungrouped = refl; undistinct = refl; joins = refl; sorts = refl; shows = refl }
+
+pub named_is_plain : IsPlain (understood schema named_text)
+named_is_plain = reads_named.alone
+
+pub named_read : (name : List ℕ) (old new : State) (rows : List Row) (kept : Kept) → Shown named_text (Text name ∷ []) old new rows → Keeps kept old → rows ≡ map number_row (resources_named name kept.resources)
+named_read name old new rows kept h was =
+    first_runs schema 4 1 (is_text 2) resource resource_keyed.place named_text (Text name ∷ []) reads_named old new rows (contents_of kept) h was.rows ∙ named resource_columns (λ v. v.name) 2 (λ n v. refl) name kept.resources
+
+-- ---- how many there are
+
+abbrev pub count_text : List ℕ
+count_text = codes "SELECT count(*) FROM resource"
+
+counts : IsCountText schema 0 resource count_text
+unfolding understood everything
+counts = record { names = codes "count(*)" ∷ []; command = refl; alone = (refl, refl); unlisted = refl }
+
+pub count_is_plain : IsPlain (understood schema count_text)
+count_is_plain = counts.alone
+
+pub resources_counted : (old new : State) (rows : List Row) (kept : Kept) → Shown count_text [] old new rows → Keeps kept old → rows ≡ (count (length kept.resources) ∷ []) ∷ []
+resources_counted old new rows kept h was = count_all_runs schema 4 resource resource_keyed.place count_text [] resource_row kept.resources counts old new rows (contents_of kept) refl h was.rows

@@ -71,6 +71,9 @@ polled_codec = record {
 pub number_kept : (m n : ℕ) → number m ≡ number n → m ≡ n
 number_kept m n h = cc
 
+pub number_row_kept : (m n : ℕ) → number_row m ≡ number_row n → m ≡ n
+number_row_kept m n h = cc
+
 -- numbers are ordered as their values are
 pub numbers_as_values : (j k : ℕ) → int_cmp (pos j) (pos k) ≡ nat_cmp j k
 numbers_as_values j k = sym (int_cmp_is (pos j) (pos k) (nat_cmp j k) (go (nat_cmp j k) (ranked j k (nat_cmp j k) refl)))

@@ -1,8 +1,9 @@
 -- The statements on the table `share`.
-use Rattle.std.proofs.Common.{◌≡◌, ℕ, List, [], ◌∷◌, codes, map, Ok, refl}
+use Rattle.std.proofs.Common.{◌≡◌, ℕ, List, [], ◌∷◌, codes, map, length, Ok, refl}
 use Rattle.sqlite_value.specs.declared.value.Value.TheVariants.{Null}
 use Rattle.sqlite_value.specs.Order.{Row}
 use Rattle.sqlite_sql.specs.Term.{lit, col}
+use Rattle.sqlite_sql.specs.Aggregate.{count}
 use Rattle.sqlite_sql.specs.Query.{end}
 use Rattle.sqlite.specs.State.{State, Executes, Shown}
 use Rattle.sqlite.specs.Given.{IsPlain}
@@ -13,8 +14,9 @@ use Rattle.adr_sql.specs.Codecs.{entry_at}
 use Rattle.adr_sql.proofs.Values.{AreValues}
 use Rattle.adr_sql.proofs.Upserts.{IsUpsertText}
 use Rattle.adr_sql.proofs.Removals.{IsRemoveText}
+use Rattle.adr_sql.proofs.Counts.{IsCountText}
 use Rattle.adr_sql.proofs.Selections.{IsSelectText, whole_rows, equalities}
-use Rattle.adr_sql.proofs.Maps.{upsert_entry_runs, read_entry_runs, read_all_runs, remove_entry_runs}
+use Rattle.adr_sql.proofs.Maps.{upsert_entry_runs, read_entry_runs, read_all_runs, count_all_runs, remove_entry_runs}
 use Rattle.adr_db.specs.Tables.{schema}
 use Rattle.adr_state.specs.declared.keys.ShareKey.{ShareKey}
 use Rattle.adr_db.specs.Rows.{share_key_row, share_row}
@@ -89,3 +91,18 @@ share_removed k old new count h kept was = record {
   rows = remove_entry_runs schema 5 share share_keyed.place share_childless remove_text (share_key_row k) share_cmp share_row share_key_row share_codec k kept.shares removes refl refl old new count (contents_of kept) refl h was.rows;
   marks = was.marks;
 }
+
+-- ---- how many there are
+
+abbrev pub count_text : List ℕ
+count_text = codes "SELECT count(*) FROM share"
+
+counts : IsCountText schema 0 share count_text
+unfolding understood everything
+counts = record { names = codes "count(*)" ∷ []; command = refl; alone = (refl, refl); unlisted = refl }
+
+pub count_is_plain : IsPlain (understood schema count_text)
+count_is_plain = counts.alone
+
+pub shares_counted : (old new : State) (rows : List Row) (kept : Kept) → Shown count_text [] old new rows → Keeps kept old → rows ≡ (count (length kept.shares) ∷ []) ∷ []
+shares_counted old new rows kept h was = count_all_runs schema 5 share share_keyed.place count_text [] share_row kept.shares counts old new rows (contents_of kept) refl h was.rows

@@ -1,6 +1,6 @@
 -- The tables hold the state: the rows of each, read by key, are the corresponding map.
 use Rattle.std.specs.List.{AllByRecursion}
-use Rattle.std.specs.Prelude.{ℕ, ℤ, pos, negsuc, Bool, false, not, ◌==◌, Option, None, Some, take, List, [], ◌∷◌, map, filter}
+use Rattle.std.specs.Prelude.{ℕ, ℤ, pos, negsuc, Bool, false, not, ◌==◌, Option, None, Some, take, bytes_eq, List, [], ◌∷◌, map, filter}
 use Rattle.std.specs.Ordering.{nat_cmp}
 use Rattle.std.specs.Option.{option_map_or}
 use Rattle.std.specs.Map.{remove_entry}
@@ -83,6 +83,13 @@ with_resource n resource kept = record kept { resources = insert_entry nat_cmp k
 
 abbrev pub with_share : ShareKey → ℕ → Kept → Kept
 with_share key weight kept = record kept { shares = insert_entry share_cmp kept.shares key weight }
+
+-- the numbers of those that have a name
+abbrev pub vens_named : List ℕ → List (ℕ × Ven) → List ℕ
+vens_named name vens = map (λ v. v.0) (filter (λ v. bytes_eq v.1.name name) vens)
+
+abbrev pub resources_named : List ℕ → List (ℕ × Resource) → List ℕ
+resources_named name resources = map (λ r. r.0) (filter (λ r. bytes_eq r.1.name name) resources)
 
 -- whether a resource is there and belongs to the ven
 abbrev pub is_of_ven : ℕ → List (ℕ × Resource) → ℕ → Bool

@@ -63,6 +63,9 @@ mark_row e = key_row e.0 ++ mark_columns e.1
 abbrev pub number_row : ℕ → Row
 number_row n = number n ∷ []
 
+abbrev pub number_cells : Row → Row
+number_cells row = column row 0 ∷ []
+
 abbrev pub stamps_columns : Stamps → Row
 stamps_columns stamps = number stamps.created ∷ number stamps.modified ∷ []
 

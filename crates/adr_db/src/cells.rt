@@ -1,13 +1,14 @@
 //! Columns of a row as the values of the machine. What no call of this crate wrote is the store's refusal.
-ghost use Rattle.std.specs.Prelude.{◌≡◌, ◌<◌, ◌+◌, pos, [], ◌∷◌, length, map, IfOk, IfErr};
+ghost use Rattle.std.specs.Prelude.{◌≡◌, ℕ, ◌<◌, ◌+◌, pos, [], ◌∷◌, length, map, IfOk, IfErr};
 ghost use Rattle.sqlite.specs.Order.{column};
 ghost use Rattle.sqlite_value.specs.Value.{owned};
 ghost use Rattle.sqlite.specs.declared.types.Value.TheVariants.{Int};
 ghost use Rattle.adr_db.specs.Calls.{IsOfStore};
-ghost use Rattle.adr_db.specs.Rows.{kind_number, key_row, key_cells, stamps_columns};
+ghost use Rattle.sqlite_sql.specs.Aggregate.{count};
+ghost use Rattle.adr_db.specs.Rows.{number_row, number_cells, kind_number, key_row, key_cells, stamps_columns};
 
 use crate::statement::refusal_of;
-use adr_schema::{Kind, ResourceName, Stamps};
+use adr_schema::{Kind, Number, ResourceName, Stamps};
 use adr_state::{MirrorKey, Weight};
 use adr_text::{Fault, Moment, Name, ObjectId, Refusal, Rows};
 use sqlite::Row;
@@ -125,6 +126,42 @@ pub(crate) fn stamps_in(row: &Row, at: usize) -> Result<Stamps, Refusal>
         created: moment_of(column(row, at)?)?,
         modified: moment_of(column(row, at + 1)?)?,
     })
+}
+
+/// The number in the first column of each row.
+pub(crate) fn numbers_in(alloc: Global, rows: &[Row]) -> Result<Rows<Number>, Refusal>
+    ensures numbers { IfOk result (λ numbers. map number_row numbers ≡ map number_cells rows.now) }
+    ensures refused { IfErr result IsOfStore }
+{
+    let mut numbers = Rows::new(alloc);
+    'rows: for row in rows {
+        let number: u64 = column(row, 0)?;
+        numbers.push(Number::new(number))?;
+    }
+    Ok(numbers)
+}
+
+fn count_of(row: &Row) -> Result<u64, Refusal>
+    ensures counted { IfOk result (λ n. (m : ℕ) → column row.now 0 ≡ count m → n ≡ m) }
+    ensures refused { IfErr result IsOfStore }
+{
+    let counted: u64 = column(row, 0)?;
+    if counted >= 9_223_372_036_854_775_807 {
+        return Err(Refusal::Store);
+    }
+    Ok(counted)
+}
+
+/// The number that a query counted, which is all that it shows. SQL counts no further than
+/// 9,223,372,036,854,775,807: that is the store's refusal.
+pub(crate) fn count_in(rows: &[Row]) -> Result<u64, Refusal>
+    ensures counted { IfOk result (λ n. (m : ℕ) → rows.now ≡ (count m ∷ []) ∷ [] → n ≡ m) }
+    ensures refused { IfErr result IsOfStore }
+{
+    match rows.first() {
+        Some(row) => count_of(row),
+        None => Err(Refusal::Store),
+    }
 }
 
 /// The key in the first two columns.

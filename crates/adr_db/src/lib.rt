@@ -19,9 +19,12 @@ pub use meta::{Meta, put_meta, read_meta};
 pub use mirror::{MarkColumns, MirrorRow, put_mark, read_mark, read_marks};
 pub use polled::{clear_polled, put_polled, read_polled};
 pub use probes::read_unseen;
-pub use resource::{put_resource, read_resource, read_resources, remove_resource};
+pub use resource::{
+    count_resources, put_resource, read_resource, read_resources, read_resources_named,
+    remove_resource,
+};
 pub use schema::create;
-pub use share::{put_share, read_share, read_shares, remove_share};
+pub use share::{count_shares, put_share, read_share, read_shares, remove_share};
 pub use sharers::read_sharers;
 pub use statement::refusal_of;
-pub use ven::{put_ven, read_ven, read_vens, remove_ven};
+pub use ven::{count_vens, put_ven, read_ven, read_vens, read_vens_named, remove_ven};

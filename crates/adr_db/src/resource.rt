@@ -1,15 +1,15 @@
 //! The table `resource`: the resources of the vens.
-ghost use Rattle.std.specs.Prelude.{◌≡◌, [], ◌∷◌, map, IfOk, IfErr};
+ghost use Rattle.std.specs.Prelude.{◌≡◌, [], ◌∷◌, map, length, IfOk, IfErr};
 ghost use Rattle.std.specs.Ordering.{nat_cmp};
 ghost use Rattle.adr_state.specs.Keys.{at, map_of};
 ghost use Rattle.adr_sql.specs.Calls.{Stays};
 ghost use Rattle.adr_db.specs.Rows.{resource_columns, resource_row, resource_columns_cells, resource_cells};
-ghost use Rattle.adr_db.specs.Kept.{with_resource, without_resource};
+ghost use Rattle.adr_db.specs.Kept.{resources_named, with_resource, without_resource};
 ghost use Rattle.adr_db.specs.Calls.{Leaves, Finds, IsOfStore};
 
-use crate::cells::{column, number, resource_name_of, stamps_in};
+use crate::cells::{column, count_in, number, numbers_in, resource_name_of, stamps_in};
 use crate::statement::{rows_of, run};
-use adr_schema::Number;
+use adr_schema::{Number, ResourceName};
 use adr_state::{Resource, Resources};
 use adr_text::{Refusal, Rows};
 use sqlite::types::ToSql;
@@ -146,4 +146,34 @@ pub fn read_resources<S: Alter>(
     )?;
     let entries = entries_in(alloc, &rows)?;
     resources_of(alloc, entries)
+}
+
+/// The numbers of the resources that have a name, in their order.
+pub fn read_resources_named<S: Alter>(
+    alloc: Global,
+    tx: &mut Transaction<'_, S>,
+    name: &ResourceName,
+) -> Result<Rows<Number>, Refusal>
+    ensures same_reference { tx.new.conn.ghost_name ≡ tx.old.conn.ghost_name }
+    ensures stays { Stays S.Store tx.old.conn.now tx.new.conn.now result }
+    ensures finds { Finds S.Store tx.old.conn.now tx.new.conn.now (λ kept numbers. numbers ≡ resources_named name.now kept.resources) result }
+    ensures refused { IfErr result IsOfStore }
+{
+    let rows = rows_of(
+        tx,
+        "SELECT id FROM resource WHERE name = ?1 ORDER BY id",
+        &[name.as_name().as_str().to_sql()],
+    )?;
+    numbers_in(alloc, &rows)
+}
+
+/// How many resources there are.
+pub fn count_resources<S: Alter>(tx: &mut Transaction<'_, S>) -> Result<u64, Refusal>
+    ensures same_reference { tx.new.conn.ghost_name ≡ tx.old.conn.ghost_name }
+    ensures stays { Stays S.Store tx.old.conn.now tx.new.conn.now result }
+    ensures finds { Finds S.Store tx.old.conn.now tx.new.conn.now (λ kept count. count ≡ length kept.resources) result }
+    ensures refused { IfErr result IsOfStore }
+{
+    let rows = rows_of(tx, "SELECT count(*) FROM resource", &[])?;
+    count_in(&rows)
 }

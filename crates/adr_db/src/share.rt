@@ -1,5 +1,5 @@
 //! The table `share`: the shares of resources in programs.
-ghost use Rattle.std.specs.Prelude.{◌≡◌, [], ◌∷◌, map, IfOk, IfErr};
+ghost use Rattle.std.specs.Prelude.{◌≡◌, [], ◌∷◌, map, length, IfOk, IfErr};
 ghost use Rattle.sqlite.specs.Order.{column};
 ghost use Rattle.adr_state.specs.Keys.{share_cmp, at};
 ghost use Rattle.adr_sql.specs.Calls.{Stays};
@@ -7,7 +7,7 @@ ghost use Rattle.adr_db.specs.Rows.{share_key_row, share_row, share_cells};
 ghost use Rattle.adr_db.specs.Kept.{with_share, without_share};
 ghost use Rattle.adr_db.specs.Calls.{Leaves, Finds, IsOfStore};
 
-use crate::cells::{column, id_of, number, weight_in};
+use crate::cells::{column, count_in, id_of, number, weight_in};
 use crate::maps::table_of;
 use crate::statement::{rows_of, run};
 use adr_schema::Number;
@@ -124,4 +124,15 @@ pub fn read_shares<S: Alter>(
     )?;
     let entries = entries_in(alloc, &rows)?;
     table_of(alloc, entries)
+}
+
+/// How many shares there are.
+pub fn count_shares<S: Alter>(tx: &mut Transaction<'_, S>) -> Result<u64, Refusal>
+    ensures same_reference { tx.new.conn.ghost_name ≡ tx.old.conn.ghost_name }
+    ensures stays { Stays S.Store tx.old.conn.now tx.new.conn.now result }
+    ensures finds { Finds S.Store tx.old.conn.now tx.new.conn.now (λ kept count. count ≡ length kept.shares) result }
+    ensures refused { IfErr result IsOfStore }
+{
+    let rows = rows_of(tx, "SELECT count(*) FROM share", &[])?;
+    count_in(&rows)
 }

@@ -1,18 +1,18 @@
 //! The table `ven`: the vens that are enrolled.
-ghost use Rattle.std.specs.Prelude.{◌≡◌, [], ◌∷◌, map, IfOk, IfErr};
+ghost use Rattle.std.specs.Prelude.{◌≡◌, [], ◌∷◌, map, length, IfOk, IfErr};
 ghost use Rattle.std.specs.Ordering.{nat_cmp};
 ghost use Rattle.adr_state.specs.Keys.{at};
 ghost use Rattle.adr_sql.specs.Calls.{Stays};
 ghost use Rattle.adr_db.specs.Rows.{ven_columns, ven_row, ven_columns_cells, ven_cells};
-ghost use Rattle.adr_db.specs.Kept.{with_ven, without_ven};
+ghost use Rattle.adr_db.specs.Kept.{vens_named, with_ven, without_ven};
 ghost use Rattle.adr_db.specs.Calls.{Leaves, Finds, IsOfStore};
 
-use crate::cells::{column, name_of, number, stamps_in};
+use crate::cells::{column, count_in, name_of, number, numbers_in, stamps_in};
 use crate::maps::table_of;
 use crate::statement::{rows_of, run};
 use adr_schema::Number;
 use adr_state::Ven;
-use adr_text::{Refusal, Rows, Table};
+use adr_text::{Name, Refusal, Rows, Table};
 use sqlite::types::ToSql;
 use sqlite::{Alter, Row, Transaction};
 use std::alloc::Global;
@@ -115,4 +115,34 @@ pub fn read_vens<S: Alter>(
     )?;
     let entries = entries_in(alloc, &rows)?;
     table_of(alloc, entries)
+}
+
+/// The numbers of the vens that have a name, in their order.
+pub fn read_vens_named<S: Alter>(
+    alloc: Global,
+    tx: &mut Transaction<'_, S>,
+    name: &Name,
+) -> Result<Rows<Number>, Refusal>
+    ensures same_reference { tx.new.conn.ghost_name ≡ tx.old.conn.ghost_name }
+    ensures stays { Stays S.Store tx.old.conn.now tx.new.conn.now result }
+    ensures finds { Finds S.Store tx.old.conn.now tx.new.conn.now (λ kept numbers. numbers ≡ vens_named name.now kept.vens) result }
+    ensures refused { IfErr result IsOfStore }
+{
+    let rows = rows_of(
+        tx,
+        "SELECT id FROM ven WHERE name = ?1 ORDER BY id",
+        &[name.as_str().to_sql()],
+    )?;
+    numbers_in(alloc, &rows)
+}
+
+/// How many vens there are.
+pub fn count_vens<S: Alter>(tx: &mut Transaction<'_, S>) -> Result<u64, Refusal>
+    ensures same_reference { tx.new.conn.ghost_name ≡ tx.old.conn.ghost_name }
+    ensures stays { Stays S.Store tx.old.conn.now tx.new.conn.now result }
+    ensures finds { Finds S.Store tx.old.conn.now tx.new.conn.now (λ kept count. count ≡ length kept.vens) result }
+    ensures refused { IfErr result IsOfStore }
+{
+    let rows = rows_of(tx, "SELECT count(*) FROM ven", &[])?;
+    count_in(&rows)
 }

@@ -1,4 +1,5 @@
 pub mod Refusals
+pub mod Taken
 pub mod Vens
 pub mod Shares
 pub mod Under

@@ -2,6 +2,7 @@
 #![tactic(auto)]
 
 mod draw;
+mod names;
 mod participant;
 mod resource;
 mod share;

@@ -1,5 +1,5 @@
 //! Resources are added to a ven, renamed and removed.
-ghost use Rattle.std.specs.Prelude.{◌≡◌, Ok, Some, IfOk, IfErr, [], ◌∷◌};
+ghost use Rattle.std.specs.Prelude.{◌≡◌, nat_le, length, Ok, Some, IfOk, IfErr, [], ◌∷◌};
 ghost use Rattle.adr_text.specs.declared.refusal.Refusal.TheVariants.{NotFound, Conflict, LimitReached, Exhausted};
 ghost use Rattle.adr_sql.specs.Calls.{Stays};
 ghost use Rattle.sqlite.specs.Held.{state};
@@ -17,26 +17,47 @@ ghost use Rattle.adr_portfolio.specs.Refusals.{IsOneOf};
 ghost use Rattle.adr_portfolio.specs.Calls.{RefusesBy};
 
 use crate::draw::draw;
-use adr_db::{put_resource, read_resource, read_resources, read_ven, remove_resource};
+use crate::names::is_another_there;
+use adr_db::{
+    count_resources, put_resource, read_resource, read_resources_named, read_ven, remove_resource,
+};
 use adr_machine::number_of;
 use adr_schema::{Number, ResourceName, ResourceObject, Stamps};
-use adr_state::{Limits, Resource, Resources};
+use adr_state::{Limits, Resource};
 use adr_text::{Moment, ObjectId, Refusal};
 use sqlite::{Alter, Transaction};
 use std::alloc::{AllocError, Global};
-
-fn has_name(resources: &Resources, name: &ResourceName) -> bool
-    ensures { result ≡ has_resource name.now resources.now }
-{
-    resources
-        .iter()
-        .any(|(_, resource)| resource.name.as_name() == name.as_name())
-}
 
 fn copy_of(name: &ResourceName) -> Result<ResourceName, AllocError>
     ensures { IfOk result (λ copy. copy ≡ name.now) }
 {
     name.clone()
+}
+
+/// Whether a resource has the name.
+fn is_taken<S: Alter>(
+    alloc: Global,
+    tx: &mut Transaction<'_, S>,
+    name: &ResourceName,
+) -> Result<bool, Refusal>
+    ensures same_reference { tx.new.conn.ghost_name ≡ tx.old.conn.ghost_name }
+    ensures stays { Stays S.Store tx.old.conn.now tx.new.conn.now result }
+    ensures finds { Finds S.Store tx.old.conn.now tx.new.conn.now (λ kept taken. taken ≡ has_resource name.now kept.resources) result }
+    ensures refused { IfErr result IsOfStore }
+{
+    let numbers = read_resources_named(alloc, tx, name)?;
+    Ok(!numbers.is_empty())
+}
+
+/// Whether there is no room for one more.
+fn is_full<S: Alter>(tx: &mut Transaction<'_, S>, limits: &Limits) -> Result<bool, Refusal>
+    ensures same_reference { tx.new.conn.ghost_name ≡ tx.old.conn.ghost_name }
+    ensures stays { Stays S.Store tx.old.conn.now tx.new.conn.now result }
+    ensures finds { Finds S.Store tx.old.conn.now tx.new.conn.now (λ kept full. full ≡ nat_le limits.now.resources (length kept.resources)) result }
+    ensures refused { IfErr result IsOfStore }
+{
+    let count = count_resources(tx)?;
+    Ok(limits.resources.get() <= count)
 }
 
 /// Refuses a name that is taken, and then a resource beyond the limit.
@@ -52,11 +73,12 @@ fn check_new<S: Alter>(
     ensures refuses { RefusesBy S.Store tx.old.conn.now tx.new.conn.now (λ kept. new_resource limits.now name.now kept.resources) result }
     ensures refused { IfErr result (IsOneOf (Conflict ∷ LimitReached ∷ [])) }
 {
-    let resources = read_resources(alloc, tx)?;
-    if has_name(&resources, name) {
+    let taken = is_taken(alloc, tx, name)?;
+    if taken {
         return Err(Refusal::Conflict);
     }
-    if limits.resources.get() <= resources.len() as u64 {
+    let full = is_full(tx, limits)?;
+    if full {
         return Err(Refusal::LimitReached);
     }
     Ok(())
@@ -196,12 +218,19 @@ pub fn resource_remove<S: Alter>(
 }
 
 /// Whether another resource than that of the number has the name.
-fn has_other_name(number: Number, name: &ResourceName, resources: &Resources) -> bool
-    ensures { result ≡ has_other_resource number name.now resources.now }
+fn is_taken_by_another<S: Alter>(
+    alloc: Global,
+    tx: &mut Transaction<'_, S>,
+    number: Number,
+    name: &ResourceName,
+) -> Result<bool, Refusal>
+    ensures same_reference { tx.new.conn.ghost_name ≡ tx.old.conn.ghost_name }
+    ensures stays { Stays S.Store tx.old.conn.now tx.new.conn.now result }
+    ensures finds { Finds S.Store tx.old.conn.now tx.new.conn.now (λ kept taken. taken ≡ has_other_resource number name.now kept.resources) result }
+    ensures refused { IfErr result IsOfStore }
 {
-    resources.iter().any(|(other, resource)| {
-        *other != number && resource.name.as_name() == name.as_name()
-    })
+    let numbers = read_resources_named(alloc, tx, name)?;
+    Ok(is_another_there(number, numbers.as_slice()))
 }
 
 fn again_of(now: Moment, name: &ResourceName, resource: &Resource) -> Result<Resource, AllocError>
@@ -238,8 +267,8 @@ pub fn resource_put<S: Alter>(
         return Err(Refusal::NotFound);
     };
     let number = row.0;
-    let resources = read_resources(alloc, tx)?;
-    if has_other_name(number, name, &resources) {
+    let taken = is_taken_by_another(alloc, tx, number, name)?;
+    if taken {
         return Err(Refusal::Conflict);
     }
     let again = again_of(now, name, &row.1)?;

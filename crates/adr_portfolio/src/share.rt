@@ -11,7 +11,7 @@ ghost use Rattle.adr_portfolio.specs.Checks.{new_share};
 ghost use Rattle.adr_portfolio.specs.Refusals.{IsOneOf};
 ghost use Rattle.adr_portfolio.specs.Calls.{RefusesBy, Sets};
 
-use adr_db::{put_share, read_resource, read_share, read_shares, remove_share};
+use adr_db::{count_shares, put_share, read_resource, read_share, remove_share};
 use adr_machine::number_of;
 use adr_schema::{Number, ShareObject};
 use adr_state::{Limits, ShareKey, Weight};
@@ -30,7 +30,6 @@ fn key_at(program: &ObjectId, resource: Number) -> Result<ShareKey, AllocError>
 
 /// Refuses a new share beyond the limit.
 fn check_new<S: Alter>(
-    alloc: Global,
     tx: &mut Transaction<'_, S>,
     limits: &Limits,
     key: &ShareKey,
@@ -45,8 +44,8 @@ fn check_new<S: Alter>(
     if found.is_some() {
         return Ok(());
     }
-    let shares = read_shares(alloc, tx)?;
-    if limits.shares.get() <= shares.len() as u64 {
+    let count = count_shares(tx)?;
+    if limits.shares.get() <= count {
         return Err(Refusal::LimitReached);
     }
     Ok(())
@@ -65,7 +64,6 @@ fn weight_of(share: u32) -> Weight
 
 /// Puts the share, or removes it where the weight is 0.
 fn put_weight<S: Alter>(
-    alloc: Global,
     tx: &mut Transaction<'_, S>,
     limits: &Limits,
     key: &ShareKey,
@@ -81,13 +79,12 @@ fn put_weight<S: Alter>(
     if share == 0 {
         return remove_share(tx, key);
     }
-    check_new(alloc, tx, limits, key)?;
+    check_new(tx, limits, key)?;
     put_share(tx, key, weight_of(share))
 }
 
 /// Sets the share of the resource of a number.
 fn set_of<S: Alter>(
-    alloc: Global,
     tx: &mut Transaction<'_, S>,
     limits: &Limits,
     program: &ObjectId,
@@ -104,7 +101,7 @@ fn set_of<S: Alter>(
         return Err(Refusal::BadShare);
     }
     let key = key_at(program, resource)?;
-    put_weight(alloc, tx, limits, &key, share)?;
+    put_weight(tx, limits, &key, share)?;
     Ok(ShareObject {
         program: key.program,
         resource,
@@ -134,5 +131,5 @@ pub fn share_set<S: Alter>(
     let Some(_) = read_resource(alloc, tx, number)? else {
         return Err(Refusal::NotFound);
     };
-    set_of(alloc, tx, limits, program, number, share)
+    set_of(tx, limits, program, number, share)
 }

@@ -1,8 +1,8 @@
 //! Vens are enrolled, renamed and removed.
-ghost use Rattle.std.specs.Prelude.{◌≡◌, Ok, Some, [], ◌∷◌, IfErr};
+ghost use Rattle.std.specs.Prelude.{◌≡◌, nat_le, length, Ok, Some, [], ◌∷◌, IfErr};
 ghost use Rattle.adr_text.specs.declared.refusal.Refusal.TheVariants.{NotFound, Conflict, LimitReached, Exhausted};
 ghost use Rattle.adr_sql.specs.Calls.{Stays};
-ghost use Rattle.adr_db.specs.Calls.{Finds};
+ghost use Rattle.adr_db.specs.Calls.{Finds, IsOfStore};
 ghost use Rattle.adr_machine.specs.declared.answer.Answer.TheVariants as answer;
 ghost use Rattle.adr_machine.specs.declared.answer.Object.TheVariants as object;
 ghost use Rattle.adr_machine.specs.Edits.{has_ven, has_other_ven, enrolled_by, ven_renamed, ven_removed};
@@ -13,18 +13,39 @@ ghost use Rattle.adr_portfolio.specs.Refusals.{IsOneOf};
 ghost use Rattle.adr_portfolio.specs.Calls.{RefusesBy};
 
 use crate::draw::draw;
-use adr_db::{put_ven, read_ven, read_vens, remove_ven};
+use crate::names::is_another_there;
+use adr_db::{count_vens, put_ven, read_ven, read_vens_named, remove_ven};
 use adr_machine::number_of;
 use adr_schema::{Number, Stamps, VenObject};
 use adr_state::{Limits, Ven};
-use adr_text::{Moment, Name, ObjectId, Refusal, Table};
+use adr_text::{Moment, Name, ObjectId, Refusal};
 use sqlite::{Alter, Transaction};
 use std::alloc::Global;
 
-fn has_name(vens: &Table<Number, Ven>, name: &Name) -> bool
-    ensures { result ≡ has_ven name.now vens.now }
+/// Whether a ven has the name.
+fn is_taken<S: Alter>(
+    alloc: Global,
+    tx: &mut Transaction<'_, S>,
+    name: &Name,
+) -> Result<bool, Refusal>
+    ensures same_reference { tx.new.conn.ghost_name ≡ tx.old.conn.ghost_name }
+    ensures stays { Stays S.Store tx.old.conn.now tx.new.conn.now result }
+    ensures finds { Finds S.Store tx.old.conn.now tx.new.conn.now (λ kept taken. taken ≡ has_ven name.now kept.vens) result }
+    ensures refused { IfErr result IsOfStore }
 {
-    vens.iter().any(|(_, ven)| ven.name == *name)
+    let numbers = read_vens_named(alloc, tx, name)?;
+    Ok(!numbers.is_empty())
+}
+
+/// Whether there is no room for one more.
+fn is_full<S: Alter>(tx: &mut Transaction<'_, S>, limits: &Limits) -> Result<bool, Refusal>
+    ensures same_reference { tx.new.conn.ghost_name ≡ tx.old.conn.ghost_name }
+    ensures stays { Stays S.Store tx.old.conn.now tx.new.conn.now result }
+    ensures finds { Finds S.Store tx.old.conn.now tx.new.conn.now (λ kept full. full ≡ nat_le limits.now.vens (length kept.vens)) result }
+    ensures refused { IfErr result IsOfStore }
+{
+    let count = count_vens(tx)?;
+    Ok(limits.vens.get() <= count)
 }
 
 /// Refuses a name that is taken, and then a ven beyond the limit.
@@ -40,11 +61,12 @@ fn check_new<S: Alter>(
     ensures refuses { RefusesBy S.Store tx.old.conn.now tx.new.conn.now (λ kept. new_ven limits.now name.now kept.vens) result }
     ensures refused { IfErr result (IsOneOf (Conflict ∷ LimitReached ∷ [])) }
 {
-    let vens = read_vens(alloc, tx)?;
-    if has_name(&vens, name) {
+    let taken = is_taken(alloc, tx, name)?;
+    if taken {
         return Err(Refusal::Conflict);
     }
-    if limits.vens.get() <= vens.len() as u64 {
+    let full = is_full(tx, limits)?;
+    if full {
         return Err(Refusal::LimitReached);
     }
     Ok(())
@@ -84,11 +106,19 @@ pub fn ven_add<S: Alter>(
 }
 
 /// Whether another ven than that of the number has the name.
-fn has_other_name(number: Number, name: &Name, vens: &Table<Number, Ven>) -> bool
-    ensures { result ≡ has_other_ven number name.now vens.now }
+fn is_taken_by_another<S: Alter>(
+    alloc: Global,
+    tx: &mut Transaction<'_, S>,
+    number: Number,
+    name: &Name,
+) -> Result<bool, Refusal>
+    ensures same_reference { tx.new.conn.ghost_name ≡ tx.old.conn.ghost_name }
+    ensures stays { Stays S.Store tx.old.conn.now tx.new.conn.now result }
+    ensures finds { Finds S.Store tx.old.conn.now tx.new.conn.now (λ kept taken. taken ≡ has_other_ven number name.now kept.vens) result }
+    ensures refused { IfErr result IsOfStore }
 {
-    vens.iter()
-        .any(|(other, ven)| *other != number && ven.name == *name)
+    let numbers = read_vens_named(alloc, tx, name)?;
+    Ok(is_another_there(number, numbers.as_slice()))
 }
 
 /// Gives a ven its name anew: it keeps when it was created, and was modified now. Refused with `NotFound`
@@ -112,8 +142,8 @@ pub fn ven_put<S: Alter>(
     let Some(old) = read_ven(alloc, tx, number)? else {
         return Err(Refusal::NotFound);
     };
-    let vens = read_vens(alloc, tx)?;
-    if has_other_name(number, name, &vens) {
+    let taken = is_taken_by_another(alloc, tx, number, name)?;
+    if taken {
         return Err(Refusal::Conflict);
     }
     let stamps = Stamps {

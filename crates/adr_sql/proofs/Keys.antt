@@ -50,7 +50,7 @@ turned_tie Less = refl
 turned_tie Equal = refl
 turned_tie Greater = refl
 
-tie_turned : (x y : Value) → is_eq (value_cmp x y) ≡ is_eq (value_cmp y x)
+pub tie_turned : (x y : Value) → is_eq (value_cmp x y) ≡ is_eq (value_cmp y x)
 tie_turned x y = ap is_eq (value_cmp_total.antisymm x y) ∙ turned_tie (value_cmp y x)
 
 null_apart : (y : Value) → is_null y ≡ false → is_eq (value_cmp y Null) ≡ false

@@ -1,5 +1,6 @@
 -- A table that stands for a map: to put, to remove and to read by key are the map's own words.
-use Rattle.std.proofs.Common.{inl, inr, Option, None, length, Ok, ◌≡◌, ℕ, ℤ, Bool, true, false, not, cond, List, [], ◌∷◌, map, Some, refl, sym, ap, ap₂, subst, ◌∙◌, Ordering, Less, Equal, Greater, is_eq}
+use Rattle.std.proofs.Common.{inl, inr, Option, None, length, suc, Ok, ◌≡◌, ℕ, ℤ, Bool, true, false, not, cond, List, [], ◌∷◌, map, Some, refl, sym, ap, ap₂, subst, ◌∙◌, Ordering, Less, Equal, Greater, is_eq}
+use Rattle.std.specs.Prelude.{bytes_eq}
 use Rattle.std.specs.Ordering.{ordering_reverse, ordering_then, match_ordering, int_cmp, nat_cmp}
 use Rattle.std.specs.Cmp.{int_ranked}
 use Rattle.std.specs.Cmp.Lexicographic.{slice_cmp}
@@ -9,8 +10,9 @@ use Rattle.std.specs.BTreeSet.{insert_key}
 use Rattle.std.specs.Map.{remove_entry, lookup}
 use Rattle.std.proofs.lemmas.Map.Text.{is_eq-slice_cmp}
 use Rattle.std.proofs.lemmas.Slice.Eq.{bytes_eq-Decides}
-use Rattle.sqlite_value.specs.declared.value.Value.TheVariants.{Int, Text}
-use Rattle.sqlite_value.specs.Order.{Row}
+use Rattle.sqlite_value.specs.declared.value.Value.TheVariants.{Null, Int, Text}
+use Rattle.sqlite_value.specs.Order.{Row, column}
+use Rattle.sqlite_value.specs.declared.keys.Collation.TheVariants.{Binary}
 use Rattle.sqlite_value.proofs.OrderLemmas.{value_cmp-Int, value_cmp-Text}
 use Rattle.sqlite_trees.specs.Tree.{IsAscending}
 use Rattle.sqlite_trees.proofs.ListLemmas.{filter_all, all_weaker}
@@ -18,17 +20,24 @@ use Rattle.adr_sql.specs.Keys.{key_order, has_key, with_row, rows_at, rows_witho
 use Rattle.adr_sql.specs.Codecs.{IsCodec, entry_at}
 use Rattle.sqlite_schema.specs.declared.schema.Table.{Table}
 use Rattle.sqlite_schema.specs.declared.schema.Schema.{Schema}
+use Rattle.sqlite_sql.specs.declared.ops.BinaryOp.TheVariants.{Compare}
+use Rattle.sqlite_sql.specs.declared.ops.CompareOp.TheVariants.{Eq}
+use Rattle.sqlite_sql.specs.Term.{Term, col, op2}
+use Rattle.sqlite_sql.specs.Aggregate.{count}
 use Rattle.sqlite_sql.specs.Query.{end}
+use Rattle.sqlite_schema.specs.Rules.{equal}
+use Rattle.std.proofs.lemmas.List.{length-map}
+use Rattle.adr_sql.proofs.Counts.{IsCountText, count_runs}
 use Rattle.sqlite.specs.State.{State, Executes, Shown}
 use Rattle.adr_sql.specs.Contents.{Contents, rows_of_table, with_table, Holds}
 use Rattle.sqlite_rules.specs.Lists.{Has}
 use Rattle.sqlite_rules.proofs.ListLemmas.{has_kept}
-use Rattle.adr_sql.proofs.Keys.{are_full, ties}
+use Rattle.adr_sql.proofs.Keys.{are_full, ties, and_true, equal_is, tie_turned}
 use Rattle.adr_sql.proofs.Places.{IsFound, stores_at}
 use Rattle.adr_sql.proofs.Values.{AreValues}
 use Rattle.adr_sql.proofs.References.{is_childless}
 use Rattle.adr_sql.proofs.Upserts.{IsKeyed, IsUpsertText, upsert_runs}
-use Rattle.adr_sql.proofs.Selections.{IsSelectText, whole_rows, equalities, read_runs}
+use Rattle.adr_sql.proofs.Selections.{IsSelectText, whole_rows, equalities, passes, read_runs}
 use Rattle.adr_sql.proofs.Removals.{IsRemoveText, remove_at_runs}
 use Rattle.adr_sql.proofs.Rows.{key_order_total}
 
@@ -133,6 +142,15 @@ text_key j k a b = then_none _ ∙ value_cmp-Text j k
 pub text_same : (j k : List ℕ) → slice_cmp nat_cmp k j ≡ Equal → k ≡ j
 text_same j k e = (bytes_eq-Decides k j).0 (sym (is_eq-slice_cmp k j) ∙ ap is_eq e)
 
+-- the test of a column that is a text
+abbrev pub is_text : ℕ → List Term
+is_text at = op2 (Compare Eq Binary) (col 1 (suc at)) (col 0 0) ∷ []
+
+pub text_passes : (at : ℕ) (wanted text : List ℕ) (e : Row) → column e at ≡ Text text → passes (Text wanted ∷ []) (is_text at) (Null ∷ e) ≡ bytes_eq text wanted
+text_passes at wanted text e is =
+    and_true _ ∙ ap (λ v. equal Binary v (Text wanted)) is ∙ equal_is (Text text) (Text wanted) refl ∙ tie_turned (Text wanted) (Text text)
+    ∙ ap is_eq (value_cmp-Text text wanted) ∙ is_eq-slice_cmp text wanted
+
 -- a number, and then a text
 pub number_text_key : (j k : ℤ) (s t : List ℕ) (a b : Row) → key_order 2 (Int j ∷ Text s ∷ a) (Int k ∷ Text t ∷ b) ≡ ordering_then (int_cmp j k) (slice_cmp nat_cmp s t)
 number_text_key j k s t a b = ap₂ ordering_then (value_cmp-Int j k) (then_none _ ∙ value_cmp-Text s t)
@@ -168,6 +186,13 @@ module _ (schema : Schema) (at : ℕ) (table : Table) (it : IsFound schema at ta
   -- all rows are read
   pub read_all_runs : (text : IsSelectText schema table (whole_rows 0 table) end sql) → (old new : State) (rows : List Row) (all : Contents) → Shown sql params old new rows → Holds schema all old → rows ≡ rows_of_table all at
   read_all_runs text old new rows all h was = read_runs schema at 0 table it sql params text refl old new rows all h was ∙ rows_at_none params (rows_of_table all at)
+
+  -- all rows are counted
+  pub count_all_runs : {X : Type 0} (row_of : X → Row) (xs : List X) → IsCountText schema 0 table sql → (old new : State) (rows : List Row) (all : Contents) → rows_of_table all at ≡ map row_of xs
+      → Shown sql params old new rows → Holds schema all old → rows ≡ (count (length xs) ∷ []) ∷ []
+  count_all_runs row_of xs text old new rows all is h was =
+      count_runs schema at 0 table it sql params text refl old new rows all h was
+      ∙ ap (λ (rs : List Row). (count (length rs) ∷ []) ∷ []) (rows_at_none params (rows_of_table all at) ∙ is) ∙ ap (λ n. (count n ∷ []) ∷ []) (length-map xs row_of)
 
   module _ {K V : Type 0} (cmp : K → K → Ordering) (row_of : K × V → Row) (key_of : K → Row) (codec : IsCodec (length table.primary) cmp row_of key_of) where
     pub read_entry_runs : (k : K) (es : List (K × V)) → IsSelectText schema table (whole_rows (length table.primary) table) end sql → params ≡ key_of k → are_full 0 (length table.primary) params ≡ true → (old new : State) (rows : List Row) (all : Contents)
