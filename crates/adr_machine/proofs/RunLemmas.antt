@@ -39,6 +39,11 @@ module _ {A C S : Type 0} (step : S → C → Result (A × S) Refusal) where
   state_of-push s [] c = refl
   state_of-push s (d ∷ cs) c = state_of-push (state_after s (step s d)) cs c
 
+  -- more commands, after those that came first
+  pub state_of-append : (s : S) (cs more : List C) → state_of step s (cs ++ more) ≡ state_of step (state_of step s cs) more
+  state_of-append s [] more = refl
+  state_of-append s (c ∷ cs) more = state_of-append (state_after s (step s c)) cs more
+
   -- one step more that stands
   stood : (s : S) (cs : List C) (rs : List (Result A Refusal)) (t : S) (c : C) (r : Result A Refusal) (u : S) → IsRun step s cs rs t → length cs ≡ length rs
       → stands r ≡ true → told (step t c) ≡ r → u ≡ state_after t (step t c) → IsRun step s (cs ++ c ∷ []) (rs ++ r ∷ []) u

@@ -1,6 +1,7 @@
 -- Laws over whole runs.
-use Rattle.std.specs.Prelude.{◌≡◌, ℕ, false, List, [], ◌∷◌, ◌++◌, Option, Some, IsSome, Result, Ok, Err}
-use Rattle.std.specs.List.{All, Contains}
+use Rattle.std.specs.Prelude.{◌≡◌, ◌≢◌, ◌≤◌, ℕ, false, List, [], ◌∷◌, ◌++◌, Option, Some, IsSome, Result, Ok, Err}
+use Rattle.std.specs.List.{All, AllPairs, Contains}
+use Rattle.std.specs.Map.{keys_of}
 use Rattle.std.specs.Ordering.{nat_cmp}
 use Rattle.adr_text.specs.declared.refusal.Refusal.{Refusal}
 use Rattle.adr_state.specs.declared.base.Base.{Base}
@@ -70,3 +71,29 @@ pub record IsWhole (base : Base) : Type 0 where
 -- after any run from an empty start, each resource has its ven and each share its resource, and names are unique
 abbrev pub PortfolioIsWhole : Type 0
 PortfolioIsWhole = (settings : Settings) (cs : List (ℕ × Command)) → IsWhole (state_of (step_at settings) empty cs).base
+
+-- ---- numbers
+
+-- the numbers of the vens and of the resources
+abbrev pub numbers_of : Base → List ℕ
+numbers_of base = keys_of base.vens ++ keys_of base.resources
+
+-- each number was drawn, and no two of them are one: not two vens', not two resources', nor a ven's and a resource's
+pub record HaveOwnNumbers (base : Base) : Type 0 where
+  pub at_least_one : All (λ n. 1 ≤ n) (numbers_of base)
+  pub up_to_the_serial : All (λ n. n ≤ base.serial) (numbers_of base)
+  pub no_two_are_one : AllPairs (λ m n. m ≢ n) (numbers_of base)
+
+-- from one base to a later one the serial does not fall, and no number that was drawn before is drawn again: a ven or a resource that has one was there with it before
+pub record AreDrawnOnce (before after : Base) : Type 0 where
+  pub serial_never_falls : before.serial ≤ after.serial
+  pub vens_were_there : All (λ n. n ≤ before.serial → Contains (keys_of before.vens) n) (keys_of after.vens)
+  pub resources_were_there : All (λ n. n ≤ before.serial → Contains (keys_of before.resources) n) (keys_of after.resources)
+
+-- after any run from an empty start, each ven and each resource has a number of its own, that was drawn
+abbrev pub NumbersAreOwn : Type 0
+NumbersAreOwn = (settings : Settings) (cs : List (ℕ × Command)) → HaveOwnNumbers (state_of (step_at settings) empty cs).base
+
+-- and whatever commands follow, none is drawn again
+abbrev pub NumbersAreDrawnOnce : Type 0
+NumbersAreDrawnOnce = (settings : Settings) (cs more : List (ℕ × Command)) → AreDrawnOnce (state_of (step_at settings) empty cs).base (state_of (step_at settings) empty (cs ++ more)).base

@@ -1,5 +1,5 @@
 //! Laws over whole runs.
-ghost use Rattle.adr_machine.specs.Laws.{MirrorIsGreatest, PortfolioIsWhole};
+ghost use Rattle.adr_machine.specs.Laws.{MirrorIsGreatest, PortfolioIsWhole, NumbersAreOwn, NumbersAreDrawnOnce};
 
 /// After any run from an empty start, the mirror at a key is the greatest mark in all accepted evidence
 /// for it, whatever was lost, repeated or reordered.
@@ -11,4 +11,11 @@ pub fn mirror_is_greatest()
 /// left of what was removed; and no two vens have one name, nor two resources.
 pub fn portfolio_is_whole()
     ensures { PortfolioIsWhole }
+{}
+
+/// After any run from an empty start, each ven and each resource has a number of its own, from 1 up to the
+/// serial; and whatever commands follow, the serial never falls and no number is drawn again.
+pub fn numbers_are_drawn_once()
+    ensures own { NumbersAreOwn }
+    ensures once { NumbersAreDrawnOnce }
 {}
