@@ -7,3 +7,4 @@ pub mod NumberLemmas
 pub mod LawLemmas
 pub mod NameLemmas
 pub mod PortfolioLemmas
+pub mod StampLemmas

@@ -1,5 +1,5 @@
 -- Keys that stand in order, each once: after a put, a removal and a filter, and put one after another.
-use Rattle.std.proofs.Common.{◌≡◌, Bool, true, false, cond, List, [], ◌∷◌, ◌++◌, filter, fold, Ordering, Less, Equal, Greater, refl, sym, ap, subst, ◌∙◌}
+use Rattle.std.proofs.Common.{◌≡◌, Bool, true, false, cond, List, [], ◌∷◌, ◌++◌, filter, fold, Ordering, Less, Equal, Greater, refl, sym, ap, subst, append-nil, append_assoc, ◌∙◌}
 use Rattle.std.specs.List.{AllByRecursion}
 use Rattle.std.specs.List.Sorted.{IsStrictlySortedBy}
 use Rattle.std.specs.Ordering.{ordering_reverse, match_ordering}
@@ -7,6 +7,7 @@ use Rattle.std.specs.Cmp.{IsTotalOrder}
 use Rattle.std.specs.Map.{keys_of, remove_entry}
 use Rattle.std.specs.BTreeMap.{insert_entry}
 use Rattle.std.specs.BTreeSet.{insert_key}
+use Rattle.adr_state.specs.Keys.{with_rows}
 
 -- what holds of each key, where more is known of each
 pub each_key : {K : Type 0} (P Q : K → Type 0) → ((k : K) → P k → Q k) → (ks : List K) → AllByRecursion P ks → AllByRecursion Q ks
@@ -57,6 +58,22 @@ module _ {K : Type 0} {cmp : K → K → Ordering} (order : IsTotalOrder cmp) wh
   put_last k [] h = refl
   put_last k (x ∷ xs) h = rw (put_last k xs h.1) (last_put (cmp k x) k x xs (order.antisymm k x ∙ ap ordering_reverse h.0))
 
+  holds_behind : (P : K → Type 0) (ks new : List K) (k : K) → AllByRecursion P (ks ++ k ∷ new) → P k
+  holds_behind P [] new k h = h.0
+  holds_behind P (x ∷ xs) new k h = holds_behind P xs new k h.1
+
+  all_before : (ks new : List K) (k : K) → IsStrictlySortedBy cmp (ks ++ k ∷ new) → AllByRecursion (λ y. cmp y k ≡ Less) ks
+  unfolding IsStrictlySortedBy
+  all_before [] new k h = tt
+  all_before (x ∷ xs) new k h = (holds_behind (λ y. cmp x y ≡ Less) xs new k h.0, all_before xs new k h.1)
+
+  -- keys that stand in order, put one after another, stay as they stand
+  pub inserts_in_order : (ks new : List K) → IsStrictlySortedBy cmp (ks ++ new) → fold (insert_key cmp) ks new ≡ ks ++ new
+  inserts_in_order ks [] h = sym (append-nil ks)
+  inserts_in_order ks (k ∷ new) h =
+      let joined : (ks ++ k ∷ []) ++ new ≡ ks ++ k ∷ new = append_assoc ks (k ∷ []) new in
+      ap (λ xs. fold (insert_key cmp) xs new) (put_last k ks (all_before ks new k h)) ∙ inserts_in_order (ks ++ k ∷ []) new (subst (IsStrictlySortedBy cmp) (sym joined) h) ∙ joined
+
 -- ---- rows by their keys
 
 placed_keys : {K X : Type 0} (o : Ordering) (k : K) (v : X) (e : K × X) (es rest : List (K × X)) (keys : List K) → keys_of rest ≡ keys
@@ -68,6 +85,11 @@ placed_keys Greater k v e es rest keys h = ap (λ ks. e.0 ∷ ks) h
 pub keys-insert_entry : {K X : Type 0} (cmp : K → K → Ordering) (k : K) (v : X) (es : List (K × X)) → keys_of (insert_entry cmp es k v) ≡ insert_key cmp (keys_of es) k
 keys-insert_entry cmp k v [] = refl
 keys-insert_entry cmp k v (e ∷ es) = placed_keys (cmp k e.0) k v e es (insert_entry cmp es k v) (insert_key cmp (keys_of es) k) (keys-insert_entry cmp k v es)
+
+-- the keys of a map that is made of rows
+pub keys-with_rows : {K X : Type 0} (cmp : K → K → Ordering) (es rows : List (K × X)) → keys_of (with_rows cmp es rows) ≡ fold (insert_key cmp) (keys_of es) (keys_of rows)
+keys-with_rows cmp es [] = refl
+keys-with_rows cmp es (r ∷ rows) = keys-with_rows cmp (insert_entry cmp es r.0 r.1) rows ∙ ap (λ ks. fold (insert_key cmp) ks (keys_of rows)) (keys-insert_entry cmp r.0 r.1 es)
 
 module _ {K X : Type 0} (cmp : K → K → Ordering) where
   -- rows by their keys

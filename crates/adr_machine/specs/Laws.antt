@@ -1,7 +1,8 @@
 -- Laws over whole runs.
-use Rattle.std.specs.Prelude.{◌≡◌, ◌≢◌, ◌≤◌, ℕ, false, List, [], ◌∷◌, ◌++◌, Option, Some, IsSome, Result, Ok, Err}
+use Rattle.std.specs.Prelude.{◌≡◌, ◌≢◌, ◌≤◌, ℕ, false, List, [], ◌∷◌, ◌++◌, map, Option, Some, IsSome, Result, Ok, Err}
 use Rattle.std.specs.List.{All, AllPairs, Contains}
-use Rattle.std.specs.Map.{keys_of}
+use Rattle.std.specs.List.Sorted.{IsStrictlySortedBy, IsNonDecreasing}
+use Rattle.std.specs.Map.{keys_of, values_of}
 use Rattle.std.specs.Ordering.{nat_cmp}
 use Rattle.adr_text.specs.declared.refusal.Refusal.{Refusal}
 use Rattle.adr_state.specs.declared.base.Base.{Base}
@@ -13,10 +14,11 @@ use Rattle.adr_state.specs.declared.keys.MirrorKey.{MirrorKey}
 use Rattle.adr_state.specs.declared.keys.ShareKey.{ShareKey}
 use Rattle.adr_state.specs.declared.limits.Settings.{Settings}
 use Rattle.adr_state.specs.declared.state.State.{State}
-use Rattle.adr_state.specs.Keys.{mirror_cmp, at}
+use Rattle.adr_state.specs.Keys.{mirror_cmp, view_cmp, at}
 use Rattle.adr_state.specs.Marks.{is_below}
 use Rattle.adr_state.specs.Mirror.{evidence_of}
 use Rattle.adr_state.specs.States.{empty}
+use Rattle.adr_state.specs.Views.{view}
 use Rattle.adr_machine.specs.declared.answer.Answer.{Answer}
 use Rattle.adr_machine.specs.declared.command.Command.{Command}
 use Rattle.adr_machine.specs.declared.command.Command.TheVariants.{Evidence, Gone}
@@ -97,3 +99,18 @@ NumbersAreOwn = (settings : Settings) (cs : List (ℕ × Command)) → HaveOwnNu
 -- and whatever commands follow, none is drawn again
 abbrev pub NumbersAreDrawnOnce : Type 0
 NumbersAreDrawnOnce = (settings : Settings) (cs more : List (ℕ × Command)) → AreDrawnOnce (state_of (step_at settings) empty cs).base (state_of (step_at settings) empty (cs ++ more)).base
+
+-- ---- stamps
+
+-- all that is shown has stamps, and nothing else has: they have the keys of the view, in its order, each once
+pub record IsStampedAsShown (s : State) : Type 0 where
+  pub those_of_the_view : keys_of s.stamps ≡ keys_of (view s.base)
+  pub each_once_in_order : IsStrictlySortedBy view_cmp (keys_of s.stamps)
+
+-- after any run from an empty start, what is shown is stamped, and nothing else
+abbrev pub StampsAreOfTheView : Type 0
+StampsAreOfTheView = (settings : Settings) (cs : List (ℕ × Command)) → IsStampedAsShown (state_of (step_at settings) empty cs)
+
+-- and where no command comes at a moment before that of an earlier one, nothing that is shown was modified before it was created
+abbrev pub StampsAreInTime : Type 0
+StampsAreInTime = (settings : Settings) (cs : List (ℕ × Command)) → IsNonDecreasing (map (λ c. c.0) cs) → All (λ stamps. stamps.created ≤ stamps.modified) (values_of (state_of (step_at settings) empty cs).stamps)

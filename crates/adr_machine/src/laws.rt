@@ -1,5 +1,5 @@
 //! Laws over whole runs.
-ghost use Rattle.adr_machine.specs.Laws.{MirrorIsGreatest, PortfolioIsWhole, NumbersAreOwn, NumbersAreDrawnOnce};
+ghost use Rattle.adr_machine.specs.Laws.{MirrorIsGreatest, PortfolioIsWhole, NumbersAreOwn, NumbersAreDrawnOnce, StampsAreOfTheView, StampsAreInTime};
 
 /// After any run from an empty start, the mirror at a key is the greatest mark in all accepted evidence
 /// for it, whatever was lost, repeated or reordered.
@@ -18,4 +18,11 @@ pub fn portfolio_is_whole()
 pub fn numbers_are_drawn_once()
     ensures own { NumbersAreOwn }
     ensures once { NumbersAreDrawnOnce }
+{}
+
+/// After any run from an empty start, the stamps have exactly the keys of what is shown, in their order, each
+/// once; and where the moments of the run never fall, nothing shown was modified before it was created.
+pub fn stamps_are_of_the_view()
+    ensures view { StampsAreOfTheView }
+    ensures time { StampsAreInTime }
 {}
