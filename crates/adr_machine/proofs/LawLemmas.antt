@@ -28,9 +28,9 @@ use Rattle.adr_state.specs.States.{empty}
 use Rattle.adr_machine.specs.declared.answer.Answer.{Answer}
 use Rattle.adr_machine.specs.declared.command.Command.{Command}
 use Rattle.adr_machine.specs.declared.command.Command.TheVariants.{Evidence, Gone, ScanBegin, ScanEnd, VenAdd, VenPut, VenRemove, ResourceAdd, ResourcePut, ResourceRemove, ShareSet}
-use Rattle.adr_machine.specs.Roles.{is_operator}
+use Rattle.adr_machine.specs.Roles.{is_operator, ven_at}
 use Rattle.adr_machine.specs.Portfolio.{ven_row, resource_row_under, ven_again, resource_again}
-use Rattle.adr_machine.specs.Edits.{mirror_set, adds_beyond, scan_after, scan_end, has_ven, enrolling, enrolled_by, has_other_ven, putting_ven, ven_renamed, ven_removed, has_resource, ven_at, adding, resource_of_ven, has_other_resource, putting_resource, resource_renamed, resource_removed, resource_at, share_of_resource, sharing, share_put, edit}
+use Rattle.adr_machine.specs.Edits.{mirror_set, adds_beyond, scan_after, scan_end, has_ven, enrolling, enrolled_by, has_other_ven, putting_ven, ven_renamed, ven_removed, has_resource, adding, resource_of_ven, has_other_resource, putting_resource, resource_renamed, resource_removed, resource_at, share_of_resource, sharing, share_put, edit}
 use Rattle.adr_machine.specs.Steps.{committed}
 use Rattle.adr_machine.specs.Runs.{state_after, state_of, step_at}
 use Rattle.adr_machine.proofs.EditLemmas.{Leaves, tested, thrice}

@@ -28,9 +28,9 @@ use Rattle.adr_machine.specs.declared.answer.Answer.{Answer}
 use Rattle.adr_machine.specs.declared.command.Command.{Command}
 use Rattle.adr_machine.specs.declared.command.Command.TheVariants.{Evidence, Gone, ScanBegin, ScanEnd, VenAdd, VenPut, VenRemove, ResourceAdd, ResourcePut, ResourceRemove, ShareSet}
 use Rattle.adr_machine.specs.Digits.{number_of}
-use Rattle.adr_machine.specs.Roles.{is_operator}
+use Rattle.adr_machine.specs.Roles.{is_operator, ven_at}
 use Rattle.adr_machine.specs.Portfolio.{ven_row, resource_row, is_under, resource_row_under, ven_again, resource_again, is_of_ven}
-use Rattle.adr_machine.specs.Edits.{mirror_set, adds_beyond, scan_after, scan_end, has_ven, enrolling, enrolled_by, has_other_ven, putting_ven, ven_renamed, ven_removed, has_resource, ven_at, adding, resource_of_ven, has_other_resource, putting_resource, resource_renamed, resource_removed, resource_at, share_of_resource, sharing, share_put, edit}
+use Rattle.adr_machine.specs.Edits.{mirror_set, adds_beyond, scan_after, scan_end, has_ven, enrolling, enrolled_by, has_other_ven, putting_ven, ven_renamed, ven_removed, has_resource, adding, resource_of_ven, has_other_resource, putting_resource, resource_renamed, resource_removed, resource_at, share_of_resource, sharing, share_put, edit}
 use Rattle.adr_machine.specs.Steps.{committed}
 use Rattle.adr_machine.specs.Runs.{state_after, state_of, step_at}
 use Rattle.adr_machine.specs.Laws.{HasVen, HasResource, PortfolioIsWhole, AreDrawnOnce, NumbersAreOwn, NumbersAreDrawnOnce}
@@ -51,17 +51,13 @@ IsVen base n = IsSome (at nat_cmp n base.vens)
 abbrev IsResource : Base → ℕ → Type 0
 IsResource base n = IsSome (at nat_cmp n base.resources)
 
-named : {V : Type 0} (o : Option V) (n : ℕ) (P : ℕ → Type 0) → (is_some o ≡ true → P n) → IfSome (cond (is_none o) None (Some n)) P
+named : {V : Type 0} (o : Option V) (n : ℕ) (P : ℕ → Type 0) → (is_some o ≡ true → P n) → IfSome (option_map (λ v. n) o) P
 named None n P there = tt
 named (Some v) n P there = there refl
 
-ven_there : (base : Base) (o : Option ℕ) → IfSome (option_and_then (λ n. cond (is_none (at nat_cmp n base.vens)) None (Some n)) o) (IsVen base)
-ven_there base None = tt
-ven_there base (Some n) = named (at nat_cmp n base.vens) n (IsVen base) (λ h. h)
-
-resource_there : (base : Base) (o : Option ℕ) → IfSome (option_and_then (λ n. cond (is_none (at nat_cmp n base.resources)) None (Some n)) o) (IsResource base)
-resource_there base None = tt
-resource_there base (Some n) = named (at nat_cmp n base.resources) n (IsResource base) (λ h. h)
+number_there : {V : Type 0} (rows : List (ℕ × V)) (o : Option ℕ) → IfSome (option_and_then (λ n. option_map (λ v. n) (at nat_cmp n rows)) o) (λ n. IsSome (at nat_cmp n rows))
+number_there rows None = tt
+number_there rows (Some n) = named (at nat_cmp n rows) n (λ n. IsSome (at nat_cmp n rows)) (λ h. h)
 
 found_row : {V : Type 0} (rows : List (ℕ × V)) (n : ℕ) (o : Option V) → at nat_cmp n rows ≡ o → IfSome {T = ℕ × V} (option_map (λ v. (n, v)) o) (IsRow rows)
 found_row rows n None h = tt
@@ -171,10 +167,10 @@ module _ (first : Base) where
   renamed_resource_whole : (now : ℕ) (base : Base) (row : Option (ℕ × Resource)) (name : List ℕ) → IfSome row (IsRow base.resources) → Whole base → Leaves Whole (resource_renamed now base row name)
   renamed_resource_whole now base None name there h = tt
   renamed_resource_whole now base (Some (n, old)) name there h =
-      let ven_there : IsVen base old.ven = of_row (HasVen base.vens) n old base.resources h.0.0 there in
+      let owner : IsVen base old.ven = of_row (HasVen base.vens) n old base.resources h.0.0 there in
       behind Whole (has_other_resource n name base.resources) refusal.Conflict (putting_resource base n (resource_again now name old))
       (λ free. (
-        resource_put base n (resource_again now name old) ven_there h.0,
+        resource_put base n (resource_again now name old) owner h.0,
         (h.1.0, put_differs resource_name n (resource_again now name old) base.resources (free_again resource_name n name base.resources free) h.1.1),
         second_again _ _ _ base.serial base.vens base.resources h.2 n old _ there,
       ))
@@ -209,7 +205,7 @@ module _ (first : Base) where
   edit_whole limits now base (VenPut role id ven) h = by_operator (not (is_operator role)) (ven_renamed now base (ven_row id base) ven.name) (renamed_ven_whole now base (ven_row id base) ven.name (row_there base.vens (number_of 118 id)) h)
   edit_whole limits now base (VenRemove role id) h = by_operator (not (is_operator role)) (ven_removed base (ven_row id base)) (removed_ven_whole base (ven_row id base) h)
   edit_whole limits now base (ResourceAdd role ven resource) h =
-      by_operator (not (is_operator role)) (resource_of_ven limits now base (ven_at ven base) resource.name) (added_whole limits now base (ven_at ven base) resource.name (ven_there base (number_of 118 ven)) h)
+      by_operator (not (is_operator role)) (resource_of_ven limits now base (ven_at ven base) resource.name) (added_whole limits now base (ven_at ven base) resource.name (number_there base.vens (number_of 118 ven)) h)
   edit_whole limits now base (ResourcePut role ven id resource) h =
       by_operator (not (is_operator role)) (resource_renamed now base (resource_row_under ven id base) resource.name)
       (renamed_resource_whole now base (resource_row_under ven id base) resource.name (under_there base ven (resource_row id base) (row_there base.resources (number_of 114 id))) h)
@@ -217,7 +213,7 @@ module _ (first : Base) where
       by_operator (not (is_operator role)) (resource_removed base (resource_row_under ven id base)) (removed_resource_whole base (resource_row_under ven id base) h)
   edit_whole limits now base (ShareSet role program resource share) h =
       by_operator (not (is_operator role)) (share_of_resource limits base program (resource_at resource base) share.share)
-      (share_whole limits base program (resource_at resource base) share.share (resource_there base (number_of 114 resource)) h)
+      (share_whole limits base program (resource_at resource base) share.share (number_there base.resources (number_of 114 resource)) h)
 
   -- ---- runs
 

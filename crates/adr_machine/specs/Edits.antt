@@ -1,5 +1,5 @@
 -- What each command makes of the base, or the first refusal whose condition holds. The answer is none where it is the number of changes.
-use Rattle.std.specs.Prelude.{ℕ, ◌+◌, ◌==◌, nat_le, nat_lt, Bool, true, false, not, ◌&&◌, List, [], length, Option, None, Some, is_none, option_and_then, Result, Ok, Err, if◌then◌else◌}
+use Rattle.std.specs.Prelude.{ℕ, ◌+◌, ◌==◌, nat_le, nat_lt, Bool, true, false, not, ◌&&◌, List, [], length, Option, None, Some, is_none, option_map, option_and_then, Result, Ok, Err, if◌then◌else◌}
 use Rattle.std.specs.List.{list_any}
 use Rattle.std.specs.Map.{remove_entry}
 use Rattle.std.specs.BTreeMap.{is_at, insert_entry}
@@ -27,7 +27,7 @@ use Rattle.adr_machine.specs.Digits.{number_of}
 use Rattle.adr_state.specs.Keys.{share_cmp, at}
 use Rattle.adr_state.specs.Mirror.{evidence_of, raised, joined}
 use Rattle.adr_state.specs.Scans.{polled_with, probes}
-use Rattle.adr_machine.specs.Roles.{is_operator}
+use Rattle.adr_machine.specs.Roles.{is_operator, ven_at}
 use Rattle.adr_machine.specs.Portfolio.{ven_row, resource_row_under, ven_object, resource_object, ven_again, resource_again, with_ven_put, with_resource_put, without_ven, without_resource}
 use Rattle.adr_state.specs.Weights.{most_weight}
 
@@ -116,10 +116,6 @@ ven_remove base role id = if not (is_operator role) then Err Forbidden else ven_
 abbrev pub has_resource : List ℕ → List (ℕ × Resource) → Bool
 has_resource name resources = list_any (λ r. bytes_eq r.1.name name) resources
 
--- the ven of an id
-abbrev pub ven_at : List ℕ → Base → Option ℕ
-ven_at id base = option_and_then (λ n. if is_none (at nat_cmp n base.vens) then None else Some n) (number_of 118 id)
-
 abbrev pub adding : ℕ → Base → ℕ → List ℕ → Result (Option Answer × Base) Refusal
 adding now base ven name = Ok (
   Some (answer.Object (object.Resource (record { number = base.serial + 1; ven = ven; name = name; stamps = fresh now }))),
@@ -165,7 +161,7 @@ resource_remove base role ven id = if not (is_operator role) then Err Forbidden 
 
 -- the resource of an id
 abbrev pub resource_at : List ℕ → Base → Option ℕ
-resource_at id base = option_and_then (λ n. if is_none (at nat_cmp n base.resources) then None else Some n) (number_of 114 id)
+resource_at id base = option_and_then (λ n. option_map (λ r. n) (at nat_cmp n base.resources)) (number_of 114 id)
 
 -- a weight of 0 removes the share
 abbrev pub share_put : Limits → Base → ShareKey → ℕ → Result Base Refusal

@@ -14,7 +14,7 @@ use Rattle.adr_machine.specs.declared.query.Page.{Page}
 use Rattle.adr_machine.specs.declared.answer.Object.{Object}
 use Rattle.adr_machine.specs.declared.answer.Answer.{Answer}
 use Rattle.adr_machine.specs.declared.answer.Answer.TheVariants as answer
-use Rattle.adr_machine.specs.Roles.{is_operator, enrolled, sight_of}
+use Rattle.adr_machine.specs.Roles.{is_operator, ven_at, sight_of}
 use Rattle.adr_machine.specs.Portfolio.{ven_row, resource_row, is_under, ven_object, resource_object, share_object}
 
 -- after the first ones, at most so many
@@ -55,7 +55,7 @@ resources_told base page sight None = Err NotFound
 resources_told base page sight (Some ven) = if sees_ven sight ven then Ok (answer.List (page_of page (resources_of base ven))) else Err Forbidden
 
 abbrev pub resources_reply : Base → Role → List ℕ → Page → Result Answer Refusal
-resources_reply base role ven page = sight_of base role >>= λ sight. resources_told base page sight (enrolled base ven)
+resources_reply base role ven page = sight_of base role >>= λ sight. resources_told base page sight (ven_at ven base)
 
 -- one that is out of sight is forbidden, whatever ven the path names; one under another ven than its own isn't there
 abbrev pub resource_told : Base → List ℕ → Sight → Option (ℕ × Resource) → Result Answer Refusal

@@ -12,7 +12,7 @@ use Rattle.adr_state.specs.declared.keys.ShareKey.{ShareKey}
 use Rattle.adr_machine.specs.declared.answer.Object.{Object}
 use Rattle.adr_machine.specs.declared.answer.Object.TheVariants as object
 use Rattle.adr_machine.specs.Digits.{number_of}
-use Rattle.adr_machine.specs.Roles.{enrolled}
+use Rattle.adr_machine.specs.Roles.{ven_at}
 use Rattle.adr_state.specs.Keys.{at}
 
 -- ---- by id
@@ -27,7 +27,7 @@ resource_row id base = option_and_then (λ n. option_map (λ r. (n, r)) (at nat_
 
 -- whether a resource belongs to the ven of an id
 abbrev pub is_under : List ℕ → Base → Resource → Bool
-is_under ven base r = option_map_or (λ n. n == r.ven) (enrolled base ven) false
+is_under ven base r = option_map_or (λ n. n == r.ven) (ven_at ven base) false
 
 -- the resource of an id, where it belongs to the ven of the other id
 abbrev pub resource_row_under : List ℕ → List ℕ → Base → Option (ℕ × Resource)

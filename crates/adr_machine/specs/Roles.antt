@@ -17,8 +17,8 @@ is_operator (Ven id) = false
 is_operator Utility = false
 
 -- the number of the ven of an id, where it is enrolled
-abbrev pub enrolled : Base → List ℕ → Option ℕ
-enrolled base id = option_and_then (λ n. option_map (λ v. n) (at nat_cmp n base.vens)) (number_of 118 id)
+abbrev pub ven_at : List ℕ → Base → Option ℕ
+ven_at id base = option_and_then (λ n. option_map (λ v. n) (at nat_cmp n base.vens)) (number_of 118 id)
 
 abbrev pub sight_by : Option ℕ → Result Sight Refusal
 sight_by None = Err Forbidden
@@ -27,5 +27,5 @@ sight_by (Some n) = Ok (Of n)
 -- what a role sees: the operator all, an enrolled ven what is its own, and another nothing
 abbrev pub sight_of : Base → Role → Result Sight Refusal
 sight_of base Operator = Ok All
-sight_of base (Ven id) = sight_by (enrolled base id)
+sight_of base (Ven id) = sight_by (ven_at id base)
 sight_of base Utility = Err Forbidden

@@ -2,7 +2,7 @@
 ghost use Rattle.std.specs.Prelude.{◌≡◌, ◌≢◌, Ok, Err, Some, ◌≤◌, nat_lt, ◌&&◌, IfOk, IfErr, OnOk};
 ghost use Rattle.adr_text.specs.declared.refusal.Refusal.TheVariants.{Store};
 ghost use Rattle.adr_state.specs.Weights.{most_weight};
-ghost use Rattle.adr_machine.specs.Edits.{scan_after, evidence, gone, scan_begin, scan_end, fresh, has_ven, ven_add, has_resource, ven_at, resource_of_ven, resource_add, resource_at, share_put, share_of_resource, share_set, edit};
+ghost use Rattle.adr_machine.specs.Edits.{scan_after, evidence, gone, scan_begin, scan_end, fresh, has_ven, ven_add, has_resource, resource_of_ven, resource_add, resource_at, share_put, share_of_resource, share_set, edit};
 ghost use Rattle.adr_machine.specs.Steps.{IsRefusalOf};
 
 use crate::answer::{Answer, Object};
@@ -11,7 +11,7 @@ use crate::digits::number_of;
 use crate::puts::{with_resource_renamed, with_ven_renamed};
 use crate::removals::{with_resource_removed, with_ven_removed};
 use crate::role::Role;
-use crate::sight::is_operator;
+use crate::sight::{is_operator, ven_at};
 use adr_schema::{
     Found, Kind, Number, ResourceName, ResourceObject, ShareObject, Stamps, VenObject,
 };
@@ -209,17 +209,6 @@ fn has_resource(resources: &Resources, name: &ResourceName) -> bool
     resources
         .iter()
         .any(|(_, resource)| resource.name.as_name() == name.as_name())
-}
-
-/// The number of the ven of that id.
-fn ven_at(id: &ObjectId, base: &Base) -> Option<Number>
-    ensures { result ≡ ven_at id.now base.now }
-{
-    let number = number_of(b'v', id)?;
-    if base.vens.get(&number).is_none() {
-        return None;
-    }
-    Some(number)
 }
 
 fn with_resource(

@@ -10,7 +10,7 @@ use crate::portfolio::{
 };
 use crate::query::Page;
 use crate::role::Role;
-use crate::sight::{Sight, enrolled, is_operator, sight_of};
+use crate::sight::{Sight, is_operator, sight_of, ven_at};
 use adr_schema::Number;
 use adr_state::Base;
 use adr_text::{ObjectId, Refusal, Rows};
@@ -113,7 +113,7 @@ pub(crate) fn resources_reply(
     ensures no_store { result ≢ Err Store }
 {
     let sight = sight_of(base, role)?;
-    let Some(ven) = enrolled(base, ven) else {
+    let Some(ven) = ven_at(ven, base) else {
         return Err(Refusal::NotFound);
     };
     if !sees_ven(sight, ven) {

@@ -4,7 +4,7 @@ ghost use Rattle.adr_machine.specs.Portfolio.{ven_row, resource_row, is_under, r
 
 use crate::answer::Object;
 use crate::digits::number_of;
-use crate::sight::enrolled;
+use crate::sight::ven_at;
 use adr_schema::{Number, ResourceObject, ShareObject, VenObject};
 use adr_state::{Base, Resource, ShareKey, Ven, Weight};
 use adr_text::ObjectId;
@@ -43,7 +43,7 @@ pub(crate) fn resource_row(
 pub(crate) fn is_under(ven: &ObjectId, base: &Base, resource: &Resource) -> bool
     ensures { result ≡ is_under ven.now base.now resource.now }
 {
-    match enrolled(base, ven) {
+    match ven_at(ven, base) {
         Some(number) => number == resource.ven,
         None => false,
     }

@@ -1,7 +1,7 @@
 //! What a role may do and see.
 ghost use Rattle.std.specs.Prelude.{◌≡◌, ◌≢◌, IfOk, IfErr, Ok, Err, option_map};
 ghost use Rattle.adr_text.specs.declared.refusal.Refusal.TheVariants.{Forbidden};
-ghost use Rattle.adr_machine.specs.Roles.{is_operator, enrolled, sight_of};
+ghost use Rattle.adr_machine.specs.Roles.{is_operator, ven_at, sight_of};
 ghost use Rattle.adr_machine.specs.Steps.{sees};
 
 use crate::digits::number_of;
@@ -29,8 +29,8 @@ pub fn is_operator(role: &Role) -> bool
 }
 
 /// The number of the ven of that id, where it is enrolled.
-pub(crate) fn enrolled(base: &Base, id: &ObjectId) -> Option<Number>
-    ensures { result ≡ enrolled base.now id.now }
+pub(crate) fn ven_at(id: &ObjectId, base: &Base) -> Option<Number>
+    ensures { result ≡ ven_at id.now base.now }
 {
     let number = number_of(b'v', id)?;
     if base.vens.get(&number).is_none() {
@@ -45,7 +45,7 @@ pub(crate) fn sight_of(base: &Base, role: &Role) -> Result<Sight, Refusal>
 {
     match role {
         Role::Operator => Ok(Sight::All),
-        Role::Ven(id) => match enrolled(base, id) {
+        Role::Ven(id) => match ven_at(id, base) {
             Some(number) => Ok(Sight::Of(number)),
             None => Err(Refusal::Forbidden),
         },

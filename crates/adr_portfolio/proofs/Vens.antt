@@ -6,7 +6,8 @@ use Rattle.adr_state.specs.declared.base.Base.{Base}
 use Rattle.adr_state.specs.declared.base.Ven.{Ven}
 use Rattle.adr_state.specs.Keys.{at}
 use Rattle.adr_machine.specs.Digits.{number_of}
-use Rattle.adr_machine.specs.Edits.{ven_at, has_other_ven, ven_renamed, putting_ven}
+use Rattle.adr_machine.specs.Edits.{has_other_ven, ven_renamed, putting_ven}
+use Rattle.adr_machine.specs.Roles.{ven_at}
 use Rattle.adr_machine.specs.Portfolio.{ven_row, ven_again}
 
 pub ven_there : (id : List ℕ) (base : Base) (n : ℕ) (found : Option Ven) (ven : Ven) → number_of 118 id ≡ Some n → found ≡ at nat_cmp n base.vens → found ≡ Some ven → ven_row id base ≡ Some (n, ven)
