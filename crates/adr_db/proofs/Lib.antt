@@ -13,3 +13,4 @@ pub mod Unseen
 pub mod Sharing
 pub mod Calls
 pub mod MapLemmas
+pub mod Results

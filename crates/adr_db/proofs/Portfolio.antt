@@ -26,7 +26,8 @@ use Rattle.adr_sql.proofs.Maps.{entry_found, remove_entry_is}
 use Rattle.adr_sql.proofs.Cascades.{Losses, IsChain, cascade_runs}
 use Rattle.adr_db.specs.Tables.{schema}
 use Rattle.adr_db.specs.Rows.{meta_row, mark_row, key_row, number, number_row, ven_columns, ven_row, resource_columns, resource_row, share_row}
-use Rattle.adr_db.specs.Kept.{Kept, Keeps, contents_of, is_of_ven, without_ven, without_resource}
+use Rattle.adr_machine.specs.Portfolio.{is_of_ven}
+use Rattle.adr_db.specs.Kept.{Kept, Keeps, contents_of, without_ven, without_resource}
 use Rattle.adr_db.proofs.Tables.{ven, ven_keyed, resource, resource_keyed}
 use Rattle.adr_db.proofs.Rows.{number_codec, number_same_is, numbers_as_values, numbers_as_rows}
 use Rattle.adr_db.proofs.VenStatements as vens

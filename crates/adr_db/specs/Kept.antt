@@ -1,8 +1,7 @@
 -- The tables hold the state: the rows of each, read by key, are the corresponding map.
 use Rattle.std.specs.List.{AllByRecursion}
-use Rattle.std.specs.Prelude.{ℕ, ℤ, pos, negsuc, Bool, false, not, ◌==◌, Option, None, Some, take, bytes_eq, List, [], ◌∷◌, map, filter}
+use Rattle.std.specs.Prelude.{ℕ, ℤ, pos, negsuc, false, not, ◌==◌, Option, None, Some, take, bytes_eq, List, [], ◌∷◌, map, filter}
 use Rattle.std.specs.Ordering.{nat_cmp}
-use Rattle.std.specs.Option.{option_map_or}
 use Rattle.std.specs.Map.{remove_entry}
 use Rattle.std.specs.BTreeMap.{is_at, insert_entry}
 use Rattle.std.specs.BTreeSet.{insert_key}
@@ -14,7 +13,8 @@ use Rattle.adr_state.specs.declared.base.Ven.{Ven}
 use Rattle.adr_state.specs.declared.base.Resource.{Resource}
 use Rattle.adr_state.specs.declared.keys.MirrorKey.{MirrorKey}
 use Rattle.adr_state.specs.declared.keys.ShareKey.{ShareKey}
-use Rattle.adr_state.specs.Keys.{mirror_cmp, share_cmp, at}
+use Rattle.adr_state.specs.Keys.{mirror_cmp, share_cmp}
+use Rattle.adr_machine.specs.Portfolio.{is_of_ven}
 use Rattle.adr_sql.specs.Contents.{Contents, Holds}
 use Rattle.adr_db.specs.declared.meta.Meta.{Meta}
 use Rattle.adr_db.specs.Tables.{schema}
@@ -90,10 +90,6 @@ vens_named name vens = map (λ v. v.0) (filter (λ v. bytes_eq v.1.name name) ve
 
 abbrev pub resources_named : List ℕ → List (ℕ × Resource) → List ℕ
 resources_named name resources = map (λ r. r.0) (filter (λ r. bytes_eq r.1.name name) resources)
-
--- whether a resource is there and belongs to the ven
-abbrev pub is_of_ven : ℕ → List (ℕ × Resource) → ℕ → Bool
-is_of_ven ven resources resource = option_map_or (λ r. r.ven == ven) (at nat_cmp resource resources) false
 
 -- without a ven: its resources go, and their shares
 abbrev pub without_ven : ℕ → Kept → Kept

@@ -4,3 +4,4 @@ pub mod Kept
 pub mod Bases
 pub mod Sharing
 pub mod Calls
+pub mod BaseCalls

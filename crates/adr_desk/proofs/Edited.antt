@@ -11,7 +11,7 @@ use Rattle.adr_db.specs.Bases.{HoldsBase}
 use Rattle.adr_db.proofs.Calls.{on_then}
 use Rattle.adr_machine.specs.declared.command.Command.{Command}
 use Rattle.adr_machine.specs.Edits.{edit}
-use Rattle.adr_mirror.specs.Calls.{Makes}
+use Rattle.adr_db.specs.BaseCalls.{Makes}
 use Rattle.adr_desk.specs.declared.edit.Edit.{Edit}
 use Rattle.adr_desk.specs.Edits.{IsAnswer, HoldsEdited, LeftEdited, told}
 use Rattle.adr_desk.specs.Transactions.{Ends}

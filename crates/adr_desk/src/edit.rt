@@ -6,7 +6,7 @@ ghost use Rattle.adr_state.specs.declared.base.Base.{Base};
 ghost use Rattle.adr_sql.specs.Calls.{Stays, Commits};
 ghost use Rattle.adr_db.specs.Bases.{HoldsBase};
 ghost use Rattle.adr_machine.specs.Edits.{evidence, gone, scan_begin, scan_end, edit};
-ghost use Rattle.adr_mirror.specs.Calls.{Makes, Refuses};
+ghost use Rattle.adr_db.specs.BaseCalls.{Makes, Refuses};
 ghost use Rattle.adr_desk.specs.Edits.{IsAnswer, HoldsEdited, LeftEdited, told};
 
 use crate::frame::{begin, commit};

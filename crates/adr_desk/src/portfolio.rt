@@ -4,7 +4,7 @@ ghost use Rattle.adr_text.specs.declared.refusal.Refusal.TheVariants.{Forbidden}
 ghost use Rattle.adr_sql.specs.Calls.{Stays};
 ghost use Rattle.adr_machine.specs.Roles.{is_operator};
 ghost use Rattle.adr_machine.specs.Edits.{ven_add, ven_put, ven_remove, resource_add, resource_put, resource_remove, share_set};
-ghost use Rattle.adr_mirror.specs.Calls.{Makes, Refuses};
+ghost use Rattle.adr_db.specs.BaseCalls.{Makes, Refuses};
 ghost use Rattle.adr_desk.specs.Edits.{IsAnswer};
 
 use crate::edit::Edit;

@@ -1,7 +1,6 @@
 -- From what is kept to the base that it is kept of.
-use Rattle.std.proofs.Common.{◌≡◌, inl, inr, Bool, true, false, cond, ◌&&◌, ◌+◌, List, [], ◌++◌, ◌∷◌, length, ℕ, Option, Some, None, Result, Ok, Err, IfOk, IfErr, OnOk, refl, sym, ap, ap₂, subst, ◌∙◌, arith, Less}
+use Rattle.std.proofs.Common.{◌≡◌, Bool, true, false, cond, ◌&&◌, ◌+◌, List, [], ◌++◌, ◌∷◌, length, ℕ, Option, Some, None, Result, Ok, Err, refl, sym, ap, ap₂, subst, ◌∙◌, arith, Less}
 use Rattle.std.specs.Prelude.{is_some, nat_lt}
-use Rattle.std.specs.Result.{IsErrAnd}
 use Rattle.std.specs.BTreeMap.{insert_entry}
 use Rattle.std.specs.BTreeSet.{insert_key}
 use Rattle.std.proofs.lemmas.Bool.Decides.{nat_tests}
@@ -24,34 +23,12 @@ use Rattle.adr_sql.specs.Keys.{key_order}
 use Rattle.adr_db.specs.Rows.{mark_columns, mark_row}
 use Rattle.adr_db.specs.Kept.{Kept, Keeps, at_most, with_mark}
 use Rattle.adr_db.specs.Bases.{kept_of}
-use Rattle.adr_db.specs.Calls.{IsOfStore}
 use Rattle.adr_db.proofs.Rows.{keys_as_rows}
 use Rattle.adr_machine.specs.declared.answer.Answer.{Answer}
 use Rattle.adr_machine.specs.declared.answer.Answer.TheVariants as answer
 use Rattle.adr_machine.specs.Edits.{mirror_set, scan_after, scan_end}
-use Rattle.adr_machine.specs.Steps.{IsRefusalOf}
 use Rattle.adr_mirror.specs.Raises.{are_beyond, with_raised, with_keys_added, with_polled_if_open}
 use Rattle.adr_mirror.specs.Missed.{missed_by}
-
--- ---- results
-
-pub ok_from : {T E X : Type 0} {P : T → Type 0} (r : Result T E) → ((x : T) → X → P x) → OnOk r X → IfOk r P
-ok_from (Ok x) f h = f x h
-ok_from (Err e) f h = tt
-
--- a refusal that is handed on
-pub handed_on : {T : Type 0} (P : Refusal → Type 0) (r : Result T Refusal) (e : Refusal) → IsErrAnd r (λ x. x ≡ e) → P e → IfErr r P
-handed_on P (Ok x) e h p = absurd h
-handed_on P (Err x) e h p = subst P (sym h) p
-
--- want of memory and the store's refusal stand in place of any answer
-pub store_refuses : {A : Type 0} (e : Refusal) (r : Result A Refusal) → IsOfStore e → IsRefusalOf e r
-store_refuses e r (inl is) = subst (λ e. IsRefusalOf e r) (sym is) tt
-store_refuses e r (inr is) = subst (λ e. IsRefusalOf e r) (sym is) tt
-
--- so does the machine's own
-pub own_refuses : {A : Type 0} (e own : Refusal) (r : Result A Refusal) → e ≡ own → r ≡ Err own → IsRefusalOf own r → IsRefusalOf e r
-own_refuses e own r is same h = subst (λ e. IsRefusalOf e r) (sym is) h
 
 -- ---- the mirror
 

@@ -9,7 +9,8 @@ ghost use Rattle.adr_state.specs.Mirror.{key_of, mark_of, evidence_of, joined};
 ghost use Rattle.adr_db.specs.Calls.{Leaves, Finds, IsOfStore};
 ghost use Rattle.adr_machine.specs.Edits.{evidence, gone};
 ghost use Rattle.adr_mirror.specs.Raises.{HasRisen, HaveRisen, rise_of, noted, are_beyond, with_raised, with_joined, with_keys_added, with_keys_polled, with_polled_if_open};
-ghost use Rattle.adr_mirror.specs.Calls.{Turns, Makes, Refuses, RefusesBeyond};
+ghost use Rattle.adr_db.specs.BaseCalls.{Turns, Makes, Refuses};
+ghost use Rattle.adr_mirror.specs.Calls.{RefusesBeyond};
 
 use crate::raise::raise;
 use crate::risen::Risen;

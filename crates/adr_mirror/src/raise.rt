@@ -4,7 +4,7 @@ ghost use Rattle.adr_sql.specs.Calls.{Stays};
 ghost use Rattle.adr_state.specs.Keys.{mirror_cmp, at};
 ghost use Rattle.adr_db.specs.Calls.{IsOfStore};
 ghost use Rattle.adr_mirror.specs.Raises.{is_raised, added_by, rise_of, with_raised};
-ghost use Rattle.adr_mirror.specs.Calls.{Turns};
+ghost use Rattle.adr_db.specs.BaseCalls.{Turns};
 
 use crate::known::rise_of;
 use adr_db::{put_mark, read_mark};

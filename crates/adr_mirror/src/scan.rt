@@ -7,7 +7,7 @@ ghost use Rattle.adr_db.specs.Calls.{Leaves, IsOfStore};
 ghost use Rattle.adr_machine.specs.declared.answer.Answer.TheVariants as answer;
 ghost use Rattle.adr_machine.specs.Edits.{scan_begin, scan_end};
 ghost use Rattle.adr_mirror.specs.Missed.{missed};
-ghost use Rattle.adr_mirror.specs.Calls.{Makes, Refuses, Tells};
+ghost use Rattle.adr_db.specs.BaseCalls.{Makes, Refuses, Tells};
 
 use adr_db::{clear_polled, put_meta, read_meta, read_unseen};
 use adr_state::MirrorKey;

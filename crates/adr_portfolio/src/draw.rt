@@ -2,7 +2,7 @@
 ghost use Rattle.std.specs.Prelude.{◌≡◌, Ok, [], ◌∷◌, IfErr};
 ghost use Rattle.adr_text.specs.declared.refusal.Refusal.TheVariants.{Exhausted};
 ghost use Rattle.adr_sql.specs.Calls.{Stays};
-ghost use Rattle.adr_mirror.specs.Calls.{Turns};
+ghost use Rattle.adr_db.specs.BaseCalls.{Turns};
 ghost use Rattle.adr_portfolio.specs.Checks.{drawn, with_drawn};
 ghost use Rattle.adr_portfolio.specs.Refusals.{IsOneOf};
 ghost use Rattle.adr_portfolio.specs.Calls.{RefusesBy};

@@ -3,7 +3,7 @@ ghost use Rattle.std.specs.Prelude.{◌≡◌, Ok, IfOk, IfErr};
 ghost use Rattle.adr_state.specs.Participants.{participants};
 ghost use Rattle.adr_sql.specs.Calls.{Stays};
 ghost use Rattle.adr_db.specs.Calls.{IsOfStore};
-ghost use Rattle.adr_mirror.specs.Calls.{Tells};
+ghost use Rattle.adr_db.specs.BaseCalls.{Tells};
 ghost use Rattle.adr_portfolio.specs.Parts.{part_of, parts_for, parts_of};
 
 use adr_db::read_sharers;

@@ -12,7 +12,7 @@ ghost use Rattle.adr_machine.specs.declared.answer.Answer.TheVariants as answer;
 ghost use Rattle.adr_machine.specs.declared.answer.Object.TheVariants as object;
 ghost use Rattle.adr_machine.specs.Edits.{has_resource, has_other_resource, resource_of_ven, resource_renamed, resource_removed};
 ghost use Rattle.adr_machine.specs.Roles.{ven_at};
-ghost use Rattle.adr_mirror.specs.Calls.{Makes, Refuses};
+ghost use Rattle.adr_db.specs.BaseCalls.{Makes, Refuses};
 ghost use Rattle.adr_portfolio.specs.Checks.{new_resource, found_under};
 ghost use Rattle.adr_portfolio.specs.Refusals.{IsOneOf};
 ghost use Rattle.adr_portfolio.specs.Calls.{RefusesBy};

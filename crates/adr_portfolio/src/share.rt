@@ -6,7 +6,7 @@ ghost use Rattle.adr_sql.specs.Calls.{Stays};
 ghost use Rattle.adr_db.specs.Calls.{Finds};
 ghost use Rattle.adr_machine.specs.declared.answer.Answer.TheVariants as answer;
 ghost use Rattle.adr_machine.specs.Edits.{resource_at, share_put, share_of_resource};
-ghost use Rattle.adr_mirror.specs.Calls.{Makes, Refuses};
+ghost use Rattle.adr_db.specs.BaseCalls.{Makes, Refuses};
 ghost use Rattle.adr_portfolio.specs.Checks.{new_share};
 ghost use Rattle.adr_portfolio.specs.Refusals.{IsOneOf};
 ghost use Rattle.adr_portfolio.specs.Calls.{RefusesBy, Sets};

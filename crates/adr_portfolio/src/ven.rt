@@ -7,7 +7,7 @@ ghost use Rattle.adr_machine.specs.declared.answer.Answer.TheVariants as answer;
 ghost use Rattle.adr_machine.specs.declared.answer.Object.TheVariants as object;
 ghost use Rattle.adr_machine.specs.Edits.{has_ven, has_other_ven, enrolled_by, ven_renamed, ven_removed};
 ghost use Rattle.adr_machine.specs.Portfolio.{ven_row};
-ghost use Rattle.adr_mirror.specs.Calls.{Makes, Refuses};
+ghost use Rattle.adr_db.specs.BaseCalls.{Makes, Refuses};
 ghost use Rattle.adr_portfolio.specs.Checks.{new_ven};
 ghost use Rattle.adr_portfolio.specs.Refusals.{IsOneOf};
 ghost use Rattle.adr_portfolio.specs.Calls.{RefusesBy};

@@ -6,7 +6,7 @@ use Rattle.adr_db.specs.Bases.{HoldsBase}
 use Rattle.adr_text.specs.declared.refusal.Refusal.{Refusal}
 use Rattle.adr_machine.specs.declared.answer.Answer.{Answer}
 use Rattle.adr_machine.specs.Edits.{edit}
-use Rattle.adr_mirror.specs.Calls.{Makes}
+use Rattle.adr_db.specs.BaseCalls.{Makes}
 use Rattle.adr_desk.specs.Edits.{IsAnswer, HoldsEdited, LeftEdited}
 use Rattle.adr_desk.proofs.Edited.{moved, edited_whole, edited_makes}
 use Rattle.adr_desk.proofs.edit.edit_in.Goals as goal

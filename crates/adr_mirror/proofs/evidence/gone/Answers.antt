@@ -9,7 +9,8 @@ use Rattle.adr_db.specs.Bases.{kept_of}
 use Rattle.adr_machine.specs.Edits.{gone}
 use Rattle.adr_mirror.specs.Raises.{HaveRisen, with_raised}
 use Rattle.adr_mirror.proofs.Rising.{one_risen}
-use Rattle.adr_mirror.proofs.Keeping.{mirror_rises, handed_on, store_refuses, own_refuses, is_set, is_beyond, keys_counted}
+use Rattle.adr_db.proofs.Results.{handed_on, store_refuses, own_refuses}
+use Rattle.adr_mirror.proofs.Keeping.{mirror_rises, is_set, is_beyond, keys_counted}
 use Rattle.adr_mirror.proofs.evidence.gone.Goals as goal
 
 -- more keys than the limit are the machine's refusal

@@ -7,7 +7,8 @@ use Rattle.adr_db.specs.Kept.{Keeps}
 use Rattle.adr_db.specs.Bases.{kept_of}
 use Rattle.adr_machine.specs.Edits.{evidence, scan_after}
 use Rattle.adr_mirror.specs.Raises.{HaveRisen, with_joined}
-use Rattle.adr_mirror.proofs.Keeping.{handed_on, store_refuses, own_refuses, is_set, is_beyond, keys_counted, kept_after}
+use Rattle.adr_db.proofs.Results.{handed_on, store_refuses, own_refuses}
+use Rattle.adr_mirror.proofs.Keeping.{is_set, is_beyond, keys_counted, kept_after}
 use Rattle.adr_mirror.proofs.evidence.put_evidence.Goals as goal
 
 -- more keys than the limit are the machine's refusal

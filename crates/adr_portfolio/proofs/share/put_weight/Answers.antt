@@ -4,7 +4,7 @@ use Rattle.sqlite.specs.State.{HasCleanDisk}
 use Rattle.adr_db.specs.Kept.{Keeps, with_share}
 use Rattle.adr_db.specs.Bases.{kept_of}
 use Rattle.adr_db.proofs.Calls.{on_then}
-use Rattle.adr_mirror.proofs.Keeping.{handed_on}
+use Rattle.adr_db.proofs.Results.{handed_on}
 use Rattle.adr_portfolio.proofs.Shares.{with_weight, without_weight, removes, puts, put_refused}
 use Rattle.adr_portfolio.proofs.share.put_weight.Goals as goal
 

@@ -8,7 +8,7 @@ use Rattle.adr_db.specs.Bases.{kept_of}
 use Rattle.adr_machine.specs.declared.answer.Answer.TheVariants as answer
 use Rattle.adr_machine.specs.declared.answer.Object.TheVariants as object
 use Rattle.adr_machine.specs.Edits.{has_ven, enrolling, fresh}
-use Rattle.adr_mirror.proofs.Keeping.{handed_on}
+use Rattle.adr_db.proofs.Results.{handed_on}
 use Rattle.adr_portfolio.specs.Checks.{with_drawn}
 use Rattle.adr_portfolio.proofs.Refusals.{made_refused, number_refused, all_pass}
 use Rattle.adr_portfolio.proofs.ven.ven_add.Goals as goal
