@@ -16,7 +16,8 @@
 //! - `> TEXT` is a text;
 //! - `< ANSWER` is what the reader makes of the text before.
 //!
-//! The participants of events are read from tables of its own, since no line of a script asks for them yet.
+//! The participants of events are read from tables of its own, since no line of a script asks for them yet; and a list of
+//! commands is told as a whole to the plain desk and to the tables.
 #![tactic(auto)]
 
 mod participants;
@@ -28,6 +29,7 @@ mod row;
 mod same;
 mod texts;
 mod twin;
+mod whole_run;
 
 use crate::participants::run_participants;
 use crate::play::play;
@@ -35,8 +37,9 @@ use crate::report::{report, report_twin};
 use crate::row::{Row, read_row};
 use crate::texts::{read_texts, run_texts};
 use crate::twin::Twin;
+use crate::whole_run::run_whole;
 use adr_machine::PlainDesk;
-use adr_state::Settings;
+use adr_state::{Limits, Settings};
 use adr_text::Name;
 use anyhow::{Context, Result};
 use std::alloc::Global;
@@ -73,11 +76,14 @@ fn files_of<R: Files + AllocGlobal + Clone + Drop>(
     Ok(names)
 }
 
+fn settings_of(alloc: Global, limits: Limits) -> Result<Settings> {
+    let client = Name::new(alloc, CLIENT)?;
+    Ok(Settings { client, limits })
+}
+
 /// What a desk is set to for a row.
 fn settings(alloc: Global, row: &Row) -> Result<Settings> {
-    let client = Name::new(alloc, CLIENT)?;
-    let limits = row.limits;
-    Ok(Settings { client, limits })
+    settings_of(alloc, row.limits)
 }
 
 fn run_plain<R: Print + AllocGlobal>(rt: &R, row: &Row) -> Result<bool> {
@@ -125,12 +131,20 @@ fn run_texts_of<R: Files + Print + AllocGlobal + Clone + Drop>(
     Ok(passed)
 }
 
+fn run_commands<R: Print + AllocGlobal>(rt: &R) -> Result<bool> {
+    let alloc = rt.alloc();
+    let settings = settings_of(alloc, Limits::largest())?;
+    let again = settings_of(alloc, Limits::largest())?;
+    run_whole(rt, settings, again)
+}
+
 fn run_all<R: Env + Files + Print + AllocGlobal + Clone + Drop>(rt: &R) -> Result<bool> {
     let folder = folder(rt)?;
     let rows = run_rows(rt, folder.as_str())?;
     let texts = run_texts_of(rt, folder.as_str())?;
     let participants = run_participants(rt)?;
-    Ok(rows && texts && participants)
+    let commands = run_commands(rt)?;
+    Ok(rows && texts && participants && commands)
 }
 
 fn main(rt: HostRuntime) -> Result<ExitCode> {
