@@ -2,7 +2,6 @@
 use Rattle.std.proofs.Common.{inl, inr, Option, None, length, suc, Ok, ◌≡◌, ℕ, ℤ, Bool, true, false, not, cond, List, [], ◌∷◌, map, Some, refl, sym, ap, ap₂, subst, ◌∙◌, Ordering, Less, Equal, Greater, is_eq}
 use Rattle.std.specs.Prelude.{bytes_eq}
 use Rattle.std.specs.Ordering.{ordering_reverse, ordering_then, match_ordering, int_cmp, nat_cmp}
-use Rattle.std.specs.Cmp.{int_ranked}
 use Rattle.std.specs.Cmp.Lexicographic.{slice_cmp}
 use Rattle.std.specs.List.{AllByRecursion}
 use Rattle.std.specs.BTreeMap.{insert_entry, is_at}
@@ -132,13 +131,7 @@ then_none Greater = refl
 pub number_key : (j k : ℤ) (a b : Row) → key_order 1 (Int j ∷ a) (Int k ∷ b) ≡ int_cmp j k
 number_key j k a b = then_none _ ∙ value_cmp-Int j k
 
-pub number_same : (j k : ℤ) → int_cmp k j ≡ Equal → k ≡ j
-number_same j k e = int_ranked k j Equal (sym e)
-
 -- a text, byte by byte
-pub text_key : (j k : List ℕ) (a b : Row) → key_order 1 (Text j ∷ a) (Text k ∷ b) ≡ slice_cmp nat_cmp j k
-text_key j k a b = then_none _ ∙ value_cmp-Text j k
-
 pub text_same : (j k : List ℕ) → slice_cmp nat_cmp k j ≡ Equal → k ≡ j
 text_same j k e = (bytes_eq-Decides k j).0 (sym (is_eq-slice_cmp k j) ∙ ap is_eq e)
 
