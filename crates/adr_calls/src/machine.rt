@@ -1,5 +1,5 @@
 //! The machine and its plain desk.
-use adr_machine::{Answer, Command, Desk, Object, PlainDesk, Role, number_of, run};
+use adr_machine::{Answer, Command, Desk, Object, PlainDesk, Role, number_in, run};
 use adr_schema::read_ven;
 use adr_state::{Limits, Settings, State};
 use adr_text::{Moment, Name, ObjectId, Refusal};
@@ -39,7 +39,7 @@ fn steps(alloc: Global) -> Result<Vec<(Moment, Command)>, Refusal> {
 }
 
 // The number of the ven that an answer is, or that of its refusal.
-fn number_in(answer: &Result<Answer, Refusal>) -> u64 {
+fn answered_number(answer: &Result<Answer, Refusal>) -> u64 {
     match answer {
         Ok(Answer::Object(Object::Ven(ven))) => ven.number.get(),
         Ok(_) => 99,
@@ -49,7 +49,11 @@ fn number_in(answer: &Result<Answer, Refusal>) -> u64 {
 
 fn numbers_in(answers: &[Result<Answer, Refusal>]) -> [u64; 3] {
     match answers {
-        [first, second, third] => [number_in(first), number_in(second), number_in(third)],
+        [first, second, third] => [
+            answered_number(first),
+            answered_number(second),
+            answered_number(third),
+        ],
         _ => [99; 3],
     }
 }
@@ -102,14 +106,14 @@ fn copy(alloc: Global) -> Result<State, Refusal> {
 }
 
 // How many vens there are, and the serial.
-fn sizes(state: State) -> (usize, u64) {
-    (state.base.vens.len(), state.base.serial)
+fn sizes(state: &State) -> (usize, u64) {
+    (state.base.portfolio.vens.len(), state.base.serial.get())
 }
 
 #[test]
 fn images(rt: HostRuntime) -> Result<(), Fail> {
-    assert!(rt; sizes(image(rt.alloc())?) == (1, 1));
-    assert!(rt; sizes(copy(rt.alloc())?) == (1, 1));
+    assert!(rt; sizes(&image(rt.alloc())?) == (1, 1));
+    assert!(rt; sizes(&copy(rt.alloc())?) == (1, 1));
     Ok(())
 }
 
@@ -177,7 +181,7 @@ const IDS: [(&str, Option<u64>); 10] = [
 ];
 
 fn ven_number(alloc: Global, id: &str) -> Result<Option<u64>, Refusal> {
-    match number_of(b'v', &ObjectId::new(alloc, id)?) {
+    match number_in(b'v', &ObjectId::new(alloc, id)?) {
         Some(number) => Ok(Some(number.get())),
         None => Ok(None),
     }

@@ -1,8 +1,6 @@
 //! Objects: lists at their limits, and what is written.
-use adr_schema::{
-    Body, EventObject, Kind, Number, ShownEvent, ShownInterval, Stamps, read_page, resource_id,
-    shown_id, ven_id, write_events,
-};
+use adr_objects::{Body, EventObject, Kind, Number, ShownEvent, ShownInterval, Stamps};
+use adr_schema::{read_page, resource_id, shown_id, ven_id, write_events};
 use adr_text::{Moment, Name, ObjectId, Refusal, Rows};
 use std::alloc::{AllocError, Global};
 use std::slice::from_ref;

@@ -1,5 +1,5 @@
 -- From a statement that ran to the clauses of a call.
-use Rattle.std.proofs.Common.{◌≡◌, ℕ, slice_get, Some, Option, ap, ◌∙◌, ◌∷◌, List, Ok, Err, Result, IfOk, OnOk}
+use Rattle.std.proofs.Common.{ℕ, List, Ok, Err, Result, IfOk}
 use Rattle.sqlite_value.specs.Order.{Row}
 use Rattle.sqlite.specs.Store.{Ghosts}
 use Rattle.sqlite.specs.Held.{Held, state}
@@ -11,16 +11,16 @@ use Rattle.adr_sql.specs.Contents.{Contents, Holds}
 use Rattle.adr_sql.proofs.Transactions.{holds_still}
 use Rattle.adr_db.specs.Tables.{schema}
 use Rattle.adr_db.specs.Kept.{Kept, Keeps, contents_of}
-use Rattle.adr_db.specs.Calls.{Leaves, Finds}
+use Rattle.adr_db.specs.Calls.{LeavesKept, Finds, Shows}
 
 -- a plain query leaves what is kept
-pub keeps_still : (sql : List ℕ) (params : Row) (old new : State) (rows : List Row) (kept : Kept) → IsPlain (understood schema sql) → Shown sql params old new rows → Keeps kept old → Keeps kept new
+keeps_still : (sql : List ℕ) (params : Row) (old new : State) (rows : List Row) (kept : Kept) → IsPlain (understood schema sql) → Shown sql params old new rows → Keeps kept old → Keeps kept new
 keeps_still sql params old new rows kept plain shown was = record { rows = holds_still schema sql params old new rows (contents_of kept) plain shown was.rows; marks = was.marks }
 
 module _ {S : Type 0} (g : Ghosts S) (old new : Held S) (sql : List ℕ) (params : Row) where
   -- a statement that writes
   pub run_leaves : {E : Type 0} (change : Kept → Kept) (r : Result Unit E) → ((count : ℕ) → Executes sql params (state g old) (state g new) (Ok count) → (kept : Kept) → Keeps kept (state g old) → Keeps (change kept) (state g new))
-      → Runs g old new sql params r → Leaves g old new change r
+      → Runs g old new sql params r → LeavesKept g old new change r
   run_leaves change (Ok done) means ran clean = let it = ran clean in means it.0 it.1
   run_leaves change (Err e) means ran clean = tt
 
@@ -29,20 +29,13 @@ module _ {S : Type 0} (g : Ghosts S) (old new : Held S) (sql : List ℕ) (params
   run_changes change (Ok done) means ran clean = let it = ran clean in λ all was. means it.0 all it.1 was
   run_changes change (Err e) means ran clean = tt
 
-  -- a query whose rows are read
-  pub rows_find : {T E : Type 0} (IsRight : Kept → T → Type 0) (r : Result T E) (rows : List Row) → IsPlain (understood schema sql) → (HasCleanDisk (state g new) → Shown sql params (state g old) (state g new) rows)
-      → IfOk r (λ x. (kept : Kept) → Shown sql params (state g old) (state g new) rows → Keeps kept (state g old) → IsRight kept x) → Finds g old new IsRight r
-  rows_find IsRight (Ok x) rows plain shown right clean = λ kept was. (right kept (shown clean) was, keeps_still sql params (state g old) (state g new) rows kept plain (shown clean) was)
-  rows_find IsRight (Err e) rows plain shown right clean = tt
+  -- the rows of a query are read
+  pub shows : {T E : Type 0} (IsRead : List Row → T → Type 0) (r : Result T E) (rows : List Row) → (HasCleanDisk (state g new) → Shown sql params (state g old) (state g new) rows) → IfOk r (IsRead rows) → Shows g old new sql params IsRead r
+  shows IsRead (Ok x) rows shown read clean = (rows, shown clean, read)
+  shows IsRead (Err e) rows shown read clean = tt
 
-pub ok_then : {T E : Type 0} {P Q : T → Type 0} (r : Result T E) → ((x : T) → P x → Q x) → IfOk r P → IfOk r Q
-ok_then (Ok x) f h = f x h
-ok_then (Err e) f h = tt
-
-pub on_then : {T E P Q : Type 0} (r : Result T E) → (P → Q) → OnOk r P → OnOk r Q
-on_then (Ok x) f h = f h
-on_then (Err e) f h = tt
-
--- the first row of those that are shown
-pub first_is : {X : Type 0} (x y : X) (xs ys : List X) → Some x ≡ slice_get xs 0 → xs ≡ y ∷ ys → x ≡ y
-first_is {X = X} x y xs ys first is = let same : ◌≡◌ {A = Option X} (Some x) (Some y) = first ∙ ap (λ l. slice_get l 0) is in cc
+  -- a query that leaves what is kept
+  pub shown_finds : {T E : Type 0} (IsRead : List Row → T → Type 0) (IsRight : Kept → T → Type 0) (r : Result T E) → IsPlain (understood schema sql)
+      → ((x : T) (rows : List Row) (kept : Kept) → Shown sql params (state g old) (state g new) rows → Keeps kept (state g old) → IsRead rows x → IsRight kept x) → Shows g old new sql params IsRead r → Finds g old new IsRight r
+  shown_finds IsRead IsRight (Ok x) plain right shows clean = let it = shows clean in λ kept was. (right x it.0 kept it.1 was it.2, keeps_still sql params (state g old) (state g new) it.0 kept plain it.1 was)
+  shown_finds IsRead IsRight (Err e) plain right shows clean = tt

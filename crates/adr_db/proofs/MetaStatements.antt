@@ -6,32 +6,26 @@ use Rattle.sqlite_value.specs.Order.{Row}
 use Rattle.sqlite_sql.specs.Term.{lit, col}
 use Rattle.sqlite_sql.specs.Query.{end}
 use Rattle.sqlite.specs.State.{State, Executes, Shown}
-use Rattle.sqlite.specs.Given.{IsPlain}
 use Rattle.sqlite.specs.Listing.{understood}
 use Rattle.sqlite_tied.specs.Compute.{everything}
 use Rattle.adr_sql.specs.Keys.{with_row}
-use Rattle.adr_sql.specs.Contents.{Contents, rows_of_table, with_table, empty_tables, Holds}
+use Rattle.adr_sql.specs.Contents.{Contents, rows_of_table, with_table, Holds}
 use Rattle.adr_sql.proofs.Values.{AreValues}
 use Rattle.adr_sql.proofs.Upserts.{IsUpsertText, upsert_runs}
-use Rattle.adr_sql.proofs.Selections.{IsSelectText, whole_rows}
-use Rattle.adr_sql.proofs.Maps.{number_key, read_all_runs}
+use Rattle.adr_sql.proofs.Selections.{IsSelectText, whole_rows, read_runs}
+use Rattle.adr_sql.proofs.Maps.{number_key}
 use Rattle.adr_db.specs.declared.meta.Meta.{Meta}
-use Rattle.adr_db.specs.Tables.{schema, tables}
+use Rattle.adr_db.specs.declared.meta.TheConstants.{PUT, READ}
+use Rattle.adr_db.specs.Tables.{schema}
 use Rattle.adr_db.specs.Rows.{number, meta_row}
-use Rattle.adr_db.specs.Kept.{Kept, Keeps, AreMarks, contents_of, nothing_kept, with_meta}
+use Rattle.adr_db.specs.Kept.{Kept, Keeps, AreMarks, contents_of, with_meta}
 use Rattle.adr_db.proofs.Tables.{meta, meta_keyed}
-
-abbrev pub put_text : List ℕ
-put_text = codes "INSERT INTO meta (k, version, serial, scan, made, sent, given_up, dropped, keys) VALUES (1, 1, ?1, ?2, ?3, ?4, ?5, ?6, ?7) ON CONFLICT (k) DO UPDATE SET k = excluded.k, version = excluded.version, serial = excluded.serial, scan = excluded.scan, made = excluded.made, sent = excluded.sent, given_up = excluded.given_up, dropped = excluded.dropped, keys = excluded.keys"
-
-abbrev pub read_text : List ℕ
-read_text = codes "SELECT k, version, serial, scan, made, sent, given_up, dropped, keys FROM meta ORDER BY k"
 
 -- the parameters: all but the key and the version
 abbrev pub numbers : Meta → Row
 numbers m = number m.serial ∷ Int (cond m.scan (pos 1) (pos 0)) ∷ number m.made ∷ number m.sent ∷ number m.given_up ∷ number m.dropped ∷ number m.keys ∷ []
 
-puts : (m : Meta) → IsUpsertText schema 0 meta put_text (numbers m) (meta_row m)
+puts : (m : Meta) → IsUpsertText schema 0 meta PUT.now (numbers m) (meta_row m)
 unfolding understood everything
 puts m = record {
   terms = lit Null ∷ lit (number 1) ∷ lit (number 1) ∷ col 0 0 ∷ col 0 1 ∷ col 0 2 ∷ col 0 3 ∷ col 0 4 ∷ col 0 5 ∷ col 0 6 ∷ [];
@@ -47,8 +41,8 @@ puts m = record {
 values : (m : Meta) → AreValues meta (meta_row m)
 values m = record { fits = refl; full = refl; width = refl }
 
-pub meta_put : (m : Meta) (old new : State) (count : ℕ) (all : Contents) → Executes put_text (numbers m) old new (Ok count) → Holds schema all old → Holds schema (with_table all 0 (with_row 1 (meta_row m) (rows_of_table all 0))) new
-meta_put m = upsert_runs schema 0 meta meta_keyed put_text (numbers m) (meta_row m) (puts m) (values m)
+pub meta_put : (m : Meta) (old new : State) (count : ℕ) (all : Contents) → Executes PUT.now (numbers m) old new (Ok count) → Holds schema all old → Holds schema (with_table all 0 (with_row 1 (meta_row m) (rows_of_table all 0))) new
+meta_put m = upsert_runs schema 0 meta meta_keyed PUT.now (numbers m) (meta_row m) (puts m) (values m)
 
 -- the new row takes the place of the old one
 one_row : (m n : Meta) → with_row 1 (meta_row m) (meta_row n ∷ []) ≡ meta_row m ∷ []
@@ -57,7 +51,7 @@ one_row m n = ap (λ (o : Ordering). match_ordering o (meta_row n ∷ with_row 1
 pub keeps_meta : (m : Meta) (kept : Kept) (new : State) → AreMarks kept.mirror → Holds schema (with_table (contents_of kept) 0 (with_row 1 (meta_row m) (rows_of_table (contents_of kept) 0))) new → Keeps (with_meta m kept) new
 keeps_meta m kept new are h = record { rows = subst (λ rows. Holds schema (with_table (contents_of kept) 0 rows) new) (one_row m kept.meta) h; marks = are }
 
-reads : IsSelectText schema meta (whole_rows 0 meta) end read_text
+pub reads : IsSelectText schema meta (whole_rows 0 meta) end READ.now
 unfolding understood everything
 reads = record {
   names = codes "k" ∷ codes "version" ∷ codes "serial" ∷ codes "scan" ∷ codes "made" ∷ codes "sent" ∷ codes "given_up" ∷ codes "dropped" ∷ codes "keys" ∷ [];
@@ -74,12 +68,5 @@ reads = record {
   shows = refl;
 }
 
-pub read_is_plain : IsPlain (understood schema read_text)
-read_is_plain = reads.alone
-
-pub meta_read : (old new : State) (rows : List Row) (kept : Kept) → Shown read_text [] old new rows → Keeps kept old → rows ≡ meta_row kept.meta ∷ []
-meta_read old new rows kept h was = read_all_runs schema 0 meta meta_keyed.place read_text [] reads old new rows (contents_of kept) h was.rows
-
--- the first row, in empty tables
-pub keeps_first : (m : Meta) (new : State) → Holds schema (with_table (empty_tables tables) 0 (with_row 1 (meta_row m) [])) new → Keeps (with_meta m nothing_kept) new
-keeps_first m new h = record { rows = h; marks = tt }
+pub meta_read : (old new : State) (rows : List Row) (kept : Kept) → Shown READ.now [] old new rows → Keeps kept old → rows ≡ meta_row kept.meta ∷ []
+meta_read old new rows kept h was = read_runs schema 0 0 meta meta_keyed.place READ.now [] reads refl old new rows (contents_of kept) h was.rows

@@ -1,5 +1,5 @@
 -- The join of the shares in a program with their resources and vens.
-use Rattle.std.proofs.Common.{◌≡◌, ◌≤◌, ℕ, pos, negsuc, Bool, true, false, ◌&&◌, cond, None, Some, Option, List, [], ◌∷◌, ◌++◌, codes, map, filter, flat_map, length, refl, sym, ap, ap₂, subst, ◌∙◌, arith, is_eq, Less}
+use Rattle.std.proofs.Common.{◌≡◌, ◌≤◌, ℕ, pos, negsuc, Bool, true, false, ◌&&◌, cond, None, Some, Option, List, [], ◌∷◌, ◌++◌, codes, map, filter, flat_map, length, refl, sym, ap, ap₂, subst, ◌∙◌, arith, is_eq}
 use Rattle.std.specs.Prelude.{option_map, option_and_then, option_to_list}
 use Rattle.std.specs.List.{list_all, filter_map, cons_option}
 use Rattle.std.specs.Option.{option_map_or}
@@ -8,45 +8,42 @@ use Rattle.sqlite_value.specs.declared.value.Value.TheVariants.{Null, Int, Text}
 use Rattle.sqlite_value.specs.declared.keys.Collation.TheVariants.{Binary}
 use Rattle.sqlite_value.specs.Order.{Row, value_cmp}
 use Rattle.sqlite_value.proofs.OrderLemmas.{value_cmp-Int, value_cmp-Text}
-use Rattle.sqlite_trees.specs.Tree.{IsAscending}
-use Rattle.sqlite_trees.proofs.ListLemmas.{flat_map-map, flat_map_none, all_of, all-map, ascending_weaker, ascending_from_map}
+use Rattle.sqlite_trees.proofs.ListLemmas.{flat_map-map, flat_map_none, all_of, all-map}
 use Rattle.sqlite_sql.specs.declared.ops.BinaryOp.TheVariants.{Compare}
 use Rattle.sqlite_sql.specs.declared.ops.CompareOp.TheVariants.{Eq}
 use Rattle.sqlite_sql.specs.Query.{Query, Join, inner, end, matches}
 use Rattle.sqlite_sql.specs.Term.{Term, Env, lit, col, op2, holds, eval_all}
 use Rattle.sqlite.specs.State.{State, Shown}
-use Rattle.sqlite.specs.Given.{IsPlain}
 use Rattle.sqlite.specs.Listing.{understood}
 use Rattle.sqlite_tied.specs.Compute.{everything}
-use Rattle.adr_state.specs.declared.base.Ven.{Ven}
-use Rattle.adr_state.specs.declared.base.Resource.{Resource}
+use Rattle.adr_state.specs.declared.portfolio.Ven.{Ven}
+use Rattle.adr_state.specs.declared.portfolio.Resource.{Resource}
 use Rattle.adr_state.specs.declared.keys.ShareKey.{ShareKey}
 use Rattle.adr_state.specs.declared.participants.Participant.{Participant}
 use Rattle.adr_state.specs.Keys.{at}
-use Rattle.adr_sql.specs.Keys.{key_order}
 use Rattle.adr_sql.proofs.Keys.{and_true, equal_is}
 use Rattle.adr_sql.proofs.Places.{seen}
 use Rattle.adr_sql.proofs.Selections.{IsQueryText, order_from}
 use Rattle.adr_sql.proofs.Joins.{IsJoinText, with_row, join_runs, named_is}
+use Rattle.adr_db.specs.declared.sharers.TheConstants.{READ_SHARERS}
 use Rattle.adr_db.specs.Tables.{schema}
-use Rattle.adr_db.specs.Rows.{number, ven_row, ven_columns, resource_row, resource_columns, share_row, participant_row}
+use Rattle.adr_db.specs.Rows.{number, ven_row, resource_row, share_row, participant_row}
 use Rattle.adr_db.specs.Kept.{Kept, Keeps, contents_of}
 use Rattle.adr_db.specs.Sharing.{is_in, sharer, sharers}
-use Rattle.adr_db.proofs.Tables.{share, share_keyed}
-use Rattle.adr_db.proofs.Rows.{numbers_as_rows, numbers_as_values, number_same_is}
-
-abbrev pub text : List ℕ
-text = codes "SELECT s.resource, s.weight, r.name, v.name FROM share s JOIN resource r ON r.id = s.resource JOIN ven v ON v.id = r.ven WHERE s.program = ?1 ORDER BY s.program, s.resource"
+use Rattle.adr_db.proofs.Rises.{vens_rise, resources_rise}
+use Rattle.adr_db.proofs.Tables.{ven, resource, share, share_keyed}
+use Rattle.adr_db.proofs.Maps.{share_map}
+use Rattle.adr_db.proofs.Rows.{numbers_as_values, number_same_is}
 
 abbrev rest : Join
-rest = inner 9 (inner 6 end)
+rest = inner resource.tree (inner ven.tree end)
 
 abbrev equals : Term → Term → Term
 equals a b = op2 (Compare Eq Binary) a b
 
 abbrev query : Query
 query = record {
-  from = inner 12 rest;
+  from = inner share.tree rest;
   filter = equals (col 2 1) (col 1 2) ∷ equals (col 3 1) (col 2 2) ∷ equals (col 1 1) (col 0 0) ∷ [];
   group = None;
   project = col 1 2 ∷ col 1 3 ∷ col 2 3 ∷ col 3 2 ∷ [];
@@ -57,15 +54,12 @@ query = record {
   offset = lit (Int (pos 0));
 }
 
-reads : IsQueryText schema query text
+pub reads : IsQueryText schema query READ_SHARERS.now
 unfolding understood everything
 reads = record { names = codes "resource" ∷ codes "weight" ∷ codes "name" ∷ codes "name" ∷ []; command = refl; alone = (refl, refl); unlisted = refl; ungrouped = refl; undistinct = refl; joins = refl; sorts = refl; shows = refl }
 
-joins : IsJoinText schema share query rest text
+joins : IsJoinText schema share query rest READ_SHARERS.now
 joins = record { reads = reads; from = refl; order = refl }
-
-pub is_plain : IsPlain (understood schema text)
-is_plain = reads.alone
 
 -- ---- the tests
 
@@ -107,46 +101,35 @@ kept_rows p h (x ∷ xs) =
 
 -- ---- what is found
 
-module _ (kept : Kept) (s : State) (was : Keeps kept s) where
-  pub vens_rise : IsAscending (λ a b. nat_cmp a.0 b.0 ≡ Less) kept.vens
-  vens_rise =
-      ascending_weaker _ (λ a b. nat_cmp a.0 b.0 ≡ Less) (λ (a b : ℕ × Ven) (h : key_order 1 (ven_row a) (ven_row b) ≡ Less). sym (numbers_as_rows a.0 b.0 (ven_columns a.1) (ven_columns b.1)) ∙ h) kept.vens
-      (ascending_from_map (λ a b. key_order 1 a b ≡ Less) ven_row kept.vens was.rows.each.1.1.1.0.rising)
-
-  pub resources_rise : IsAscending (λ a b. nat_cmp a.0 b.0 ≡ Less) kept.resources
-  resources_rise =
-      ascending_weaker _ (λ a b. nat_cmp a.0 b.0 ≡ Less) (λ (a b : ℕ × Resource) (h : key_order 1 (resource_row a) (resource_row b) ≡ Less). sym (numbers_as_rows a.0 b.0 (resource_columns a.1) (resource_columns b.1)) ∙ h) kept.resources
-      (ascending_from_map (λ a b. key_order 1 a b ≡ Less) resource_row kept.resources was.rows.each.1.1.1.1.0.rising)
-
 module _ (program : List ℕ) (kept : Kept) (e : ShareKey × ℕ) where
   abbrev named : Option Resource
-  named = at nat_cmp e.0.resource kept.resources
+  named = at nat_cmp e.0.resource kept.portfolio.resources
 
   -- the ven that a resource names, and the resource that the share names, as slots
   abbrev with_ven_of : ℕ × Resource → List Env
-  with_ven_of r = option_map_or (λ v. beside program e r (r.1.ven, v) ∷ []) (at nat_cmp r.1.ven kept.vens) []
+  with_ven_of r = option_map_or (λ v. beside program e r (r.1.ven, v) ∷ []) (at nat_cmp r.1.ven kept.portfolio.vens) []
 
   abbrev with_resource_of : List Env
   with_resource_of = option_map_or (λ r. cond (is_in program e) (with_ven_of (e.0.resource, r)) []) named []
 
-  found_is : (s : State) → Keeps kept s → with_row schema 5 share share_keyed.place query rest text (Text program ∷ []) joins (contents_of kept) (share_row e) ≡ with_resource_of
+  found_is : (s : State) → Keeps kept s → with_row schema share_map.rows.at share share_keyed.place query rest READ_SHARERS.now (Text program ∷ []) joins (contents_of kept) (share_row e) ≡ with_resource_of
   found_is s was =
       let them = seen schema.tables (contents_of kept) in
       let a : Row = Null ∷ share_row e in
       let params : Row = Text program ∷ [] in
-      let by_ven : (r : ℕ × Resource) → matches them query.filter (inner 6 end) (params ∷ a ∷ (Null ∷ resource_row r) ∷ []) ≡ cond (is_eq (nat_cmp e.0.resource r.0)) (cond (is_in program e) (with_ven_of r) []) [] = λ r.
-      flat_map-map (λ row. matches them query.filter end (params ∷ a ∷ (Null ∷ resource_row r) ∷ row ∷ [])) (λ row. Null ∷ row) (map ven_row kept.vens)
-      ∙ flat_map-map (λ row. matches them query.filter end (params ∷ a ∷ (Null ∷ resource_row r) ∷ (Null ∷ row) ∷ [])) ven_row kept.vens
-      ∙ ap (λ (f : ℕ × Ven → List Env). flat_map f kept.vens)
+      let by_ven : (r : ℕ × Resource) → matches them query.filter (inner ven.tree end) (params ∷ a ∷ (Null ∷ resource_row r) ∷ []) ≡ cond (is_eq (nat_cmp e.0.resource r.0)) (cond (is_in program e) (with_ven_of r) []) [] = λ r.
+      flat_map-map (λ row. matches them query.filter end (params ∷ a ∷ (Null ∷ resource_row r) ∷ row ∷ [])) (λ row. Null ∷ row) (map ven_row kept.portfolio.vens)
+      ∙ flat_map-map (λ row. matches them query.filter end (params ∷ a ∷ (Null ∷ resource_row r) ∷ (Null ∷ row) ∷ [])) ven_row kept.portfolio.vens
+      ∙ ap (λ (f : ℕ × Ven → List Env). flat_map f kept.portfolio.vens)
       (λ i v. (ap (λ b. cond b (beside program e r v ∷ []) []) (passes_is program e r v) ∙ turned (is_eq (nat_cmp e.0.resource r.0)) (is_eq (nat_cmp r.1.ven v.0)) (is_in program e) (beside program e r v ∷ [])) i)
-      ∙ held (is_eq (nat_cmp e.0.resource r.0)) (λ v. cond (is_in program e) (cond (is_eq (nat_cmp r.1.ven v.0)) (beside program e r v ∷ []) []) []) kept.vens
+      ∙ held (is_eq (nat_cmp e.0.resource r.0)) (λ v. cond (is_in program e) (cond (is_eq (nat_cmp r.1.ven v.0)) (beside program e r v ∷ []) []) []) kept.portfolio.vens
       ∙ ap (λ l. cond (is_eq (nat_cmp e.0.resource r.0)) l [])
-      (held (is_in program e) (λ v. cond (is_eq (nat_cmp r.1.ven v.0)) (beside program e r v ∷ []) []) kept.vens
-      ∙ ap (λ l. cond (is_in program e) l []) (named_is nat_cmp (λ j k. number_same_is k j) (λ v. beside program e r v ∷ []) r.1.ven kept.vens (vens_rise kept s was))) in
-      flat_map-map (λ row. matches them query.filter (inner 6 end) (params ∷ a ∷ row ∷ [])) (λ row. Null ∷ row) (map resource_row kept.resources)
-      ∙ flat_map-map (λ row. matches them query.filter (inner 6 end) (params ∷ a ∷ (Null ∷ row) ∷ [])) resource_row kept.resources
-      ∙ ap (λ (f : ℕ × Resource → List Env). flat_map f kept.resources) (λ i r. by_ven r i)
-      ∙ named_is nat_cmp (λ j k. number_same_is k j) (λ r. cond (is_in program e) (with_ven_of r) []) e.0.resource kept.resources (resources_rise kept s was)
+      (held (is_in program e) (λ v. cond (is_eq (nat_cmp r.1.ven v.0)) (beside program e r v ∷ []) []) kept.portfolio.vens
+      ∙ ap (λ l. cond (is_in program e) l []) (named_is nat_cmp (λ j k. number_same_is k j) (λ v. beside program e r v ∷ []) r.1.ven kept.portfolio.vens (vens_rise kept s was))) in
+      flat_map-map (λ row. matches them query.filter (inner ven.tree end) (params ∷ a ∷ row ∷ [])) (λ row. Null ∷ row) (map resource_row kept.portfolio.resources)
+      ∙ flat_map-map (λ row. matches them query.filter (inner ven.tree end) (params ∷ a ∷ (Null ∷ row) ∷ [])) resource_row kept.portfolio.resources
+      ∙ ap (λ (f : ℕ × Resource → List Env). flat_map f kept.portfolio.resources) (λ i r. by_ven r i)
+      ∙ named_is nat_cmp (λ j k. number_same_is k j) (λ r. cond (is_in program e) (with_ven_of r) []) e.0.resource kept.portfolio.resources (resources_rise kept s was)
 
   few : length with_resource_of ≤ 1
   few = by named (is_in program e)
@@ -157,7 +140,7 @@ module _ (program : List ℕ) (kept : Kept) (e : ShareKey × ℕ) where
 
       by : (o : Option Resource) (b : Bool) → length (option_map_or (λ r. cond b (with_ven_of (e.0.resource, r)) []) o []) ≤ 1
       by None b = omega arith
-      by (Some r) true = of_ven r (at nat_cmp r.ven kept.vens)
+      by (Some r) true = of_ven r (at nat_cmp r.ven kept.portfolio.vens)
       by (Some r) false = omega arith
 
   shown_is : map (eval_all query.project) with_resource_of ≡ cond (is_in program e) (map participant_row (option_to_list (sharer kept e))) []
@@ -169,17 +152,17 @@ module _ (program : List ℕ) (kept : Kept) (e : ShareKey × ℕ) where
       of_ven r (Some v) = refl
 
       by : (o : Option Resource) (b : Bool) → map (eval_all query.project) (option_map_or (λ r. cond b (with_ven_of (e.0.resource, r)) []) o [])
-          ≡ cond b (map participant_row (option_to_list (option_and_then (λ (r : Resource). option_map (λ (ven : Ven). record { resource = e.0.resource; weight = e.1; name = r.name; ven_name = ven.name }) (at nat_cmp r.ven kept.vens)) o))) []
+          ≡ cond b (map participant_row (option_to_list (option_and_then (λ (r : Resource). option_map (λ (ven : Ven). record { resource = e.0.resource; weight = e.1; name = r.name; ven_name = ven.name }) (at nat_cmp r.ven kept.portfolio.vens)) o))) []
       by None true = refl
       by None false = refl
-      by (Some r) true = of_ven r (at nat_cmp r.ven kept.vens)
+      by (Some r) true = of_ven r (at nat_cmp r.ven kept.portfolio.vens)
       by (Some r) false = refl
 
-pub sharers_read : (program : List ℕ) (old new : State) (rows : List Row) (kept : Kept) → Shown text (Text program ∷ []) old new rows → Keeps kept old → rows ≡ map participant_row (sharers program kept)
+pub sharers_read : (program : List ℕ) (old new : State) (rows : List Row) (kept : Kept) → Shown READ_SHARERS.now (Text program ∷ []) old new rows → Keeps kept old → rows ≡ map participant_row (sharers program kept)
 sharers_read program old new rows kept h was =
-    let found : Row → List Env = with_row schema 5 share share_keyed.place query rest text (Text program ∷ []) joins (contents_of kept) in
-    join_runs schema 5 share share_keyed.place query rest text (Text program ∷ []) joins old new rows (contents_of kept) h was.rows
-    (all-map (λ a. length (found a) ≤ 1) share_row kept.shares (all_of (λ e. length (found (share_row e)) ≤ 1) (λ e. subst (λ l. length l ≤ 1) (sym (found_is program kept e old was)) (few program kept e)) kept.shares))
-    ∙ flat_map-map (λ a. map (eval_all query.project) (found a)) share_row kept.shares
-    ∙ ap (λ (f : ShareKey × ℕ → List Row). flat_map f kept.shares) (λ i e. (ap (map (eval_all query.project)) (found_is program kept e old was) ∙ shown_is program kept e) i)
-    ∙ kept_rows (is_in program) (sharer kept) kept.shares
+    let found : Row → List Env = with_row schema share_map.rows.at share share_keyed.place query rest READ_SHARERS.now (Text program ∷ []) joins (contents_of kept) in
+    join_runs schema share_map.rows.at share share_keyed.place query rest READ_SHARERS.now (Text program ∷ []) joins old new rows (contents_of kept) h was.rows
+    (all-map (λ a. length (found a) ≤ 1) share_row kept.portfolio.shares (all_of (λ e. length (found (share_row e)) ≤ 1) (λ e. subst (λ l. length l ≤ 1) (sym (found_is program kept e old was)) (few program kept e)) kept.portfolio.shares))
+    ∙ flat_map-map (λ a. map (eval_all query.project) (found a)) share_row kept.portfolio.shares
+    ∙ ap (λ (f : ShareKey × ℕ → List Row). flat_map f kept.portfolio.shares) (λ i e. (ap (map (eval_all query.project)) (found_is program kept e old was) ∙ shown_is program kept e) i)
+    ∙ kept_rows (is_in program) (sharer kept) kept.portfolio.shares

@@ -13,32 +13,30 @@ use Rattle.sqlite_sql.specs.declared.ops.UnaryOp.TheVariants.{Not}
 use Rattle.sqlite_sql.specs.Query.{Query, Join, inner, counted, end}
 use Rattle.sqlite_sql.specs.Term.{lit, col, op1, op2}
 use Rattle.sqlite.specs.State.{State, Shown}
-use Rattle.sqlite.specs.Given.{IsPlain}
 use Rattle.sqlite.specs.Listing.{understood}
 use Rattle.sqlite_tied.specs.Compute.{everything}
 use Rattle.adr_state.specs.declared.base.Mark.{Mark}
 use Rattle.adr_state.specs.declared.base.Mark.TheVariants.{Live, Dead}
 use Rattle.adr_state.specs.declared.keys.MirrorKey.{MirrorKey}
 use Rattle.adr_state.specs.Keys.{mirror_cmp}
-use Rattle.adr_sql.specs.Keys.{has_key, key_order}
+use Rattle.adr_sql.specs.Keys.{cells, has_key, key_order}
 use Rattle.adr_sql.proofs.Keys.{and_true, equal_is}
 use Rattle.adr_sql.proofs.Selections.{IsSelectText, is_match, select_runs, order_from, pairs_from, absent_key}
+use Rattle.adr_db.specs.declared.probes.TheConstants.{READ_UNSEEN}
 use Rattle.adr_db.specs.Tables.{schema}
 use Rattle.adr_db.specs.Rows.{number, key_row, mark_columns, mark_row}
 use Rattle.adr_state.specs.Scans.{is_live, has_key as is_polled, probes}
 use Rattle.adr_db.specs.Kept.{Kept, Keeps, contents_of, at_most, limit_number}
-use Rattle.adr_db.proofs.Tables.{mirror, mirror_keyed}
+use Rattle.adr_db.proofs.Tables.{mirror, mirror_keyed, polled}
+use Rattle.adr_db.proofs.Maps.{mirror_map}
 use Rattle.adr_db.proofs.Rows.{keys_as_rows}
 
-abbrev pub text : List ℕ
-text = codes "SELECT kind, id FROM mirror WHERE state = 1 AND NOT EXISTS (SELECT 1 FROM polled p WHERE p.kind = mirror.kind AND p.id = mirror.id) ORDER BY kind, id LIMIT ?1"
-
 abbrev rest : Join
-rest = counted 1 (inner 4 end) (pairs_from 0 2) end
+rest = counted 1 (inner polled.tree end) (pairs_from 0 2) end
 
 abbrev query : Query
 query = record {
-  from = inner 2 rest;
+  from = inner mirror.tree rest;
   filter = op2 (Compare Eq Binary) (col 1 3) (lit (number 1)) ∷ op1 Not (col 2 0) ∷ [];
   group = None;
   project = col 1 1 ∷ col 1 2 ∷ [];
@@ -49,12 +47,9 @@ query = record {
   offset = lit (Int (pos 0));
 }
 
-selects : IsSelectText schema mirror query rest text
+pub selects : IsSelectText schema mirror query rest READ_UNSEEN.now
 unfolding understood everything
 selects = record { names = codes "kind" ∷ codes "id" ∷ []; command = refl; alone = (refl, refl); unlisted = refl; from = refl; flat = refl; order = refl; ungrouped = refl; undistinct = refl; joins = refl; sorts = refl; shows = refl }
-
-pub is_plain : IsPlain (understood schema text)
-is_plain = selects.alone
 
 live_is : (mark : Mark) → is_eq (value_cmp (number 1) (column (mark_columns mark) 0)) ≡ is_live mark
 live_is (Live moment body) = ap is_eq (value_cmp-Int (pos 1) (pos 1))
@@ -65,23 +60,23 @@ any_map p f [] = refl
 any_map p f (x ∷ xs) = ap (λ b. p (f x) || b) (any_map p f xs)
 
 -- the tests of WHERE, at a key with its mark
-passes_is : (limit : ℤ) (kept : Kept) (e : MirrorKey × Mark) → is_match schema 1 mirror mirror_keyed.place query rest text (Int limit ∷ []) selects (contents_of kept) (mark_row e) ≡ (is_live e.1 && not (is_polled kept.polled e.0))
+passes_is : (limit : ℤ) (kept : Kept) (e : MirrorKey × Mark) → is_match schema mirror_map.rows.at mirror mirror_keyed.place query rest READ_UNSEEN.now (Int limit ∷ []) selects (contents_of kept) (mark_row e) ≡ (is_live e.1 && not (is_polled kept.polled e.0))
 passes_is limit kept e =
     ap₂ ◌&&◌ (equal_is (column (mark_row e) 2) (number 1) refl ∙ live_is e.1)
-    (and_true _ ∙ absent_key schema.tables (contents_of kept) 2 4 (Int limit ∷ []) (mark_row e) refl
+    (and_true _ ∙ absent_key schema.tables (contents_of kept) 2 polled.tree (Int limit ∷ []) (mark_row e) refl
     ∙ ap not (any_map (has_key 2 (mark_row e)) key_row kept.polled ∙ ap (λ (p : MirrorKey → Bool). list_any p kept.polled) (λ i k. is_eq (polled_order e k i))))
   where
     polled_order : (e : MirrorKey × Mark) (k : MirrorKey) → key_order 2 (mark_row e) (key_row k) ≡ mirror_cmp e.0 k
     polled_order e k = keys_as_rows e.0 k (mark_columns e.1) []
 
 found_is : (limit : ℤ) (kept : Kept)
-    → map (λ row. column row 0 ∷ column row 1 ∷ []) (filter (is_match schema 1 mirror mirror_keyed.place query rest text (Int limit ∷ []) selects (contents_of kept)) (map mark_row kept.mirror)) ≡ map key_row (probes kept.mirror kept.polled)
+    → map (λ row. cells 0 2 row) (filter (is_match schema mirror_map.rows.at mirror mirror_keyed.place query rest READ_UNSEEN.now (Int limit ∷ []) selects (contents_of kept)) (map mark_row kept.mirror)) ≡ map key_row (probes kept.mirror kept.polled)
 found_is limit kept =
-    ap (map (λ row. column row 0 ∷ column row 1 ∷ [])) (filter-map _ mark_row kept.mirror ∙ ap (λ (p : MirrorKey × Mark → Bool). map mark_row (filter p kept.mirror)) (λ i e. passes_is limit kept e i))
-    ∙ map-map (λ row. column row 0 ∷ column row 1 ∷ []) mark_row _ ∙ sym (map-map key_row (λ e. e.0) _)
+    ap (map (λ row. cells 0 2 row)) (filter-map _ mark_row kept.mirror ∙ ap (λ (p : MirrorKey × Mark → Bool). map mark_row (filter p kept.mirror)) (λ i e. passes_is limit kept e i))
+    ∙ map-map (λ row. cells 0 2 row) mark_row _ ∙ sym (map-map key_row (λ e. e.0) _)
 
-pub unseen_read : (limit : Option ℕ) (old new : State) (rows : List Row) (kept : Kept) → Shown text (Int (limit_number limit) ∷ []) old new rows → Keeps kept old → rows ≡ map key_row (at_most limit (probes kept.mirror kept.polled))
+pub unseen_read : (limit : Option ℕ) (old new : State) (rows : List Row) (kept : Kept) → Shown READ_UNSEEN.now (Int (limit_number limit) ∷ []) old new rows → Keeps kept old → rows ≡ map key_row (at_most limit (probes kept.mirror kept.polled))
 unseen_read None old new rows kept h was =
-    select_runs schema 1 mirror mirror_keyed.place query rest text (Int (negsuc 0) ∷ []) selects old new rows (contents_of kept) h was.rows ∙ found_is (negsuc 0) kept
+    select_runs schema mirror_map.rows.at mirror mirror_keyed.place query rest READ_UNSEEN.now (Int (negsuc 0) ∷ []) selects old new rows (contents_of kept) h was.rows ∙ found_is (negsuc 0) kept
 unseen_read (Some n) old new rows kept h was =
-    select_runs schema 1 mirror mirror_keyed.place query rest text (Int (pos n) ∷ []) selects old new rows (contents_of kept) h was.rows ∙ ap (take n) (found_is (pos n) kept) ∙ take-map key_row n (probes kept.mirror kept.polled)
+    select_runs schema mirror_map.rows.at mirror mirror_keyed.place query rest READ_UNSEEN.now (Int (pos n) ∷ []) selects old new rows (contents_of kept) h was.rows ∙ ap (take n) (found_is (pos n) kept) ∙ take-map key_row n (probes kept.mirror kept.polled)

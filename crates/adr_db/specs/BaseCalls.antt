@@ -1,30 +1,50 @@
--- What a call makes of the base that the tables hold.
-use Rattle.std.specs.Prelude.{◌≡◌, Option, Result, Ok, IfOk, IfErr}
+-- What a call makes of the base that the tables hold, or of its portfolio alone.
+use Rattle.std.specs.Prelude.{◌≡◌, Result, Ok, IfOk, IfErr}
 use Rattle.sqlite.specs.Store.{Ghosts}
 use Rattle.sqlite.specs.Held.{Held, state}
-use Rattle.sqlite.specs.State.{HasCleanDisk}
+use Rattle.sqlite.specs.State.{State, HasCleanDisk}
 use Rattle.adr_text.specs.declared.refusal.Refusal.{Refusal}
+use Rattle.adr_text.specs.Refusals.{IsRefusalOf}
 use Rattle.adr_state.specs.declared.base.Base.{Base}
-use Rattle.adr_machine.specs.declared.answer.Answer.{Answer}
-use Rattle.adr_machine.specs.Steps.{IsRefusalOf}
-use Rattle.adr_db.specs.Kept.{Kept, Keeps}
-use Rattle.adr_db.specs.Bases.{HoldsBase}
+use Rattle.adr_state.specs.declared.portfolio.Portfolio.{Portfolio}
+use Rattle.adr_state.specs.BaseChanges.{BaseChange, changed}
+use Rattle.adr_state.specs.Portfolios.{PortfolioChange, portfolio_after}
+use Rattle.adr_db.specs.declared.meta.Meta.{Meta}
+use Rattle.adr_db.specs.Kept.{Kept, Keeps, with_portfolio}
+use Rattle.adr_db.specs.Bases.{meta_of, HoldsBeside}
+
+-- what is decided of the portfolio that is kept is an answer and a change, and the tables keep what the change makes of it
+pub record IsCarriedOut {A : Type 0} (decide : Portfolio → Result (A × PortfolioChange) Refusal) (kept : Kept) (x : A) (s : State) : Type 0 where
+  pub change : PortfolioChange
+  pub decided : decide kept.portfolio ≡ Ok (x, change)
+  pub keeps : Keeps (with_portfolio (portfolio_after change) kept) s
+
+-- what is decided of a base is a change; the tables hold what it makes of the base, and the numbers after it are those of that; the
+-- answer is right for the base before and after
+pub record IsMade {T : Type 0} (decide : Base → Result BaseChange Refusal) (IsRight : Base → Base → T → Type 0) (row : Meta) (base : Base) (after : Meta) (x : T) (s : State) : Type 0 where
+  pub change : BaseChange
+  pub decided : decide base ≡ Ok change
+  pub holds : HoldsBeside row (changed change base) s
+  pub counted : after ≡ meta_of (changed change base)
+  pub right : IsRight base (changed change base) x
 
 module _ {S : Type 0} (g : Ghosts S) (old new : Held S) where
-  -- after Ok, what the tables held is changed so, and the answer is right for what they held
-  abbrev pub Turns : {T E : Type 0} → (Kept → Kept) → (Kept → T → Type 0) → Result T E → Type 0
-  Turns change IsRight result = HasCleanDisk (state g new) → IfOk result (λ x. (kept : Kept) → Keeps kept (state g old) → IsRight kept x × Keeps (change kept) (state g new))
+  -- after Ok, what is decided of the portfolio that the tables kept is carried out, and answered
+  abbrev pub Carries : {A E : Type 0} → (Portfolio → Result (A × PortfolioChange) Refusal) → Result A E → Type 0
+  Carries decide result = HasCleanDisk (state g new) → IfOk result (λ x. (kept : Kept) → Keeps kept (state g old) → IsCarriedOut decide kept x (state g new))
 
-  -- after Ok, tables that held a base hold the one that the machine's edit makes of it; the answer is right for the base
-  -- before, what the machine says, and the base after
-  abbrev pub Makes : {T E : Type 0} → (Base → Result (Option Answer × Base) Refusal) → (Base → Option Answer → Base → T → Type 0) → Result T E → Type 0
-  Makes edit IsRight result = HasCleanDisk (state g new)
-      → IfOk result (λ x. (base : Base) → HoldsBase base (state g old) → (said : Option Answer) × (after : Base) × (edit base ≡ Ok (said, after)) × HoldsBase after (state g new) × IsRight base said after x)
+  -- after Ok, what is decided of the base that the tables held beside any numbers is made of it, where the caller's numbers were
+  -- those of the base; these are then those of the base after
+  abbrev pub Makes : {T E : Type 0} → (Base → Result BaseChange Refusal) → Meta → Meta → (Base → Base → T → Type 0) → Result T E → Type 0
+  Makes decide before after IsRight result =
+      HasCleanDisk (state g new)
+      → IfOk result (λ x. (row : Meta) (base : Base) → HoldsBeside row base (state g old) → before ≡ meta_of base → IsMade decide IsRight row base after x (state g new))
 
-  -- a refusal is the machine's own, or want of memory or the store's in its place
-  abbrev pub Refuses : {A T : Type 0} → (Base → Result A Refusal) → Result T Refusal → Type 0
-  Refuses edit result = HasCleanDisk (state g new) → IfErr result (λ refusal. (base : Base) → HoldsBase base (state g old) → IsRefusalOf refusal (edit base))
+  -- a refusal is that of the test of what was kept, or want of memory or the store's in its place
+  abbrev pub Refuses : {A T : Type 0} → (Kept → Result A Refusal) → Result T Refusal → Type 0
+  Refuses test result = HasCleanDisk (state g new) → IfErr result (λ refusal. (kept : Kept) → Keeps kept (state g old) → IsRefusalOf refusal (test kept))
 
-  -- after Ok, the answer is what the base that the tables held tells, and they hold it still
-  abbrev pub Tells : {T E : Type 0} → (Base → Result T Refusal) → Result T E → Type 0
-  Tells told result = HasCleanDisk (state g new) → IfOk result (λ x. (base : Base) → HoldsBase base (state g old) → (told base ≡ Ok x) × HoldsBase base (state g new))
+  -- the same of the base that the tables held beside any numbers, where the caller's numbers were those of the base
+  abbrev pub RefusesOn : {A T : Type 0} → (Base → Result A Refusal) → Meta → Result T Refusal → Type 0
+  RefusesOn decide before result =
+      HasCleanDisk (state g new) → IfErr result (λ refusal. (row : Meta) (base : Base) → HoldsBeside row base (state g old) → before ≡ meta_of base → IsRefusalOf refusal (decide base))

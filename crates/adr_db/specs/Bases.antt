@@ -1,8 +1,9 @@
--- What is kept of a base of the machine. What has no table yet is no part of it.
+-- What is kept of a base. What has no table yet is no part of it.
 use Rattle.std.specs.Prelude.{Option, None, Some, is_some, List, [], length}
 use Rattle.sqlite.specs.State.{State}
 use Rattle.adr_state.specs.declared.base.Base.{Base}
 use Rattle.adr_state.specs.declared.keys.MirrorKey.{MirrorKey}
+use Rattle.adr_db.specs.declared.meta.Meta.{Meta}
 use Rattle.adr_db.specs.Kept.{Kept, Keeps, first_meta}
 
 -- the keys that were polled; none where no scan is open
@@ -10,16 +11,21 @@ abbrev pub keys_polled : Option (List MirrorKey) → List MirrorKey
 keys_polled None = []
 keys_polled (Some keys) = keys
 
--- the numbers of the node say how many keys the mirror has
-abbrev pub kept_of : Base → Kept
-kept_of base = record {
-  meta = record first_meta { serial = base.serial; scan = is_some base.scan; keys = length base.mirror };
-  mirror = base.mirror;
-  polled = keys_polled base.scan;
-  vens = base.vens;
-  resources = base.resources;
-  shares = base.shares;
-}
+-- the numbers of the node: they say how many keys the mirror has
+abbrev pub meta_of : Base → Meta
+meta_of base = record first_meta { serial = base.serial; scan = is_some base.scan; keys = length base.mirror }
 
+-- the maps of a base, beside any numbers
+abbrev pub kept_beside : Meta → Base → Kept
+kept_beside row base = record { meta = row; mirror = base.mirror; polled = keys_polled base.scan; portfolio = base.portfolio }
+
+abbrev pub kept_of : Base → Kept
+kept_of base = kept_beside (meta_of base) base
+
+-- the tables hold a base, with its own numbers
 abbrev pub HoldsBase : Base → State → Type 0
 HoldsBase base s = Keeps (kept_of base) s
+
+-- and beside these numbers
+abbrev pub HoldsBeside : Meta → Base → State → Type 0
+HoldsBeside row base s = Keeps (kept_beside row base) s

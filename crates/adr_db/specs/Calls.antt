@@ -1,8 +1,9 @@
 -- What a call makes of what the tables keep. What a call leaves of its transaction is `Stays`.
-use Rattle.std.specs.Prelude.{◌≡◌, ◌⊎◌, Result, IfOk, OnOk}
+use Rattle.std.specs.Prelude.{◌≡◌, ◌⊎◌, ℕ, List, Result, IfOk, OnOk}
+use Rattle.sqlite.specs.Order.{Row}
 use Rattle.sqlite.specs.Store.{Ghosts}
 use Rattle.sqlite.specs.Held.{Held, state}
-use Rattle.sqlite.specs.State.{HasCleanDisk}
+use Rattle.sqlite.specs.State.{HasCleanDisk, Shown}
 use Rattle.sqlite.specs.declared.error.ErrorCode.TheVariants as code
 use Rattle.sqlite.specs.declared.error.Error.{Error}
 use Rattle.sqlite.specs.declared.error.Error.TheVariants.{SqliteFailure}
@@ -12,12 +13,20 @@ use Rattle.adr_db.specs.Kept.{Kept, Keeps}
 
 module _ {S : Type 0} (g : Ghosts S) (old new : Held S) where
   -- after Ok, tables that held a state hold what it is changed to
-  abbrev pub Leaves : {T E : Type 0} → (Kept → Kept) → Result T E → Type 0
-  Leaves change result = HasCleanDisk (state g new) → OnOk result ((kept : Kept) → Keeps kept (state g old) → Keeps (change kept) (state g new))
+  abbrev pub LeavesKept : {T E : Type 0} → (Kept → Kept) → Result T E → Type 0
+  LeavesKept change result = HasCleanDisk (state g new) → OnOk result ((kept : Kept) → Keeps kept (state g old) → Keeps (change kept) (state g new))
+
+  -- so they do, and the answer is right for the state that they held
+  abbrev pub Turns : {T E : Type 0} → (Kept → Kept) → (Kept → T → Type 0) → Result T E → Type 0
+  Turns change IsRight result = HasCleanDisk (state g new) → IfOk result (λ x. (kept : Kept) → Keeps kept (state g old) → IsRight kept x × Keeps (change kept) (state g new))
 
   -- after Ok, the answer is right for the state that the tables held, and they hold it still
   abbrev pub Finds : {T E : Type 0} → (Kept → T → Type 0) → Result T E → Type 0
   Finds IsRight result = HasCleanDisk (state g new) → IfOk result (λ x. (kept : Kept) → Keeps kept (state g old) → IsRight kept x × Keeps kept (state g new))
+
+  -- after Ok, the answer is right for the rows that the query shows with these parameters
+  abbrev pub Shows : {T E : Type 0} → List ℕ → Row → (List Row → T → Type 0) → Result T E → Type 0
+  Shows sql params IsRight result = HasCleanDisk (state g new) → IfOk result (λ x. (rows : List Row) × Shown sql params (state g old) (state g new) rows × IsRight rows x)
 
 -- an error of the store as a refusal
 abbrev pub refusal_of : Error → Refusal

@@ -1,23 +1,23 @@
--- How the maps of the machine are kept, as rows of SQL's values.
+-- How what is kept stands in rows of SQL's values.
 use Rattle.std.specs.Prelude.{ℕ, pos, ◌==◌, if◌then◌else◌, [], ◌∷◌, ◌++◌, string_bytes, Result, Ok, Err}
 use Rattle.sqlite.specs.declared.types.Value.TheVariants.{Int, Text}
 use Rattle.sqlite.specs.Order.{Row, column}
 use Rattle.adr_text.specs.declared.refusal.Refusal.{Refusal}
 use Rattle.adr_text.specs.declared.refusal.Refusal.TheVariants.{OutOfMemory, Store}
 use Rattle.adr_text.specs.Moments.{moment_at}
-use Rattle.adr_schema.specs.declared.body.Body.{Body}
-use Rattle.adr_schema.specs.Canonical.{canonical_text}
-use Rattle.adr_schema.specs.ReadBack.{canonical_of}
-use Rattle.adr_schema.specs.declared.kind.Kind.{Kind}
-use Rattle.adr_schema.specs.declared.kind.Kind.TheVariants.{Program, Event}
+use Rattle.adr_objects.specs.declared.body.Body.{Body}
+use Rattle.adr_objects.specs.Canonical.{canonical_text}
+use Rattle.adr_objects.specs.ReadBack.{canonical_of}
+use Rattle.adr_objects.specs.declared.kind.Kind.{Kind}
+use Rattle.adr_objects.specs.declared.kind.Kind.TheVariants.{Program, Event}
 use Rattle.adr_state.specs.declared.base.Mark.{Mark}
 use Rattle.adr_state.specs.declared.base.Mark.TheVariants.{Live, Dead}
-use Rattle.adr_state.specs.declared.base.Ven.{Ven}
-use Rattle.adr_state.specs.declared.base.Resource.{Resource}
+use Rattle.adr_state.specs.declared.portfolio.Ven.{Ven}
+use Rattle.adr_state.specs.declared.portfolio.Resource.{Resource}
 use Rattle.adr_state.specs.declared.keys.MirrorKey.{MirrorKey}
 use Rattle.adr_state.specs.declared.keys.ShareKey.{ShareKey}
 use Rattle.adr_state.specs.declared.participants.Participant.{Participant}
-use Rattle.adr_schema.specs.declared.shown.Stamps.{Stamps}
+use Rattle.adr_objects.specs.declared.shown.Stamps.{Stamps}
 use Rattle.adr_db.specs.declared.meta.Meta.{Meta}
 use Rattle.adr_db.specs.declared.mirror.MarkColumns.{MarkColumns}
 use Rattle.adr_db.specs.declared.mirror.MirrorRow.{MirrorRow}
@@ -62,9 +62,6 @@ mark_row e = key_row e.0 ++ mark_columns e.1
 
 abbrev pub number_row : ℕ → Row
 number_row n = number n ∷ []
-
-abbrev pub number_cells : Row → Row
-number_cells row = column row 0 ∷ []
 
 abbrev pub stamps_columns : Stamps → Row
 stamps_columns stamps = number stamps.created ∷ number stamps.modified ∷ []
@@ -113,38 +110,8 @@ abbrev pub mark_from : MarkColumns → Result Mark Refusal
 mark_from columns =
     if columns.state == 1 then live_from (moment_at (pos columns.moment)) (canonical_of (string_bytes columns.body)) else (if columns.state == 2 then Ok Dead else Err Store)
 
-abbrev pub meta_cells : Row → Row
-meta_cells row = column row 0 ∷ column row 1 ∷ column row 2 ∷ column row 3 ∷ column row 4 ∷ column row 5 ∷ column row 6 ∷ column row 7 ∷ column row 8 ∷ []
-
-abbrev pub key_cells : Row → Row
-key_cells row = column row 0 ∷ column row 1 ∷ []
-
-abbrev pub columns_cells : Row → Row
-columns_cells row = column row 2 ∷ column row 3 ∷ column row 4 ∷ []
-
-abbrev pub mirror_cells : Row → Row
-mirror_cells row = key_cells row ++ columns_cells row
-
 abbrev pub columns_row : MarkColumns → Row
 columns_row columns = number columns.state ∷ number columns.moment ∷ Text (string_bytes columns.body) ∷ []
 
 abbrev pub mirror_row : MirrorRow → Row
 mirror_row row = key_row row.key ++ columns_row row.mark
-
-abbrev pub ven_columns_cells : Row → Row
-ven_columns_cells row = column row 1 ∷ column row 2 ∷ column row 3 ∷ []
-
-abbrev pub ven_cells : Row → Row
-ven_cells row = column row 0 ∷ ven_columns_cells row
-
-abbrev pub resource_columns_cells : Row → Row
-resource_columns_cells row = column row 1 ∷ column row 2 ∷ column row 3 ∷ column row 4 ∷ []
-
-abbrev pub resource_cells : Row → Row
-resource_cells row = column row 0 ∷ resource_columns_cells row
-
-abbrev pub share_cells : Row → Row
-share_cells row = column row 0 ∷ column row 1 ∷ column row 2 ∷ []
-
-abbrev pub participant_cells : Row → Row
-participant_cells row = column row 0 ∷ column row 1 ∷ column row 2 ∷ column row 3 ∷ []

@@ -14,9 +14,9 @@ is_in program share = is_eq (id_cmp program share.0.program)
 -- the resource of a share with its name and its ven's, where both are there
 abbrev pub sharer : Kept → ShareKey × ℕ → Option Participant
 sharer kept share =
-    option_and_then (λ resource. option_map (λ ven. record { resource = share.0.resource; weight = share.1; name = resource.name; ven_name = ven.name }) (at nat_cmp resource.ven kept.vens))
-    (at nat_cmp share.0.resource kept.resources)
+    option_and_then (λ resource. option_map (λ ven. record { resource = share.0.resource; weight = share.1; name = resource.name; ven_name = ven.name }) (at nat_cmp resource.ven kept.portfolio.vens))
+    (at nat_cmp share.0.resource kept.portfolio.resources)
 
 -- those with a share in the program, in the order of its shares
 abbrev pub sharers : List ℕ → Kept → List Participant
-sharers program kept = filter_map (sharer kept) (filter (is_in program) kept.shares)
+sharers program kept = filter_map (sharer kept) (filter (is_in program) kept.portfolio.shares)

@@ -1,16 +1,18 @@
-//! Columns of a row as the values of the machine. What no call of this crate wrote is the store's refusal.
-ghost use Rattle.std.specs.Prelude.{◌≡◌, ℕ, ◌<◌, ◌+◌, pos, [], ◌∷◌, length, map, IfOk, IfErr};
+//! Columns of a row as the values that they stand for. What no call of this crate wrote is the store's
+//! refusal.
+ghost use Rattle.std.specs.Prelude.{◌≡◌, ◌<◌, ◌+◌, pos, [], ◌∷◌, IfOk, IfErr};
 ghost use Rattle.sqlite.specs.Order.{column};
 ghost use Rattle.sqlite_value.specs.Value.{owned};
-ghost use Rattle.sqlite.specs.declared.types.Value.TheVariants.{Int};
+ghost use Rattle.sqlite.specs.declared.types.Value.TheVariants.{Int, Text};
+ghost use Rattle.adr_sql.specs.Keys.{cells};
 ghost use Rattle.adr_db.specs.Calls.{IsOfStore};
-ghost use Rattle.sqlite_sql.specs.Aggregate.{count};
-ghost use Rattle.adr_db.specs.Rows.{number_row, number_cells, kind_number, key_row, key_cells, stamps_columns};
+ghost use Rattle.adr_db.specs.Rows.{as_stored, number, kind_number, key_row, stamps_columns};
 
+use crate::reading::FromRow;
 use crate::statement::refusal_of;
-use adr_schema::{Kind, Number, ResourceName, Stamps};
+use adr_objects::{Kind, Number, Stamps};
 use adr_state::{MirrorKey, Weight};
-use adr_text::{Fault, Moment, Name, ObjectId, Refusal, Rows};
+use adr_text::{Moment, Name, ObjectId, Refusal};
 use sqlite::Row;
 use sqlite::types::{FromSql, ValueRef};
 use std::alloc::Global;
@@ -38,7 +40,7 @@ pub(crate) fn number(n: u64) -> Result<ValueRef<'static>, Refusal>
 }
 
 /// The number of a kind.
-pub(crate) fn number_of(kind: Kind) -> u32
+pub(crate) fn kind_number(kind: Kind) -> u32
     ensures { result ≡ kind_number kind }
 {
     match kind {
@@ -58,50 +60,42 @@ fn kind_of(number: u32) -> Result<Kind, Refusal>
     }
 }
 
-pub(crate) fn id_of(alloc: Global, text: &str) -> Result<ObjectId, Refusal>
-    ensures id { IfOk result (λ id. id ≡ text.now) }
+/// A value that no call of this crate wrote is the store's refusal, and want of memory is itself.
+pub(crate) fn as_stored<T>(read: Result<T, Refusal>) -> Result<T, Refusal>
+    ensures same { result ≡ as_stored read }
     ensures refused { IfErr result IsOfStore }
 {
-    match ObjectId::new(alloc, text) {
-        Ok(id) => Ok(id),
+    match read {
+        Ok(value) => Ok(value),
         Err(Refusal::OutOfMemory) => Err(Refusal::OutOfMemory),
         Err(_) => Err(Refusal::Store),
     }
 }
 
-/// The name that the text is.
-pub(crate) fn name_of(alloc: Global, text: &str) -> Result<Name, Refusal>
-    ensures name { IfOk result (λ name. name ≡ text.now) }
+/// The id in a column.
+pub(crate) fn id_in(alloc: Global, row: &Row, at: usize) -> Result<ObjectId, Refusal>
+    ensures id { IfOk result (λ id. column row.now at ≡ Text id) }
     ensures refused { IfErr result IsOfStore }
 {
-    match Name::new(alloc, text) {
-        Ok(name) => Ok(name),
-        Err(Refusal::OutOfMemory) => Err(Refusal::OutOfMemory),
-        Err(_) => Err(Refusal::Store),
-    }
+    let text: String = column(row, at)?;
+    as_stored(ObjectId::new(alloc, text.as_str()))
 }
 
-/// The name of a resource that the text is.
-pub(crate) fn resource_name_of(alloc: Global, text: &str) -> Result<ResourceName, Refusal>
-    ensures name { IfOk result (λ name. name ≡ text.now) }
+/// The name in a column.
+pub(crate) fn name_in(alloc: Global, row: &Row, at: usize) -> Result<Name, Refusal>
+    ensures name { IfOk result (λ name. column row.now at ≡ Text name) }
     ensures refused { IfErr result IsOfStore }
 {
-    match ResourceName::new(alloc, text) {
-        Ok(name) => Ok(name),
-        Err(Fault::OutOfMemory) => Err(Refusal::OutOfMemory),
-        Err(_) => Err(Refusal::Store),
-    }
+    let text: String = column(row, at)?;
+    as_stored(Name::new(alloc, text.as_str()))
 }
 
-/// The moment of so many nanoseconds.
-pub(crate) fn moment_of(nanos: u64) -> Result<Moment, Refusal>
-    ensures moment { IfOk result (λ moment. moment ≡ nanos) }
+fn moment_in(row: &Row, at: usize) -> Result<Moment, Refusal>
+    ensures moment { IfOk result (λ moment. column row.now at ≡ Int (pos moment)) }
     ensures refused { IfErr result IsOfStore }
 {
-    match Moment::at(nanos) {
-        Ok(moment) => Ok(moment),
-        Err(_) => Err(Refusal::Store),
-    }
+    let nanos: u64 = column(row, at)?;
+    as_stored(Moment::at(nanos))
 }
 
 /// The weight in a column.
@@ -123,68 +117,27 @@ pub(crate) fn stamps_in(row: &Row, at: usize) -> Result<Stamps, Refusal>
     ensures refused { IfErr result IsOfStore }
 {
     Ok(Stamps {
-        created: moment_of(column(row, at)?)?,
-        modified: moment_of(column(row, at + 1)?)?,
+        created: moment_in(row, at)?,
+        modified: moment_in(row, at + 1)?,
     })
 }
 
-/// The number in the first column of each row.
-pub(crate) fn numbers_in(alloc: Global, rows: &[Row]) -> Result<Rows<Number>, Refusal>
-    ensures numbers { IfOk result (λ numbers. map number_row numbers ≡ map number_cells rows.now) }
-    ensures refused { IfErr result IsOfStore }
-{
-    let mut numbers = Rows::new(alloc);
-    'rows: for row in rows {
+impl FromRow for Number {
+    ghost reads = { λ row n. number n ≡ column row 0 };
+
+    fn from_row(_: Global, row: &Row) -> Result<Number, Refusal> {
         let number: u64 = column(row, 0)?;
-        numbers.push(Number::new(number))?;
-    }
-    Ok(numbers)
-}
-
-fn count_of(row: &Row) -> Result<u64, Refusal>
-    ensures counted { IfOk result (λ n. (m : ℕ) → column row.now 0 ≡ count m → n ≡ m) }
-    ensures refused { IfErr result IsOfStore }
-{
-    let counted: u64 = column(row, 0)?;
-    if counted >= 9_223_372_036_854_775_807 {
-        return Err(Refusal::Store);
-    }
-    Ok(counted)
-}
-
-/// The number that a query counted, which is all that it shows. SQL counts no further than
-/// 9,223,372,036,854,775,807: that is the store's refusal.
-pub(crate) fn count_in(rows: &[Row]) -> Result<u64, Refusal>
-    ensures counted { IfOk result (λ n. (m : ℕ) → rows.now ≡ (count m ∷ []) ∷ [] → n ≡ m) }
-    ensures refused { IfErr result IsOfStore }
-{
-    match rows.first() {
-        Some(row) => count_of(row),
-        None => Err(Refusal::Store),
+        Ok(Number::new(number))
     }
 }
 
-/// The key in the first two columns.
-pub(crate) fn key_in(alloc: Global, row: &Row) -> Result<MirrorKey, Refusal>
-    ensures key { IfOk result (λ key. key_row key ≡ key_cells row.now) }
-    ensures refused { IfErr result IsOfStore }
-{
-    let kind = kind_of(column(row, 0)?)?;
-    let id: String = column(row, 1)?;
-    Ok(MirrorKey {
-        kind,
-        id: id_of(alloc, id.as_str())?,
-    })
-}
+impl FromRow for MirrorKey {
+    ghost reads = { λ row key. key_row key ≡ cells 0 2 row };
 
-/// The key of each row.
-pub(crate) fn keys_in(alloc: Global, rows: &[Row]) -> Result<Rows<MirrorKey>, Refusal>
-    ensures keys { IfOk result (λ keys. map key_row keys ≡ map key_cells rows.now) }
-    ensures refused { IfErr result IsOfStore }
-{
-    let mut keys = Rows::new(alloc);
-    'rows: for row in rows {
-        keys.push(key_in(alloc, row)?)?;
+    fn from_row(alloc: Global, row: &Row) -> Result<MirrorKey, Refusal> {
+        Ok(MirrorKey {
+            kind: kind_of(column(row, 0)?)?,
+            id: id_in(alloc, row, 1)?,
+        })
     }
-    Ok(keys)
 }

@@ -2,11 +2,11 @@
 #![tactic(auto)]
 
 mod cells;
-mod maps;
 mod meta;
 mod mirror;
 mod polled;
 mod probes;
+mod reading;
 mod resource;
 mod schema;
 mod share;
@@ -14,10 +14,9 @@ mod sharers;
 mod statement;
 mod ven;
 
-pub use maps::{read_mirror, read_polled_set};
 pub use meta::{Meta, put_meta, read_meta};
-pub use mirror::{MarkColumns, MirrorRow, put_mark, read_mark, read_marks};
-pub use polled::{clear_polled, put_polled, read_polled};
+pub use mirror::{MarkColumns, MirrorRow, put_mark, read_mark, read_marks, read_mirror};
+pub use polled::{clear_polled, put_polled, read_polled, read_polled_set};
 pub use probes::read_unseen;
 pub use resource::{
     count_resources, put_resource, read_resource, read_resources, read_resources_named,

@@ -6,21 +6,30 @@ ghost use Rattle.adr_sql.specs.Keys.{with_row};
 ghost use Rattle.adr_sql.specs.Contents.{rows_of_table, with_table};
 ghost use Rattle.adr_sql.specs.Calls.{Stays, Changes};
 ghost use Rattle.adr_db.specs.Tables.{schema};
-ghost use Rattle.adr_db.specs.Rows.{meta_row, meta_cells};
+ghost use Rattle.adr_db.specs.Rows.{meta_row};
 ghost use Rattle.adr_db.specs.Kept.{first_meta, with_meta};
-ghost use Rattle.adr_db.specs.Calls.{Leaves, Finds, IsOfStore};
+ghost use Rattle.adr_db.specs.Calls.{LeavesKept, Finds, IsOfStore};
 
 use crate::cells::{column, number};
+use crate::reading::{FromRow, first_in};
 use crate::statement::{rows_of, run};
+use adr_state::Serial;
 use adr_text::Refusal;
 use sqlite::types::ToSql;
 use sqlite::{Alter, Row, Transaction};
+use std::alloc::Global;
+
+const PUT: &str =
+    "INSERT INTO meta (k, version, serial, scan, made, sent, given_up, dropped, keys) VALUES (1, 1, ?1, ?2, ?3, ?4, ?5, ?6, ?7) ON CONFLICT (k) DO UPDATE SET k = excluded.k, version = excluded.version, serial = excluded.serial, scan = excluded.scan, made = excluded.made, sent = excluded.sent, given_up = excluded.given_up, dropped = excluded.dropped, keys = excluded.keys";
+
+const READ: &str =
+    "SELECT k, version, serial, scan, made, sent, given_up, dropped, keys FROM meta ORDER BY k";
 
 /// The numbers of the node. None that is kept is above 9,223,372,036,854,775,807.
 #[derive(Clone, Copy, Debug, PartialEq, Eq)]
 pub struct Meta {
     /// The last number that was drawn.
-    pub serial: u64,
+    pub serial: Serial,
     /// Whether a scan is open.
     pub scan: bool,
     /// How many entries of the outbox were made, and what became of them.
@@ -38,7 +47,7 @@ impl Meta {
         ensures { result ≡ first_meta }
     {
         Meta {
-            serial: 0,
+            serial: Serial::new(),
             scan: false,
             made: 0,
             sent: 0,
@@ -56,7 +65,7 @@ pub(crate) fn write_meta<S: Alter>(tx: &mut Transaction<'_, S>, meta: &Meta) -> 
     ensures changes { Changes S.Store tx.old.conn.now tx.new.conn.now schema (λ all. with_table all 0 (with_row 1 (meta_row meta.now) (rows_of_table all 0))) result }
     ensures refused { IfErr result IsOfStore }
 {
-    let serial = number(meta.serial)?;
+    let serial = number(meta.serial.get())?;
     let made = number(meta.made)?;
     let sent = number(meta.sent)?;
     let given_up = number(meta.given_up)?;
@@ -64,7 +73,7 @@ pub(crate) fn write_meta<S: Alter>(tx: &mut Transaction<'_, S>, meta: &Meta) -> 
     let keys = number(meta.keys)?;
     run(
         tx,
-        "INSERT INTO meta (k, version, serial, scan, made, sent, given_up, dropped, keys) VALUES (1, 1, ?1, ?2, ?3, ?4, ?5, ?6, ?7) ON CONFLICT (k) DO UPDATE SET k = excluded.k, version = excluded.version, serial = excluded.serial, scan = excluded.scan, made = excluded.made, sent = excluded.sent, given_up = excluded.given_up, dropped = excluded.dropped, keys = excluded.keys",
+        PUT,
         &[
             serial,
             meta.scan.to_sql(),
@@ -81,7 +90,7 @@ pub(crate) fn write_meta<S: Alter>(tx: &mut Transaction<'_, S>, meta: &Meta) -> 
 pub fn put_meta<S: Alter>(tx: &mut Transaction<'_, S>, meta: &Meta) -> Result<(), Refusal>
     ensures same_reference { tx.new.conn.ghost_name ≡ tx.old.conn.ghost_name }
     ensures stays { Stays S.Store tx.old.conn.now tx.new.conn.now result }
-    ensures leaves { Leaves S.Store tx.old.conn.now tx.new.conn.now (with_meta meta.now) result }
+    ensures leaves { LeavesKept S.Store tx.old.conn.now tx.new.conn.now (with_meta meta.now) result }
     ensures refused { IfErr result IsOfStore }
 {
     write_meta(tx, meta)
@@ -112,21 +121,37 @@ fn flag(row: &Row, at: usize) -> Result<bool, Refusal>
     }
 }
 
-fn meta_in(row: &Row) -> Result<Meta, Refusal>
-    ensures meta { IfOk result (λ meta. meta_row meta ≡ meta_cells row.now) }
+/// The serial in a column. A number that no serial reaches is refused.
+fn serial_in(row: &Row, at: usize) -> Result<Serial, Refusal>
+    ensures serial { IfOk result (λ serial. column row.now at ≡ Int (pos serial)) }
     ensures refused { IfErr result IsOfStore }
 {
-    expect(row, 0, 1)?;
-    expect(row, 1, 1)?;
-    Ok(Meta {
-        serial: column(row, 2)?,
-        scan: flag(row, 3)?,
-        made: column(row, 4)?,
-        sent: column(row, 5)?,
-        given_up: column(row, 6)?,
-        dropped: column(row, 7)?,
-        keys: column(row, 8)?,
-    })
+    let last: u64 = column(row, at)?;
+    match Serial::at(last) {
+        Some(serial) => Ok(serial),
+        None => Err(Refusal::Store),
+    }
+}
+
+impl FromRow for Meta {
+    ghost use Rattle.adr_sql.specs.Keys.{cells};
+    ghost use Rattle.adr_db.specs.Rows.{meta_row};
+
+    ghost reads = { λ row meta. meta_row meta ≡ cells 0 9 row };
+
+    fn from_row(_: Global, row: &Row) -> Result<Meta, Refusal> {
+        expect(row, 0, 1)?;
+        expect(row, 1, 1)?;
+        Ok(Meta {
+            serial: serial_in(row, 2)?,
+            scan: flag(row, 3)?,
+            made: column(row, 4)?,
+            sent: column(row, 5)?,
+            given_up: column(row, 6)?,
+            dropped: column(row, 7)?,
+            keys: column(row, 8)?,
+        })
+    }
 }
 
 /// The numbers of the node.
@@ -136,13 +161,9 @@ pub fn read_meta<S: Alter>(tx: &mut Transaction<'_, S>) -> Result<Meta, Refusal>
     ensures finds { Finds S.Store tx.old.conn.now tx.new.conn.now (λ kept meta. meta ≡ kept.meta) result }
     ensures refused { IfErr result IsOfStore }
 {
-    let rows = rows_of(
-        tx,
-        "SELECT k, version, serial, scan, made, sent, given_up, dropped, keys FROM meta ORDER BY k",
-        &[],
-    )?;
-    match rows.first() {
-        Some(row) => meta_in(row),
+    let rows = rows_of(tx, READ, &[])?;
+    match first_in(*rows.allocator(), &rows)? {
+        Some(meta) => Ok(meta),
         None => Err(Refusal::Store),
     }
 }

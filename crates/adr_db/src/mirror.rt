@@ -1,19 +1,29 @@
 //! The table `mirror`: what is known of each upstream key.
 ghost use Rattle.std.specs.Prelude.{◌≡◌, map, option_map, IfOk, OnOk, IfErr};
 ghost use Rattle.adr_state.specs.Keys.{mirror_cmp, at};
+ghost use Rattle.adr_text.specs.Refusals.{Gives};
 ghost use Rattle.adr_sql.specs.Calls.{Stays};
-ghost use Rattle.adr_db.specs.Rows.{mark_columns, mark_row, columns_row, columns_cells, mirror_row, mirror_cells};
+ghost use Rattle.adr_db.specs.Rows.{mark_columns, mark_row, columns_row, mirror_row, mark_from};
 ghost use Rattle.adr_db.specs.Kept.{IsMark, with_mark};
-ghost use Rattle.adr_db.specs.Calls.{Leaves, Finds, IsOfStore};
+ghost use Rattle.adr_db.specs.Calls.{LeavesKept, Finds, IsOfStore};
 
-use crate::cells::{column, key_in, number, number_of};
+use crate::cells::{as_stored, column, kind_number, number};
+use crate::reading::{FromRow, all_of, first_in, table_of};
 use crate::statement::{rows_of, run};
-use adr_schema::canonical;
+use adr_objects::{canonical, read_canonical};
 use adr_state::{Mark, MirrorKey};
-use adr_text::{Refusal, Rows};
+use adr_text::{Moment, Refusal, Rows, Table};
 use sqlite::types::ToSql;
 use sqlite::{Alter, Row, Transaction};
 use std::alloc::{AllocError, Global};
+
+const PUT: &str =
+    "INSERT INTO mirror (kind, id, state, moment, body) VALUES (?1, ?2, ?3, ?4, ?5) ON CONFLICT (kind, id) DO UPDATE SET kind = excluded.kind, id = excluded.id, state = excluded.state, moment = excluded.moment, body = excluded.body";
+
+const READ_ONE: &str =
+    "SELECT kind, id, state, moment, body FROM mirror WHERE kind = ?1 AND id = ?2 ORDER BY kind, id";
+
+const READ_ALL: &str = "SELECT kind, id, state, moment, body FROM mirror ORDER BY kind, id";
 
 /// A mark as it is kept: 1, its moment and the canonical text of its body where it is live; 2, 0 and no
 /// text where it is dead.
@@ -60,15 +70,15 @@ fn put_columns<S: Alter>(
     requires valid { IsMark mark.now }
     ensures same_reference { tx.new.conn.ghost_name ≡ tx.old.conn.ghost_name }
     ensures stays { Stays S.Store tx.old.conn.now tx.new.conn.now result }
-    ensures leaves { Leaves S.Store tx.old.conn.now tx.new.conn.now (with_mark key.now mark.now) result }
+    ensures leaves { LeavesKept S.Store tx.old.conn.now tx.new.conn.now (with_mark key.now mark.now) result }
     ensures refused { IfErr result IsOfStore }
 {
     let moment = number(columns.moment)?;
     run(
         tx,
-        "INSERT INTO mirror (kind, id, state, moment, body) VALUES (?1, ?2, ?3, ?4, ?5) ON CONFLICT (kind, id) DO UPDATE SET kind = excluded.kind, id = excluded.id, state = excluded.state, moment = excluded.moment, body = excluded.body",
+        PUT,
         &[
-            number_of(key.kind).to_sql(),
+            kind_number(key.kind).to_sql(),
             key.id.as_str().to_sql(),
             columns.state.to_sql(),
             moment,
@@ -86,43 +96,69 @@ pub fn put_mark<S: Alter>(
 ) -> Result<(), Refusal>
     ensures same_reference { tx.new.conn.ghost_name ≡ tx.old.conn.ghost_name }
     ensures stays { Stays S.Store tx.old.conn.now tx.new.conn.now result }
-    ensures leaves { Leaves S.Store tx.old.conn.now tx.new.conn.now (with_mark key.now mark.now) result }
+    ensures leaves { LeavesKept S.Store tx.old.conn.now tx.new.conn.now (with_mark key.now mark.now) result }
     ensures refused { IfErr result IsOfStore }
 {
     let columns = columns_of(alloc, mark)?;
     put_columns(tx, key, mark, &columns)
 }
 
-fn columns_in(row: &Row) -> Result<MarkColumns, Refusal>
-    ensures columns { IfOk result (λ columns. columns_row columns ≡ columns_cells row.now) }
-    ensures refused { IfErr result IsOfStore }
-{
-    Ok(MarkColumns {
-        state: column(row, 2)?,
-        moment: column(row, 3)?,
-        body: column(row, 4)?,
-    })
-}
+impl FromRow for MarkColumns {
+    ghost use Rattle.adr_sql.specs.Keys.{cells};
+    ghost use Rattle.adr_db.specs.Rows.{columns_row};
 
-fn row_in(alloc: Global, row: &Row) -> Result<MirrorRow, Refusal>
-    ensures row { IfOk result (λ it. mirror_row it ≡ mirror_cells row.now) }
-    ensures refused { IfErr result IsOfStore }
-{
-    Ok(MirrorRow {
-        key: key_in(alloc, row)?,
-        mark: columns_in(row)?,
-    })
-}
+    ghost reads = { λ row columns. columns_row columns ≡ cells 2 3 row };
 
-fn rows_in(alloc: Global, rows: &[Row]) -> Result<Rows<MirrorRow>, Refusal>
-    ensures rows { IfOk result (λ all. map mirror_row all ≡ map mirror_cells rows.now) }
-    ensures refused { IfErr result IsOfStore }
-{
-    let mut all = Rows::new(alloc);
-    'rows: for row in rows {
-        all.push(row_in(alloc, row)?)?;
+    fn from_row(_: Global, row: &Row) -> Result<MarkColumns, Refusal> {
+        Ok(MarkColumns {
+            state: column(row, 2)?,
+            moment: column(row, 3)?,
+            body: column(row, 4)?,
+        })
     }
-    Ok(all)
+}
+
+impl FromRow for MirrorRow {
+    ghost use Rattle.adr_sql.specs.Keys.{cells};
+    ghost use Rattle.adr_db.specs.Rows.{mirror_row};
+
+    ghost reads = { λ row it. mirror_row it ≡ cells 0 5 row };
+
+    fn from_row(alloc: Global, row: &Row) -> Result<MirrorRow, Refusal> {
+        Ok(MirrorRow {
+            key: MirrorKey::from_row(alloc, row)?,
+            mark: MarkColumns::from_row(alloc, row)?,
+        })
+    }
+}
+
+/// The mark that the columns stand for.
+fn mark_from(alloc: Global, columns: &MarkColumns) -> Result<Mark, Refusal>
+    ensures mark { Gives (λ mark. mark) result (mark_from columns.now) }
+    ensures refused { IfErr result IsOfStore }
+{
+    match columns.state {
+        1 => Ok(Mark::Live(
+            as_stored(Moment::at(columns.moment))?,
+            as_stored(read_canonical(alloc, columns.body.as_str()))?,
+        )),
+        2 => Ok(Mark::Dead),
+        _ => Err(Refusal::Store),
+    }
+}
+
+impl FromRow for Mark {
+    ghost use Rattle.adr_sql.specs.Keys.{cells};
+    ghost use Rattle.adr_db.specs.Rows.{mark_columns};
+    ghost use Rattle.adr_db.specs.Kept.{IsMark};
+    ghost use Rattle.adr_state.specs.declared.base.Mark.{Mark as KeptMark};
+
+    ghost reads = { λ row mark. (valid : KeptMark) → IsMark valid → cells 2 3 row ≡ mark_columns valid → mark ≡ valid };
+
+    fn from_row(alloc: Global, row: &Row) -> Result<Mark, Refusal> {
+        let columns = MarkColumns::from_row(alloc, row)?;
+        mark_from(alloc, &columns)
+    }
 }
 
 /// The mark of a key, where something is known of it.
@@ -137,13 +173,10 @@ pub fn read_mark<S: Alter>(
 {
     let rows = rows_of(
         tx,
-        "SELECT kind, id, state, moment, body FROM mirror WHERE kind = ?1 AND id = ?2 ORDER BY kind, id",
-        &[number_of(key.kind).to_sql(), key.id.as_str().to_sql()],
+        READ_ONE,
+        &[kind_number(key.kind).to_sql(), key.id.as_str().to_sql()],
     )?;
-    match rows.first() {
-        Some(row) => Ok(Some(columns_in(row)?)),
-        None => Ok(None),
-    }
+    first_in(*rows.allocator(), &rows)
 }
 
 /// The mirror: programs before events, each by the bytes of its id.
@@ -156,10 +189,19 @@ pub fn read_marks<S: Alter>(
     ensures finds { Finds S.Store tx.old.conn.now tx.new.conn.now (λ kept rows. map mirror_row rows ≡ map mark_row kept.mirror) result }
     ensures refused { IfErr result IsOfStore }
 {
-    let rows = rows_of(
-        tx,
-        "SELECT kind, id, state, moment, body FROM mirror ORDER BY kind, id",
-        &[],
-    )?;
-    rows_in(alloc, &rows)
+    all_of(alloc, tx, READ_ALL, &[])
+}
+
+/// The whole mirror as the map that it is.
+pub fn read_mirror<S: Alter>(
+    alloc: Global,
+    tx: &mut Transaction<'_, S>,
+) -> Result<Table<MirrorKey, Mark>, Refusal>
+    ensures same_reference { tx.new.conn.ghost_name ≡ tx.old.conn.ghost_name }
+    ensures stays { Stays S.Store tx.old.conn.now tx.new.conn.now result }
+    ensures finds { Finds S.Store tx.old.conn.now tx.new.conn.now (λ kept mirror. mirror ≡ kept.mirror) result }
+    ensures refused { IfErr result IsOfStore }
+{
+    let entries = all_of(alloc, tx, READ_ALL, &[])?;
+    table_of(alloc, entries)
 }

@@ -7,13 +7,15 @@ ghost use Rattle.adr_state.specs.Scans.{probes};
 ghost use Rattle.adr_db.specs.Kept.{at_most, limit_number};
 ghost use Rattle.adr_db.specs.Calls.{Finds, IsOfStore};
 
-use crate::cells::keys_in;
-use crate::statement::rows_of;
+use crate::reading::all_of;
 use adr_state::MirrorKey;
 use adr_text::{Refusal, Rows};
 use sqlite::types::{ToSql, ValueRef};
 use sqlite::{Alter, Transaction};
 use std::alloc::Global;
+
+const READ_UNSEEN: &str =
+    "SELECT kind, id FROM mirror WHERE state = 1 AND NOT EXISTS (SELECT 1 FROM polled p WHERE p.kind = mirror.kind AND p.id = mirror.id) ORDER BY kind, id LIMIT ?1";
 
 // Below 0 there is no limit.
 fn limit_of(limit: Option<u32>) -> ValueRef<'static>
@@ -37,10 +39,5 @@ pub fn read_unseen<S: Alter>(
     ensures finds { Finds S.Store tx.old.conn.now tx.new.conn.now (λ kept keys. keys ≡ at_most limit (probes kept.mirror kept.polled)) result }
     ensures refused { IfErr result IsOfStore }
 {
-    let rows = rows_of(
-        tx,
-        "SELECT kind, id FROM mirror WHERE state = 1 AND NOT EXISTS (SELECT 1 FROM polled p WHERE p.kind = mirror.kind AND p.id = mirror.id) ORDER BY kind, id LIMIT ?1",
-        &[limit_of(limit)],
-    )?;
-    keys_in(alloc, &rows)
+    all_of(alloc, tx, READ_UNSEEN, &[limit_of(limit)])
 }

@@ -1,20 +1,40 @@
 //! The table `resource`: the resources of the vens.
 ghost use Rattle.std.specs.Prelude.{◌≡◌, [], ◌∷◌, map, length, IfOk, IfErr};
 ghost use Rattle.std.specs.Ordering.{nat_cmp};
+ghost use Rattle.adr_state.specs.Names.{resource_name};
 ghost use Rattle.adr_state.specs.Keys.{at, map_of};
+ghost use Rattle.sqlite.specs.Order.{column};
+ghost use Rattle.sqlite.specs.declared.types.Value.TheVariants.{Text};
 ghost use Rattle.adr_sql.specs.Calls.{Stays};
-ghost use Rattle.adr_db.specs.Rows.{resource_columns, resource_row, resource_columns_cells, resource_cells};
-ghost use Rattle.adr_db.specs.Kept.{resources_named, with_resource, without_resource};
-ghost use Rattle.adr_db.specs.Calls.{Leaves, Finds, IsOfStore};
+ghost use Rattle.adr_state.specs.Portfolios.{with_resource, without_resource};
+ghost use Rattle.adr_db.specs.Kept.{numbers_named, with_portfolio};
+ghost use Rattle.adr_sql.specs.Keys.{cells};
+ghost use Rattle.adr_db.specs.Rows.{resource_columns};
+ghost use Rattle.adr_db.specs.Calls.{LeavesKept, Finds, IsOfStore};
 
-use crate::cells::{column, count_in, number, numbers_in, resource_name_of, stamps_in};
-use crate::statement::{rows_of, run};
-use adr_schema::{Number, ResourceName};
+use crate::cells::{as_stored, column, number, stamps_in};
+use crate::reading::{FromRow, all_of, count_of, first_of};
+use crate::statement::run;
+use adr_objects::{Number, ResourceName};
 use adr_state::{Resource, Resources};
 use adr_text::{Refusal, Rows};
 use sqlite::types::ToSql;
 use sqlite::{Alter, Row, Transaction};
 use std::alloc::Global;
+
+const PUT: &str =
+    "INSERT INTO resource (id, ven, name, created, modified) VALUES (?1, ?2, ?3, ?4, ?5) ON CONFLICT (id) DO UPDATE SET id = excluded.id, ven = excluded.ven, name = excluded.name, created = excluded.created, modified = excluded.modified";
+
+const REMOVE: &str = "DELETE FROM resource WHERE id = ?1";
+
+const READ_ONE: &str =
+    "SELECT id, ven, name, created, modified FROM resource WHERE id = ?1 ORDER BY id";
+
+const READ_ALL: &str = "SELECT id, ven, name, created, modified FROM resource ORDER BY id";
+
+const READ_NAMED: &str = "SELECT id FROM resource WHERE name = ?1 ORDER BY id";
+
+const COUNT: &str = "SELECT count(*) FROM resource";
 
 /// Puts the resource of a number, new or in the place of the one that has it.
 pub fn put_resource<S: Alter>(
@@ -24,7 +44,7 @@ pub fn put_resource<S: Alter>(
 ) -> Result<(), Refusal>
     ensures same_reference { tx.new.conn.ghost_name ≡ tx.old.conn.ghost_name }
     ensures stays { Stays S.Store tx.old.conn.now tx.new.conn.now result }
-    ensures leaves { Leaves S.Store tx.old.conn.now tx.new.conn.now (with_resource id resource.now) result }
+    ensures leaves { LeavesKept S.Store tx.old.conn.now tx.new.conn.now (with_portfolio (with_resource id resource.now)) result }
     ensures refused { IfErr result IsOfStore }
 {
     let number_of_resource = number(id.get())?;
@@ -33,7 +53,7 @@ pub fn put_resource<S: Alter>(
     let modified = number(resource.stamps.modified.nanos())?;
     run(
         tx,
-        "INSERT INTO resource (id, ven, name, created, modified) VALUES (?1, ?2, ?3, ?4, ?5) ON CONFLICT (id) DO UPDATE SET id = excluded.id, ven = excluded.ven, name = excluded.name, created = excluded.created, modified = excluded.modified",
+        PUT,
         &[
             number_of_resource,
             ven,
@@ -48,47 +68,36 @@ pub fn put_resource<S: Alter>(
 pub fn remove_resource<S: Alter>(tx: &mut Transaction<'_, S>, id: Number) -> Result<(), Refusal>
     ensures same_reference { tx.new.conn.ghost_name ≡ tx.old.conn.ghost_name }
     ensures stays { Stays S.Store tx.old.conn.now tx.new.conn.now result }
-    ensures leaves { Leaves S.Store tx.old.conn.now tx.new.conn.now (without_resource id) result }
+    ensures leaves { LeavesKept S.Store tx.old.conn.now tx.new.conn.now (with_portfolio (without_resource id)) result }
     ensures refused { IfErr result IsOfStore }
 {
     let number_of_resource = number(id.get())?;
-    run(
-        tx,
-        "DELETE FROM resource WHERE id = ?1",
-        &[number_of_resource],
-    )
+    run(tx, REMOVE, &[number_of_resource])
 }
 
-fn resource_in(alloc: Global, row: &Row) -> Result<Resource, Refusal>
-    ensures resource { IfOk result (λ resource. resource_columns resource ≡ resource_columns_cells row.now) }
+// The name in the third column.
+fn resource_name_in(alloc: Global, row: &Row) -> Result<ResourceName, Refusal>
+    ensures name { IfOk result (λ name. column row.now 2 ≡ Text name) }
     ensures refused { IfErr result IsOfStore }
 {
-    let ven: u64 = column(row, 1)?;
-    let name: String = column(row, 2)?;
-    Ok(Resource {
-        ven: Number::new(ven),
-        name: resource_name_of(alloc, name.as_str())?,
-        stamps: stamps_in(row, 3)?,
-    })
-}
-
-fn entry_in(alloc: Global, row: &Row) -> Result<(Number, Resource), Refusal>
-    ensures entry { IfOk result (λ e. resource_row e ≡ resource_cells row.now) }
-    ensures refused { IfErr result IsOfStore }
-{
-    let id: u64 = column(row, 0)?;
-    Ok((Number::new(id), resource_in(alloc, row)?))
-}
-
-fn entries_in(alloc: Global, rows: &[Row]) -> Result<Rows<(Number, Resource)>, Refusal>
-    ensures entries { IfOk result (λ all. map resource_row all ≡ map resource_cells rows.now) }
-    ensures refused { IfErr result IsOfStore }
-{
-    let mut all = Rows::new(alloc);
-    'rows: for row in rows {
-        all.push(entry_in(alloc, row)?)?;
+    let text: String = column(row, 2)?;
+    match ResourceName::new(alloc, text.as_str()) {
+        Ok(name) => Ok(name),
+        Err(fault) => as_stored(Err(Refusal::from(fault))),
     }
-    Ok(all)
+}
+
+impl FromRow for Resource {
+    ghost reads = { λ row resource. resource_columns resource ≡ cells 1 4 row };
+
+    fn from_row(alloc: Global, row: &Row) -> Result<Resource, Refusal> {
+        let ven: u64 = column(row, 1)?;
+        Ok(Resource {
+            ven: Number::new(ven),
+            name: resource_name_in(alloc, row)?,
+            stamps: stamps_in(row, 3)?,
+        })
+    }
 }
 
 // More than a node has is the store's refusal.
@@ -114,19 +123,11 @@ pub fn read_resource<S: Alter>(
 ) -> Result<Option<Resource>, Refusal>
     ensures same_reference { tx.new.conn.ghost_name ≡ tx.old.conn.ghost_name }
     ensures stays { Stays S.Store tx.old.conn.now tx.new.conn.now result }
-    ensures finds { Finds S.Store tx.old.conn.now tx.new.conn.now (λ kept found. found ≡ at nat_cmp id kept.resources) result }
+    ensures finds { Finds S.Store tx.old.conn.now tx.new.conn.now (λ kept found. found ≡ at nat_cmp id kept.portfolio.resources) result }
     ensures refused { IfErr result IsOfStore }
 {
     let number_of_resource = number(id.get())?;
-    let rows = rows_of(
-        tx,
-        "SELECT id, ven, name, created, modified FROM resource WHERE id = ?1 ORDER BY id",
-        &[number_of_resource],
-    )?;
-    match rows.first() {
-        Some(row) => Ok(Some(resource_in(alloc, row)?)),
-        None => Ok(None),
-    }
+    first_of(alloc, tx, READ_ONE, &[number_of_resource])
 }
 
 /// The resources, by their numbers.
@@ -136,15 +137,10 @@ pub fn read_resources<S: Alter>(
 ) -> Result<Resources, Refusal>
     ensures same_reference { tx.new.conn.ghost_name ≡ tx.old.conn.ghost_name }
     ensures stays { Stays S.Store tx.old.conn.now tx.new.conn.now result }
-    ensures finds { Finds S.Store tx.old.conn.now tx.new.conn.now (λ kept resources. resources ≡ kept.resources) result }
+    ensures finds { Finds S.Store tx.old.conn.now tx.new.conn.now (λ kept resources. resources ≡ kept.portfolio.resources) result }
     ensures refused { IfErr result IsOfStore }
 {
-    let rows = rows_of(
-        tx,
-        "SELECT id, ven, name, created, modified FROM resource ORDER BY id",
-        &[],
-    )?;
-    let entries = entries_in(alloc, &rows)?;
+    let entries = all_of(alloc, tx, READ_ALL, &[])?;
     resources_of(alloc, entries)
 }
 
@@ -156,24 +152,18 @@ pub fn read_resources_named<S: Alter>(
 ) -> Result<Rows<Number>, Refusal>
     ensures same_reference { tx.new.conn.ghost_name ≡ tx.old.conn.ghost_name }
     ensures stays { Stays S.Store tx.old.conn.now tx.new.conn.now result }
-    ensures finds { Finds S.Store tx.old.conn.now tx.new.conn.now (λ kept numbers. numbers ≡ resources_named name.now kept.resources) result }
+    ensures finds { Finds S.Store tx.old.conn.now tx.new.conn.now (λ kept numbers. numbers ≡ numbers_named resource_name name.now kept.portfolio.resources) result }
     ensures refused { IfErr result IsOfStore }
 {
-    let rows = rows_of(
-        tx,
-        "SELECT id FROM resource WHERE name = ?1 ORDER BY id",
-        &[name.as_name().as_str().to_sql()],
-    )?;
-    numbers_in(alloc, &rows)
+    all_of(alloc, tx, READ_NAMED, &[name.as_name().as_str().to_sql()])
 }
 
 /// How many resources there are.
 pub fn count_resources<S: Alter>(tx: &mut Transaction<'_, S>) -> Result<u64, Refusal>
     ensures same_reference { tx.new.conn.ghost_name ≡ tx.old.conn.ghost_name }
     ensures stays { Stays S.Store tx.old.conn.now tx.new.conn.now result }
-    ensures finds { Finds S.Store tx.old.conn.now tx.new.conn.now (λ kept count. count ≡ length kept.resources) result }
+    ensures finds { Finds S.Store tx.old.conn.now tx.new.conn.now (λ kept count. count ≡ length kept.portfolio.resources) result }
     ensures refused { IfErr result IsOfStore }
 {
-    let rows = rows_of(tx, "SELECT count(*) FROM resource", &[])?;
-    count_in(&rows)
+    count_of(tx, COUNT)
 }

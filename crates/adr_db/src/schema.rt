@@ -15,20 +15,31 @@ use adr_sql::create_tables;
 use adr_text::Refusal;
 use sqlite::{Alter, Transaction};
 
+const META: &str =
+    "CREATE TABLE meta (k INT NOT NULL, version INT NOT NULL, serial INT NOT NULL, scan INT NOT NULL, made INT NOT NULL, sent INT NOT NULL, given_up INT NOT NULL, dropped INT NOT NULL, keys INT NOT NULL, PRIMARY KEY (k)) STRICT";
+
+const MIRROR: &str =
+    "CREATE TABLE mirror (kind INT NOT NULL, id TEXT NOT NULL, state INT NOT NULL, moment INT NOT NULL, body TEXT NOT NULL, PRIMARY KEY (kind, id)) STRICT";
+
+const POLLED: &str =
+    "CREATE TABLE polled (kind INT NOT NULL, id TEXT NOT NULL, PRIMARY KEY (kind, id)) STRICT";
+
+const VEN: &str =
+    "CREATE TABLE ven (id INT NOT NULL, name TEXT NOT NULL, created INT NOT NULL, modified INT NOT NULL, PRIMARY KEY (id), UNIQUE (name)) STRICT";
+
+const RESOURCE: &str =
+    "CREATE TABLE resource (id INT NOT NULL, ven INT NOT NULL REFERENCES ven (id) ON DELETE CASCADE, name TEXT NOT NULL, created INT NOT NULL, modified INT NOT NULL, PRIMARY KEY (id), UNIQUE (name)) STRICT";
+
+const SHARE: &str =
+    "CREATE TABLE share (program TEXT NOT NULL, resource INT NOT NULL REFERENCES resource (id) ON DELETE CASCADE, weight INT NOT NULL CHECK (weight >= 1 AND weight <= 1000000), PRIMARY KEY (program, resource), UNIQUE (resource, program)) STRICT";
+
 fn create_empty<S: Alter>(tx: &mut Transaction<'_, S>) -> Result<(), Refusal>
     ensures same_reference { tx.new.conn.ghost_name ≡ tx.old.conn.ghost_name }
     ensures stays { Stays S.Store tx.old.conn.now tx.new.conn.now result }
     ensures made { HasCleanDisk (state S.Store tx.new.conn.now) → OnOk result (Holds no_schema [] (state S.Store tx.old.conn.now) → Holds schema (empty_tables tables) (state S.Store tx.new.conn.now)) }
     ensures refused { IfErr result IsOfStore }
 {
-    let texts = [
-        "CREATE TABLE meta (k INT NOT NULL, version INT NOT NULL, serial INT NOT NULL, scan INT NOT NULL, made INT NOT NULL, sent INT NOT NULL, given_up INT NOT NULL, dropped INT NOT NULL, keys INT NOT NULL, PRIMARY KEY (k)) STRICT",
-        "CREATE TABLE mirror (kind INT NOT NULL, id TEXT NOT NULL, state INT NOT NULL, moment INT NOT NULL, body TEXT NOT NULL, PRIMARY KEY (kind, id)) STRICT",
-        "CREATE TABLE polled (kind INT NOT NULL, id TEXT NOT NULL, PRIMARY KEY (kind, id)) STRICT",
-        "CREATE TABLE ven (id INT NOT NULL, name TEXT NOT NULL, created INT NOT NULL, modified INT NOT NULL, PRIMARY KEY (id), UNIQUE (name)) STRICT",
-        "CREATE TABLE resource (id INT NOT NULL, ven INT NOT NULL REFERENCES ven (id) ON DELETE CASCADE, name TEXT NOT NULL, created INT NOT NULL, modified INT NOT NULL, PRIMARY KEY (id), UNIQUE (name)) STRICT",
-        "CREATE TABLE share (program TEXT NOT NULL, resource INT NOT NULL REFERENCES resource (id) ON DELETE CASCADE, weight INT NOT NULL CHECK (weight >= 1 AND weight <= 1000000), PRIMARY KEY (program, resource), UNIQUE (resource, program)) STRICT",
-    ];
+    let texts = [META, MIRROR, POLLED, VEN, RESOURCE, SHARE];
     match create_tables(tx, &texts) {
         Ok(()) => Ok(()),
         Err(error) => Err(refusal_of(error)),

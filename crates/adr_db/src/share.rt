@@ -1,21 +1,35 @@
 //! The table `share`: the shares of resources in programs.
 ghost use Rattle.std.specs.Prelude.{◌≡◌, [], ◌∷◌, map, length, IfOk, IfErr};
-ghost use Rattle.sqlite.specs.Order.{column};
 ghost use Rattle.adr_state.specs.Keys.{share_cmp, at};
 ghost use Rattle.adr_sql.specs.Calls.{Stays};
-ghost use Rattle.adr_db.specs.Rows.{share_key_row, share_row, share_cells};
-ghost use Rattle.adr_db.specs.Kept.{with_share, without_share};
-ghost use Rattle.adr_db.specs.Calls.{Leaves, Finds, IsOfStore};
+ghost use Rattle.adr_state.specs.Portfolios.{with_share, without_share};
+ghost use Rattle.adr_db.specs.Kept.{with_portfolio};
+ghost use Rattle.sqlite.specs.Order.{column};
+ghost use Rattle.adr_sql.specs.Keys.{cells};
+ghost use Rattle.adr_db.specs.Rows.{number, share_key_row};
+ghost use Rattle.adr_db.specs.Calls.{LeavesKept, Finds, IsOfStore};
 
-use crate::cells::{column, count_in, id_of, number, weight_in};
-use crate::maps::table_of;
+use crate::cells::{column, id_in, number, weight_in};
+use crate::reading::{FromRow, all_of, count_of, first_in, table_of};
 use crate::statement::{rows_of, run};
-use adr_schema::Number;
+use adr_objects::Number;
 use adr_state::{ShareKey, Weight};
-use adr_text::{Refusal, Rows, Table};
+use adr_text::{Refusal, Table};
 use sqlite::types::ToSql;
 use sqlite::{Alter, Row, Transaction};
 use std::alloc::Global;
+
+const PUT: &str =
+    "INSERT INTO share (program, resource, weight) VALUES (?1, ?2, ?3) ON CONFLICT (program, resource) DO UPDATE SET program = excluded.program, resource = excluded.resource, weight = excluded.weight";
+
+const REMOVE: &str = "DELETE FROM share WHERE program = ?1 AND resource = ?2";
+
+const READ_ONE: &str =
+    "SELECT program, resource, weight FROM share WHERE program = ?1 AND resource = ?2 ORDER BY program, resource";
+
+const READ_ALL: &str = "SELECT program, resource, weight FROM share ORDER BY program, resource";
+
+const COUNT: &str = "SELECT count(*) FROM share";
 
 /// Puts the weight of a share, new or in the place of the one that it has.
 pub fn put_share<S: Alter>(
@@ -25,13 +39,13 @@ pub fn put_share<S: Alter>(
 ) -> Result<(), Refusal>
     ensures same_reference { tx.new.conn.ghost_name ≡ tx.old.conn.ghost_name }
     ensures stays { Stays S.Store tx.old.conn.now tx.new.conn.now result }
-    ensures leaves { Leaves S.Store tx.old.conn.now tx.new.conn.now (with_share key.now weight) result }
+    ensures leaves { LeavesKept S.Store tx.old.conn.now tx.new.conn.now (with_portfolio (with_share key.now weight)) result }
     ensures refused { IfErr result IsOfStore }
 {
     let resource = number(key.resource.get())?;
     run(
         tx,
-        "INSERT INTO share (program, resource, weight) VALUES (?1, ?2, ?3) ON CONFLICT (program, resource) DO UPDATE SET program = excluded.program, resource = excluded.resource, weight = excluded.weight",
+        PUT,
         &[
             key.program.as_str().to_sql(),
             resource,
@@ -44,45 +58,31 @@ pub fn put_share<S: Alter>(
 pub fn remove_share<S: Alter>(tx: &mut Transaction<'_, S>, key: &ShareKey) -> Result<(), Refusal>
     ensures same_reference { tx.new.conn.ghost_name ≡ tx.old.conn.ghost_name }
     ensures stays { Stays S.Store tx.old.conn.now tx.new.conn.now result }
-    ensures leaves { Leaves S.Store tx.old.conn.now tx.new.conn.now (without_share key.now) result }
+    ensures leaves { LeavesKept S.Store tx.old.conn.now tx.new.conn.now (with_portfolio (without_share key.now)) result }
     ensures refused { IfErr result IsOfStore }
 {
     let resource = number(key.resource.get())?;
-    run(
-        tx,
-        "DELETE FROM share WHERE program = ?1 AND resource = ?2",
-        &[key.program.as_str().to_sql(), resource],
-    )
+    run(tx, REMOVE, &[key.program.as_str().to_sql(), resource])
 }
 
-fn key_in(alloc: Global, row: &Row) -> Result<ShareKey, Refusal>
-    ensures key { IfOk result (λ key. share_key_row key ≡ column row.now 0 ∷ column row.now 1 ∷ []) }
-    ensures refused { IfErr result IsOfStore }
-{
-    let program: String = column(row, 0)?;
-    let resource: u64 = column(row, 1)?;
-    Ok(ShareKey {
-        program: id_of(alloc, program.as_str())?,
-        resource: Number::new(resource),
-    })
-}
+impl FromRow for ShareKey {
+    ghost reads = { λ row key. share_key_row key ≡ cells 0 2 row };
 
-fn entry_in(alloc: Global, row: &Row) -> Result<(ShareKey, Weight), Refusal>
-    ensures entry { IfOk result (λ e. share_row e ≡ share_cells row.now) }
-    ensures refused { IfErr result IsOfStore }
-{
-    Ok((key_in(alloc, row)?, weight_in(row, 2)?))
-}
-
-fn entries_in(alloc: Global, rows: &[Row]) -> Result<Rows<(ShareKey, Weight)>, Refusal>
-    ensures entries { IfOk result (λ all. map share_row all ≡ map share_cells rows.now) }
-    ensures refused { IfErr result IsOfStore }
-{
-    let mut all = Rows::new(alloc);
-    'rows: for row in rows {
-        all.push(entry_in(alloc, row)?)?;
+    fn from_row(alloc: Global, row: &Row) -> Result<ShareKey, Refusal> {
+        let resource: u64 = column(row, 1)?;
+        Ok(ShareKey {
+            program: id_in(alloc, row, 0)?,
+            resource: Number::new(resource),
+        })
     }
-    Ok(all)
+}
+
+impl FromRow for Weight {
+    ghost reads = { λ row weight. number weight ≡ column row 2 };
+
+    fn from_row(_: Global, row: &Row) -> Result<Weight, Refusal> {
+        weight_in(row, 2)
+    }
 }
 
 /// The weight of a share, where there is one.
@@ -92,19 +92,12 @@ pub fn read_share<S: Alter>(
 ) -> Result<Option<Weight>, Refusal>
     ensures same_reference { tx.new.conn.ghost_name ≡ tx.old.conn.ghost_name }
     ensures stays { Stays S.Store tx.old.conn.now tx.new.conn.now result }
-    ensures finds { Finds S.Store tx.old.conn.now tx.new.conn.now (λ kept found. found ≡ at share_cmp key.now kept.shares) result }
+    ensures finds { Finds S.Store tx.old.conn.now tx.new.conn.now (λ kept found. found ≡ at share_cmp key.now kept.portfolio.shares) result }
     ensures refused { IfErr result IsOfStore }
 {
     let resource = number(key.resource.get())?;
-    let rows = rows_of(
-        tx,
-        "SELECT program, resource, weight FROM share WHERE program = ?1 AND resource = ?2 ORDER BY program, resource",
-        &[key.program.as_str().to_sql(), resource],
-    )?;
-    match rows.first() {
-        Some(row) => Ok(Some(weight_in(row, 2)?)),
-        None => Ok(None),
-    }
+    let rows = rows_of(tx, READ_ONE, &[key.program.as_str().to_sql(), resource])?;
+    first_in(*rows.allocator(), &rows)
 }
 
 /// The shares, by program and resource.
@@ -114,15 +107,10 @@ pub fn read_shares<S: Alter>(
 ) -> Result<Table<ShareKey, Weight>, Refusal>
     ensures same_reference { tx.new.conn.ghost_name ≡ tx.old.conn.ghost_name }
     ensures stays { Stays S.Store tx.old.conn.now tx.new.conn.now result }
-    ensures finds { Finds S.Store tx.old.conn.now tx.new.conn.now (λ kept shares. shares ≡ kept.shares) result }
+    ensures finds { Finds S.Store tx.old.conn.now tx.new.conn.now (λ kept shares. shares ≡ kept.portfolio.shares) result }
     ensures refused { IfErr result IsOfStore }
 {
-    let rows = rows_of(
-        tx,
-        "SELECT program, resource, weight FROM share ORDER BY program, resource",
-        &[],
-    )?;
-    let entries = entries_in(alloc, &rows)?;
+    let entries = all_of(alloc, tx, READ_ALL, &[])?;
     table_of(alloc, entries)
 }
 
@@ -130,9 +118,8 @@ pub fn read_shares<S: Alter>(
 pub fn count_shares<S: Alter>(tx: &mut Transaction<'_, S>) -> Result<u64, Refusal>
     ensures same_reference { tx.new.conn.ghost_name ≡ tx.old.conn.ghost_name }
     ensures stays { Stays S.Store tx.old.conn.now tx.new.conn.now result }
-    ensures finds { Finds S.Store tx.old.conn.now tx.new.conn.now (λ kept count. count ≡ length kept.shares) result }
+    ensures finds { Finds S.Store tx.old.conn.now tx.new.conn.now (λ kept count. count ≡ length kept.portfolio.shares) result }
     ensures refused { IfErr result IsOfStore }
 {
-    let rows = rows_of(tx, "SELECT count(*) FROM share", &[])?;
-    count_in(&rows)
+    count_of(tx, COUNT)
 }

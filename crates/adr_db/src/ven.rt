@@ -1,27 +1,43 @@
 //! The table `ven`: the vens that are enrolled.
 ghost use Rattle.std.specs.Prelude.{◌≡◌, [], ◌∷◌, map, length, IfOk, IfErr};
 ghost use Rattle.std.specs.Ordering.{nat_cmp};
+ghost use Rattle.adr_state.specs.Names.{ven_name};
 ghost use Rattle.adr_state.specs.Keys.{at};
 ghost use Rattle.adr_sql.specs.Calls.{Stays};
-ghost use Rattle.adr_db.specs.Rows.{ven_columns, ven_row, ven_columns_cells, ven_cells};
-ghost use Rattle.adr_db.specs.Kept.{vens_named, with_ven, without_ven};
-ghost use Rattle.adr_db.specs.Calls.{Leaves, Finds, IsOfStore};
+ghost use Rattle.adr_state.specs.Portfolios.{with_ven, without_ven};
+ghost use Rattle.adr_db.specs.Kept.{numbers_named, with_portfolio};
+ghost use Rattle.adr_sql.specs.Keys.{cells};
+ghost use Rattle.adr_db.specs.Rows.{ven_columns};
+ghost use Rattle.adr_db.specs.Calls.{LeavesKept, Finds, IsOfStore};
 
-use crate::cells::{column, count_in, name_of, number, numbers_in, stamps_in};
-use crate::maps::table_of;
-use crate::statement::{rows_of, run};
-use adr_schema::Number;
+use crate::cells::{name_in, number, stamps_in};
+use crate::reading::{FromRow, all_of, count_of, first_of, table_of};
+use crate::statement::run;
+use adr_objects::Number;
 use adr_state::Ven;
 use adr_text::{Name, Refusal, Rows, Table};
 use sqlite::types::ToSql;
 use sqlite::{Alter, Row, Transaction};
 use std::alloc::Global;
 
+const PUT: &str =
+    "INSERT INTO ven (id, name, created, modified) VALUES (?1, ?2, ?3, ?4) ON CONFLICT (id) DO UPDATE SET id = excluded.id, name = excluded.name, created = excluded.created, modified = excluded.modified";
+
+const REMOVE: &str = "DELETE FROM ven WHERE id = ?1";
+
+const READ_ONE: &str = "SELECT id, name, created, modified FROM ven WHERE id = ?1 ORDER BY id";
+
+const READ_ALL: &str = "SELECT id, name, created, modified FROM ven ORDER BY id";
+
+const READ_NAMED: &str = "SELECT id FROM ven WHERE name = ?1 ORDER BY id";
+
+const COUNT: &str = "SELECT count(*) FROM ven";
+
 /// Puts the ven of a number, new or in the place of the one that has it.
 pub fn put_ven<S: Alter>(tx: &mut Transaction<'_, S>, id: Number, ven: &Ven) -> Result<(), Refusal>
     ensures same_reference { tx.new.conn.ghost_name ≡ tx.old.conn.ghost_name }
     ensures stays { Stays S.Store tx.old.conn.now tx.new.conn.now result }
-    ensures leaves { Leaves S.Store tx.old.conn.now tx.new.conn.now (with_ven id ven.now) result }
+    ensures leaves { LeavesKept S.Store tx.old.conn.now tx.new.conn.now (with_portfolio (with_ven id ven.now)) result }
     ensures refused { IfErr result IsOfStore }
 {
     let number_of_ven = number(id.get())?;
@@ -29,7 +45,7 @@ pub fn put_ven<S: Alter>(tx: &mut Transaction<'_, S>, id: Number, ven: &Ven) -> 
     let modified = number(ven.stamps.modified.nanos())?;
     run(
         tx,
-        "INSERT INTO ven (id, name, created, modified) VALUES (?1, ?2, ?3, ?4) ON CONFLICT (id) DO UPDATE SET id = excluded.id, name = excluded.name, created = excluded.created, modified = excluded.modified",
+        PUT,
         &[number_of_ven, ven.name.as_str().to_sql(), created, modified],
     )
 }
@@ -38,41 +54,22 @@ pub fn put_ven<S: Alter>(tx: &mut Transaction<'_, S>, id: Number, ven: &Ven) -> 
 pub fn remove_ven<S: Alter>(tx: &mut Transaction<'_, S>, id: Number) -> Result<(), Refusal>
     ensures same_reference { tx.new.conn.ghost_name ≡ tx.old.conn.ghost_name }
     ensures stays { Stays S.Store tx.old.conn.now tx.new.conn.now result }
-    ensures leaves { Leaves S.Store tx.old.conn.now tx.new.conn.now (without_ven id) result }
+    ensures leaves { LeavesKept S.Store tx.old.conn.now tx.new.conn.now (with_portfolio (without_ven id)) result }
     ensures refused { IfErr result IsOfStore }
 {
     let number_of_ven = number(id.get())?;
-    run(tx, "DELETE FROM ven WHERE id = ?1", &[number_of_ven])
+    run(tx, REMOVE, &[number_of_ven])
 }
 
-fn ven_in(alloc: Global, row: &Row) -> Result<Ven, Refusal>
-    ensures ven { IfOk result (λ ven. ven_columns ven ≡ ven_columns_cells row.now) }
-    ensures refused { IfErr result IsOfStore }
-{
-    let name: String = column(row, 1)?;
-    Ok(Ven {
-        name: name_of(alloc, name.as_str())?,
-        stamps: stamps_in(row, 2)?,
-    })
-}
+impl FromRow for Ven {
+    ghost reads = { λ row ven. ven_columns ven ≡ cells 1 3 row };
 
-fn entry_in(alloc: Global, row: &Row) -> Result<(Number, Ven), Refusal>
-    ensures entry { IfOk result (λ e. ven_row e ≡ ven_cells row.now) }
-    ensures refused { IfErr result IsOfStore }
-{
-    let id: u64 = column(row, 0)?;
-    Ok((Number::new(id), ven_in(alloc, row)?))
-}
-
-fn entries_in(alloc: Global, rows: &[Row]) -> Result<Rows<(Number, Ven)>, Refusal>
-    ensures entries { IfOk result (λ all. map ven_row all ≡ map ven_cells rows.now) }
-    ensures refused { IfErr result IsOfStore }
-{
-    let mut all = Rows::new(alloc);
-    'rows: for row in rows {
-        all.push(entry_in(alloc, row)?)?;
+    fn from_row(alloc: Global, row: &Row) -> Result<Ven, Refusal> {
+        Ok(Ven {
+            name: name_in(alloc, row, 1)?,
+            stamps: stamps_in(row, 2)?,
+        })
     }
-    Ok(all)
 }
 
 /// The ven of a number, where there is one.
@@ -83,19 +80,11 @@ pub fn read_ven<S: Alter>(
 ) -> Result<Option<Ven>, Refusal>
     ensures same_reference { tx.new.conn.ghost_name ≡ tx.old.conn.ghost_name }
     ensures stays { Stays S.Store tx.old.conn.now tx.new.conn.now result }
-    ensures finds { Finds S.Store tx.old.conn.now tx.new.conn.now (λ kept found. found ≡ at nat_cmp id kept.vens) result }
+    ensures finds { Finds S.Store tx.old.conn.now tx.new.conn.now (λ kept found. found ≡ at nat_cmp id kept.portfolio.vens) result }
     ensures refused { IfErr result IsOfStore }
 {
     let number_of_ven = number(id.get())?;
-    let rows = rows_of(
-        tx,
-        "SELECT id, name, created, modified FROM ven WHERE id = ?1 ORDER BY id",
-        &[number_of_ven],
-    )?;
-    match rows.first() {
-        Some(row) => Ok(Some(ven_in(alloc, row)?)),
-        None => Ok(None),
-    }
+    first_of(alloc, tx, READ_ONE, &[number_of_ven])
 }
 
 /// The vens, by their numbers.
@@ -105,15 +94,10 @@ pub fn read_vens<S: Alter>(
 ) -> Result<Table<Number, Ven>, Refusal>
     ensures same_reference { tx.new.conn.ghost_name ≡ tx.old.conn.ghost_name }
     ensures stays { Stays S.Store tx.old.conn.now tx.new.conn.now result }
-    ensures finds { Finds S.Store tx.old.conn.now tx.new.conn.now (λ kept vens. vens ≡ kept.vens) result }
+    ensures finds { Finds S.Store tx.old.conn.now tx.new.conn.now (λ kept vens. vens ≡ kept.portfolio.vens) result }
     ensures refused { IfErr result IsOfStore }
 {
-    let rows = rows_of(
-        tx,
-        "SELECT id, name, created, modified FROM ven ORDER BY id",
-        &[],
-    )?;
-    let entries = entries_in(alloc, &rows)?;
+    let entries = all_of(alloc, tx, READ_ALL, &[])?;
     table_of(alloc, entries)
 }
 
@@ -125,24 +109,18 @@ pub fn read_vens_named<S: Alter>(
 ) -> Result<Rows<Number>, Refusal>
     ensures same_reference { tx.new.conn.ghost_name ≡ tx.old.conn.ghost_name }
     ensures stays { Stays S.Store tx.old.conn.now tx.new.conn.now result }
-    ensures finds { Finds S.Store tx.old.conn.now tx.new.conn.now (λ kept numbers. numbers ≡ vens_named name.now kept.vens) result }
+    ensures finds { Finds S.Store tx.old.conn.now tx.new.conn.now (λ kept numbers. numbers ≡ numbers_named ven_name name.now kept.portfolio.vens) result }
     ensures refused { IfErr result IsOfStore }
 {
-    let rows = rows_of(
-        tx,
-        "SELECT id FROM ven WHERE name = ?1 ORDER BY id",
-        &[name.as_str().to_sql()],
-    )?;
-    numbers_in(alloc, &rows)
+    all_of(alloc, tx, READ_NAMED, &[name.as_str().to_sql()])
 }
 
 /// How many vens there are.
 pub fn count_vens<S: Alter>(tx: &mut Transaction<'_, S>) -> Result<u64, Refusal>
     ensures same_reference { tx.new.conn.ghost_name ≡ tx.old.conn.ghost_name }
     ensures stays { Stays S.Store tx.old.conn.now tx.new.conn.now result }
-    ensures finds { Finds S.Store tx.old.conn.now tx.new.conn.now (λ kept count. count ≡ length kept.vens) result }
+    ensures finds { Finds S.Store tx.old.conn.now tx.new.conn.now (λ kept count. count ≡ length kept.portfolio.vens) result }
     ensures refused { IfErr result IsOfStore }
 {
-    let rows = rows_of(tx, "SELECT count(*) FROM ven", &[])?;
-    count_in(&rows)
+    count_of(tx, COUNT)
 }

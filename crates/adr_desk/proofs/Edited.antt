@@ -8,12 +8,10 @@ use Rattle.adr_state.specs.declared.base.Base.{Base}
 use Rattle.adr_state.specs.declared.limits.Limits.{Limits}
 use Rattle.adr_sql.specs.Calls.{Stays, Commits}
 use Rattle.adr_db.specs.Bases.{HoldsBase}
-use Rattle.adr_db.proofs.Calls.{on_then}
+use Rattle.adr_db.proofs.Results.{on_then}
 use Rattle.adr_machine.specs.declared.command.Command.{Command}
-use Rattle.adr_machine.specs.Edits.{edit}
-use Rattle.adr_db.specs.BaseCalls.{Makes}
 use Rattle.adr_desk.specs.declared.edit.Edit.{Edit}
-use Rattle.adr_desk.specs.Edits.{IsAnswer, HoldsEdited, LeftEdited, told}
+use Rattle.adr_desk.specs.Edits.{edit_by, EditsTables, HoldsEdited, LeftEdited, told}
 use Rattle.adr_desk.specs.Transactions.{Ends}
 use Rattle.adr_desk.proofs.Transactions.{held_now, ends_whole, told_whole, told_ok}
 
@@ -23,19 +21,19 @@ moved P x y same h = subst P same h
 
 module _ {S : Type 0} (g : Ghosts S) (old begun last end : Held S) (limits : Limits) (now : ℕ) (command : Command) (edited : Option Edit) (ended : Result Unit Refusal) (answer : Result (Option Edit) Refusal) where
   -- all of it is committed, or nothing is left of it
-  pub edited_whole : begun ≡ record old { in_transaction = true } → Stays g begun last {T = Option Edit} {E = Refusal} (Ok edited) → Makes g begun last {T = Option Edit} {E = Refusal} (λ base. edit limits now base command) IsAnswer (Ok edited) → Ends g last end ended → answer ≡ told ended edited
-      → Commits g old end (λ s. (base : Base) → HoldsBase base (state g old) → HoldsEdited (λ base. edit limits now base command) base s) (λ trees. (base : Base) → HoldsBase base (state g old) → LeftEdited (λ base. edit limits now base command) base trees) answer
+  pub edited_whole : begun ≡ record old { in_transaction = true } → Stays g begun last {T = Option Edit} {E = Refusal} (Ok edited) → EditsTables (edit_by limits now command) (state g begun) (state g last) (Ok edited) → Ends g last end ended → answer ≡ told ended edited
+      → Commits g old end (λ s. (base : Base) → HoldsBase base (state g old) → HoldsEdited (edit_by limits now command) base s) (λ trees. (base : Base) → HoldsBase base (state g old) → LeftEdited (edit_by limits now command) base trees) answer
   edited_whole is stays makes ends same =
       rw same (told_whole g old end ended edited _ _ (ends_whole g old last end edited ended _ _ (subst (λ (b : Held S). Stays g b last {T = Option Edit} {E = Refusal} (Ok edited)) is stays)
-      (λ clean base was. let it = (subst (λ (b : Held S). Makes g b last {T = Option Edit} {E = Refusal} (λ base. edit limits now base command) IsAnswer (Ok edited)) is makes) clean base (held_now base (state g old) _ refl was) in (it.0, it.1, it.2, it.3))
+      (λ clean base was. let it = (subst (λ (b : Held S). EditsTables (edit_by limits now command) (state g b) (state g last) (Ok edited)) is makes) clean base (held_now base (state g old) _ refl was) in (it.said, it.after, it.edited, it.holds))
       (λ a b same done base was. let it = done base was in (it.0, it.1, it.2, held_now it.1 a b same it.3))
       (λ s done base was. let it = done base was in (it.0, it.1, it.2, it.3.rows.each))
       ends))
 
   -- and what is answered is right for what was committed
-  pub edited_makes : begun ≡ record old { in_transaction = true } → Makes g begun last {T = Option Edit} {E = Refusal} (λ base. edit limits now base command) IsAnswer (Ok edited) → Ends g last end ended → answer ≡ told ended edited → Makes g old end (λ base. edit limits now base command) IsAnswer answer
+  pub edited_makes : begun ≡ record old { in_transaction = true } → EditsTables (edit_by limits now command) (state g begun) (state g last) (Ok edited) → Ends g last end ended → answer ≡ told ended edited → EditsTables (edit_by limits now command) (state g old) (state g end) answer
   edited_makes is makes ends same clean =
       let early : HasCleanDisk (state g last) = omega (arith, ends.crash.clean) in
       rw same (told_ok ended edited _ (on_then ended (λ shown base was.
-      let it = (subst (λ (b : Held S). Makes g b last {T = Option Edit} {E = Refusal} (λ base. edit limits now base command) IsAnswer (Ok edited)) is makes) early base (held_now base (state g old) _ refl was) in
-      (it.0, it.1, it.2, held_now it.1 (state g last) _ shown.1.now_is it.3, it.4)) (ends.ok clean)))
+      let it = (subst (λ (b : Held S). EditsTables (edit_by limits now command) (state g b) (state g last) (Ok edited)) is makes) early base (held_now base (state g old) _ refl was) in
+      record { said = it.said; after = it.after; edited = it.edited; holds = held_now it.after (state g last) _ shown.1.now_is it.holds; right = it.right }) (ends.ok clean)))

@@ -3,3 +3,4 @@ pub mod Transactions
 pub mod Edited
 pub mod Created
 pub mod RunLemmas
+pub mod DecisionLemmas

@@ -2,7 +2,7 @@
 use Rattle.std.proofs.Common.{◌≡◌, ℕ, true, false, Option, List, [], ◌∷◌, ◌++◌, length, map, filter, Result, Ok, Err, IfOk, IfErr, OnErr, append-nil, refl, sym, ap, ap₂, subst, ◌∙◌}
 use Rattle.std.proofs.lemmas.List.{map-append}
 use Rattle.sqlite.specs.State as sql
-use Rattle.adr_text.specs.Refusals.{◌>>=◌}
+use Rattle.adr_text.specs.Refusals.{◌>>=◌, IsRefusalOf}
 use Rattle.adr_text.specs.declared.refusal.Refusal.{Refusal}
 use Rattle.adr_text.specs.declared.refusal.Refusal.TheVariants.{OutOfMemory, Store}
 use Rattle.adr_state.specs.declared.base.Base.{Base}
@@ -13,12 +13,13 @@ use Rattle.adr_db.specs.Bases.{HoldsBase}
 use Rattle.adr_machine.specs.declared.answer.Answer.{Answer}
 use Rattle.adr_machine.specs.declared.command.Command.{Command}
 use Rattle.adr_machine.specs.Edits.{edit}
-use Rattle.adr_machine.specs.Steps.{committed, IsRefusalOf}
-use Rattle.adr_machine.specs.Runs.{told, state_after, answers_of, state_of, stands, standing, step_at}
-use Rattle.adr_machine.proofs.RunLemmas.{standing-push, filter_stands-push, answers_of-push, state_of-push}
-use Rattle.adr_machine.proofs.LawLemmas.{mirror_greatest}
+use Rattle.adr_machine.specs.Steps.{committed}
+use Rattle.adr_machine.specs.Runs.{told, state_after, stands, step_at}
+use Rattle.adr_laws.specs.Standing.{answers_of, state_of, standing}
+use Rattle.adr_laws.proofs.RunLemmas.{standing-push, filter_stands-push, answers_of-push, state_of-push}
+use Rattle.adr_laws.proofs.MirrorLemmas.{mirror_greatest}
 use Rattle.adr_desk.specs.declared.edit.Edit.{Edit}
-use Rattle.adr_desk.specs.Edits.{IsAnswer}
+use Rattle.adr_desk.specs.Edits.{edit_by, IsEdited}
 use Rattle.adr_desk.specs.Runs.{unsaid, IsRunOf, HoldsGreatest}
 
 module _ (settings : Settings) (s : State) where
@@ -56,15 +57,15 @@ module _ (settings : Settings) (s : State) where
   stepped t c e is = ap (λ r. r >>= λ x. Ok (committed t c.0 x.0 x.1)) is
 
   pub IsRunOf-push : (cs : List (ℕ × Command)) (rs : List (Result (Option Edit) Refusal)) (before now : sql.State) (c : ℕ × Command) (r : Result (Option Edit) Refusal) → IsRunOf settings s cs rs before → length cs ≡ length rs
-      → IfOk r (λ done. (base : Base) → HoldsBase base before → (said : Option Answer) × (after : Base) × (edit settings.limits c.0 base c.1 ≡ Ok (said, after)) × HoldsBase after now × IsAnswer base said after done)
+      → IfOk r (λ done. (base : Base) → HoldsBase base before → IsEdited (edit_by settings.limits c.0 c.1) base done now)
       → IfErr r (λ refusal. (base : Base) → HoldsBase base before → IsRefusalOf refusal (edit settings.limits c.0 base c.1))
       → OnErr r ((base : Base) → HoldsBase base before → HoldsBase base now)
       → IsRunOf settings s (cs ++ c ∷ []) (rs ++ r ∷ []) now
   IsRunOf-push cs rs before now c (Ok done) run e makes refuses same =
       let t = led cs rs in
       let it = makes t.base run.base in
-      let is = stepped t c (Ok (it.0, it.1)) it.2 in
-      stood cs rs before now c (Ok done) run e refl (ap (λ x. unsaid (told x)) (sym is)) (subst (λ x. HoldsBase (state_after t x).base now) (sym is) it.3)
+      let is = stepped t c (Ok (it.said, it.after)) it.edited in
+      stood cs rs before now c (Ok done) run e refl (ap (λ x. unsaid (told x)) (sym is)) (subst (λ x. HoldsBase (state_after t x).base now) (sym is) it.holds)
   IsRunOf-push cs rs before now c (Err OutOfMemory) run e makes refuses same = passed_over cs rs before now c (Err OutOfMemory) run e refl (same (led cs rs).base run.base)
   IsRunOf-push cs rs before now c (Err Store) run e makes refuses same = passed_over cs rs before now c (Err Store) run e refl (same (led cs rs).base run.base)
   IsRunOf-push cs rs before now c (Err refusal) run e makes refuses same =

@@ -1,7 +1,8 @@
 -- What a command makes of the tables, and what is answered to it.
-use Rattle.std.specs.Prelude.{◌≡◌, Option, None, Some, Result, Ok, Err}
+use Rattle.std.specs.Prelude.{◌≡◌, ℕ, Option, None, Some, Result, Ok, Err, IfOk, IfErr}
 use Rattle.sqlite.specs.Tree.{Trees}
-use Rattle.sqlite.specs.State.{State}
+use Rattle.sqlite.specs.State.{State, HasCleanDisk}
+use Rattle.adr_text.specs.Refusals.{IsRefusalOf}
 use Rattle.adr_text.specs.declared.refusal.Refusal.{Refusal}
 use Rattle.adr_state.specs.declared.base.Base.{Base}
 use Rattle.adr_sql.specs.Contents.{StoresEach}
@@ -10,6 +11,8 @@ use Rattle.adr_db.specs.Kept.{contents_of}
 use Rattle.adr_db.specs.Bases.{kept_of, HoldsBase}
 use Rattle.adr_machine.specs.declared.answer.Answer.{Answer}
 use Rattle.adr_machine.specs.declared.answer.Answer.TheVariants as answer
+use Rattle.adr_state.specs.declared.limits.Limits.{Limits}
+use Rattle.adr_machine.specs.declared.command.Command.{Command}
 use Rattle.adr_machine.specs.Edits.{edit}
 use Rattle.adr_mirror.specs.Raises.{HaveRisen}
 use Rattle.adr_desk.specs.declared.edit.Edit.{Edit}
@@ -28,6 +31,27 @@ IsAnswer before said after (Some (Share share)) = said ≡ Some (answer.Share sh
 abbrev pub told : Result Unit Refusal → Option Edit → Result (Option Edit) Refusal
 told (Ok done) edit = Ok edit
 told (Err refusal) edit = Err refusal
+
+-- ---- an edit of the tables
+
+abbrev pub edit_by : Limits → ℕ → Command → Base → Result (Option Answer × Base) Refusal
+edit_by limits now command base = edit limits now base command
+
+-- the tables hold the base that an edit makes of another, and what is told of it is right
+pub record IsEdited (edit : Base → Result (Option Answer × Base) Refusal) (base : Base) (told : Option Edit) (s : State) : Type 0 where
+  pub said : Option Answer
+  pub after : Base
+  pub edited : edit base ≡ Ok (said, after)
+  pub holds : HoldsBase after s
+  pub right : IsAnswer base said after told
+
+-- after Ok, the tables hold what the edit makes of each base that they held
+abbrev pub EditsTables : (Base → Result (Option Answer × Base) Refusal) → State → State → Result (Option Edit) Refusal → Type 0
+EditsTables edit old new result = HasCleanDisk new → IfOk result (λ told. (base : Base) → HoldsBase base old → IsEdited edit base told new)
+
+-- a refusal is the machine's own, or want of memory or the store's in its place
+abbrev pub RefusesEdit : (Base → Result (Option Answer × Base) Refusal) → State → State → Result (Option Edit) Refusal → Type 0
+RefusesEdit edit old new result = HasCleanDisk new → IfErr result (λ refusal. (base : Base) → HoldsBase base old → IsRefusalOf refusal (edit base))
 
 -- tables that hold the base which an edit makes, and ones that a crash left so
 abbrev pub HoldsEdited : (Base → Result (Option Answer × Base) Refusal) → Base → State → Type 0

@@ -15,5 +15,4 @@ scan_kept kept = if kept.meta.scan then Some kept.polled else None
 
 -- what is kept, as a state
 abbrev pub image_kept : Kept → State
-image_kept kept =
-    image_of (record { mirror = kept.mirror; scan = scan_kept kept; vens = kept.vens; resources = kept.resources; shares = kept.shares; serial = kept.meta.serial })
+image_kept kept = image_of (record { mirror = kept.mirror; scan = scan_kept kept; portfolio = kept.portfolio; serial = kept.meta.serial })

@@ -2,5 +2,6 @@ pub mod Transactions
 pub mod Images
 pub mod Desks
 pub mod Edits
+pub mod Decisions
 pub mod Runs
 pub mod Laws

@@ -10,8 +10,9 @@ use Rattle.adr_state.specs.Keys.{mirror_cmp, at}
 use Rattle.adr_state.specs.States.{empty}
 use Rattle.adr_db.specs.Bases.{HoldsBase}
 use Rattle.adr_machine.specs.declared.command.Command.{Command}
-use Rattle.adr_machine.specs.Runs.{answers_of, state_of, stands, standing, step_at}
-use Rattle.adr_machine.specs.Laws.{accepted_evidence, IsGreatestOf}
+use Rattle.adr_machine.specs.Runs.{stands, step_at}
+use Rattle.adr_laws.specs.Standing.{answers_of, state_of, standing}
+use Rattle.adr_laws.specs.Laws.{accepted_evidence, IsGreatestOf}
 use Rattle.adr_desk.specs.declared.edit.Edit.{Edit}
 
 -- an answer, but for what it says

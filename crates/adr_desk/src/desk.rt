@@ -1,16 +1,13 @@
 //! The desk.
-ghost use Rattle.std.specs.Prelude.{◌≡◌, false, Option, Ok, is_none, IsTrue, IfOk, IfErr, OnOk, OnErr};
+ghost use Rattle.std.specs.Prelude.{◌≡◌, false, is_none, IsTrue, IfOk, IfErr, OnOk, OnErr};
 ghost use Rattle.sqlite.specs.State.{HasCleanDisk, Survives};
 ghost use Rattle.sqlite.specs.Steps.{over_memory};
 ghost use Rattle.adr_state.specs.declared.base.Base.{Base};
 ghost use Rattle.adr_state.specs.States.{empty};
 ghost use Rattle.adr_db.specs.Bases.{HoldsBase};
 ghost use Rattle.adr_db.specs.Calls.{IsOfStore};
-ghost use Rattle.adr_machine.specs.declared.answer.Answer.{Answer};
-ghost use Rattle.adr_machine.specs.Edits.{edit};
-ghost use Rattle.adr_machine.specs.Steps.{IsRefusalOf};
 ghost use Rattle.adr_desk.specs.Images.{image_of};
-ghost use Rattle.adr_desk.specs.Edits.{IsAnswer, LeftEdited};
+ghost use Rattle.adr_desk.specs.Edits.{edit_by, EditsTables, RefusesEdit, LeftEdited};
 
 use crate::create::create_in;
 use crate::edit::{Edit, edit_in};
@@ -80,13 +77,13 @@ impl<S: Alter> SqlDesk<S> {
     /// there is has tables, so None is never answered. A refusal leaves all as it was, where the store is
     /// open.
     pub fn edit(&mut self, now: Moment, command: &Command) -> Result<Option<Edit>, Refusal>
-        ensures makes { HasCleanDisk (shown S.Store self.new) → IfOk result (λ told. (base : Base) → HoldsBase base (shown S.Store self.old) → (said : Option Answer) × (after : Base) × (edit (settings_of self.old).limits now base command.now ≡ Ok (said, after)) × HoldsBase after (shown S.Store self.new) × IsAnswer base said after told) }
+        ensures makes { EditsTables (edit_by (settings_of self.old).limits now command.now) (shown S.Store self.old) (shown S.Store self.new) result }
         ensures committed { HasCleanDisk (shown S.Store self.new) → OnOk result ((shown S.Store self.new).committed ≡ (shown S.Store self.new).now) }
         ensures some { IfOk result (λ edit. is_none edit ≡ false) }
-        ensures refused { HasCleanDisk (shown S.Store self.new) → IfErr result (λ refusal. (base : Base) → HoldsBase base (shown S.Store self.old) → IsRefusalOf refusal (edit (settings_of self.old).limits now base command.now)) }
+        ensures refused { RefusesEdit (edit_by (settings_of self.old).limits now command.now) (shown S.Store self.old) (shown S.Store self.new) result }
         ensures unchanged { HasCleanDisk (shown S.Store self.new) → IsTrue (shown S.Store self.new).is_open → OnErr result ((base : Base) → HoldsBase base (shown S.Store self.old) → HoldsBase base (shown S.Store self.new)) }
         ensures same_settings { settings_of self.new ≡ settings_of self.old }
-        ensures crash { Survives (shown S.Store self.old) (shown S.Store self.new) (λ trees. (base : Base) → HoldsBase base (shown S.Store self.old) → LeftEdited (λ base. edit (settings_of self.old).limits now base command.now) base trees) }
+        ensures crash { Survives (shown S.Store self.old) (shown S.Store self.new) (λ trees. (base : Base) → HoldsBase base (shown S.Store self.old) → LeftEdited (edit_by (settings_of self.old).limits now command.now) base trees) }
     {
         edit_in(
             self.alloc,

@@ -6,11 +6,11 @@ ghost use Rattle.adr_sql.specs.Calls.{Stays};
 ghost use Rattle.adr_db.specs.Kept.{Kept, Keeps};
 ghost use Rattle.adr_db.specs.Calls.{Finds, IsOfStore};
 ghost use Rattle.adr_desk.specs.Transactions.{IsDropped};
-ghost use Rattle.adr_desk.specs.Images.{image_of, image_kept};
+ghost use Rattle.adr_desk.specs.Images.{image_kept};
 
 use crate::frame::begin;
 use adr_db::{read_meta, read_mirror, read_polled_set, read_resources, read_shares, read_vens};
-use adr_state::{Base, Image, Mark, MirrorKey, Polled, State};
+use adr_state::{Base, Image, Polled, Portfolio, State};
 use adr_text::{Refusal, Table};
 use sqlite::{Alter, Connection, Transaction};
 use std::alloc::Global;
@@ -22,32 +22,19 @@ fn scan_with(is_open: bool, polled: Polled) -> Option<Polled>
     if is_open { Some(polled) } else { None }
 }
 
-// The state with what the tables keep of vens, resources and shares.
-fn read_rest<S: Alter>(
+fn read_portfolio<S: Alter>(
     alloc: Global,
     tx: &mut Transaction<'_, S>,
-    mirror: Table<MirrorKey, Mark>,
-    scan: Option<Polled>,
-    serial: u64,
-) -> Result<Image, Refusal>
+) -> Result<Portfolio, Refusal>
     ensures same_reference { tx.new.conn.ghost_name ≡ tx.old.conn.ghost_name }
     ensures stays { Stays S.Store tx.old.conn.now tx.new.conn.now result }
-    ensures finds { Finds S.Store tx.old.conn.now tx.new.conn.now (λ kept image. image ≡ image_of (record { mirror = mirror; scan = scan; vens = kept.vens; resources = kept.resources; shares = kept.shares; serial = serial })) result }
+    ensures finds { Finds S.Store tx.old.conn.now tx.new.conn.now (λ kept portfolio. portfolio ≡ kept.portfolio) result }
     ensures refused { IfErr result IsOfStore }
 {
-    let vens = read_vens(alloc, tx)?;
-    let resources = read_resources(alloc, tx)?;
-    let shares = read_shares(alloc, tx)?;
-    Ok(State {
-        base: Base {
-            mirror,
-            scan,
-            vens,
-            resources,
-            shares,
-            serial,
-        },
-        stamps: Table::new(alloc),
+    Ok(Portfolio {
+        vens: read_vens(alloc, tx)?,
+        resources: read_resources(alloc, tx)?,
+        shares: read_shares(alloc, tx)?,
     })
 }
 
@@ -60,8 +47,16 @@ fn read_image<S: Alter>(alloc: Global, tx: &mut Transaction<'_, S>) -> Result<Im
     let meta = read_meta(tx)?;
     let mirror = read_mirror(alloc, tx)?;
     let polled = read_polled_set(alloc, tx)?;
-    let scan = scan_with(meta.scan, polled);
-    read_rest(alloc, tx, mirror, scan, meta.serial)
+    let portfolio = read_portfolio(alloc, tx)?;
+    Ok(State {
+        base: Base {
+            mirror,
+            scan: scan_with(meta.scan, polled),
+            portfolio,
+            serial: meta.serial,
+        },
+        stamps: Table::new(alloc),
+    })
 }
 
 /// The whole state, which stays. The transaction is dropped and not committed, so a crash leaves what it

@@ -2,12 +2,12 @@
 #![tactic(auto)]
 
 mod create;
+mod decided;
 mod desk;
 mod edit;
 mod frame;
 mod image;
 pub mod laws;
-mod portfolio;
 mod runs;
 
 pub use desk::{MemoryDesk, SqlDesk};

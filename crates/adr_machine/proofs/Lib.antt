@@ -1,10 +1,1 @@
-pub mod DigitLemmas
 pub mod RunLemmas
-pub mod EditLemmas
-pub mod RowLemmas
-pub mod OrderLemmas
-pub mod NumberLemmas
-pub mod LawLemmas
-pub mod NameLemmas
-pub mod PortfolioLemmas
-pub mod StampLemmas

@@ -1,6 +1,5 @@
 -- What a role may do and see.
-use Rattle.std.specs.Prelude.{ℕ, Bool, true, false, List, Option, None, Some, option_and_then, option_map, Result, Ok, Err}
-use Rattle.std.specs.Ordering.{nat_cmp}
+use Rattle.std.specs.Prelude.{ℕ, Bool, true, false, Option, None, Some, Result, Ok, Err}
 use Rattle.adr_text.specs.declared.refusal.Refusal.{Refusal}
 use Rattle.adr_text.specs.declared.refusal.Refusal.TheVariants.{Forbidden}
 use Rattle.adr_state.specs.declared.base.Base.{Base}
@@ -8,17 +7,12 @@ use Rattle.adr_machine.specs.declared.role.Role.{Role}
 use Rattle.adr_machine.specs.declared.role.Role.TheVariants.{Operator, Ven, Utility}
 use Rattle.adr_machine.specs.declared.sight.Sight.{Sight}
 use Rattle.adr_machine.specs.declared.sight.Sight.TheVariants.{All, Of}
-use Rattle.adr_machine.specs.Digits.{number_of}
-use Rattle.adr_state.specs.Keys.{at}
+use Rattle.adr_state.specs.Vens.{ven_at}
 
 abbrev pub is_operator : Role → Bool
 is_operator Operator = true
 is_operator (Ven id) = false
 is_operator Utility = false
-
--- the number of the ven of an id, where it is enrolled
-abbrev pub ven_at : List ℕ → Base → Option ℕ
-ven_at id base = option_and_then (λ n. option_map (λ v. n) (at nat_cmp n base.vens)) (number_of 118 id)
 
 abbrev pub sight_by : Option ℕ → Result Sight Refusal
 sight_by None = Err Forbidden
@@ -27,5 +21,5 @@ sight_by (Some n) = Ok (Of n)
 -- what a role sees: the operator all, an enrolled ven what is its own, and another nothing
 abbrev pub sight_of : Base → Role → Result Sight Refusal
 sight_of base Operator = Ok All
-sight_of base (Ven id) = sight_by (ven_at id base)
+sight_of base (Ven id) = sight_by (ven_at id base.portfolio)
 sight_of base Utility = Err Forbidden

@@ -1,6 +1,5 @@
 -- Whole runs, over any step. A step that was answered by want of memory or by the store stands for no step.
-use Rattle.std.specs.Prelude.{◌≡◌, ℕ, Bool, true, false, List, [], ◌∷◌, map, filter, Result, Ok, Err}
-use Rattle.std.specs.List.{zip}
+use Rattle.std.specs.Prelude.{◌≡◌, ℕ, Bool, true, false, MatchBool, List, [], ◌∷◌, Result, Ok, Err}
 use Rattle.adr_text.specs.declared.refusal.Refusal.{Refusal}
 use Rattle.adr_text.specs.declared.refusal.Refusal.TheVariants.{OutOfMemory, Store}
 use Rattle.adr_state.specs.declared.state.State.{State}
@@ -19,15 +18,6 @@ abbrev pub state_after : {A S : Type 0} → S → Result (A × S) Refusal → S
 state_after s (Ok (answer, next)) = next
 state_after s (Err refusal) = s
 
--- each step in turn: the answers, and the state in the end
-abbrev pub answers_of : {A C S : Type 0} → (S → C → Result (A × S) Refusal) → S → List C → List (Result A Refusal)
-answers_of step s [] = []
-answers_of step s (c ∷ cs) = told (step s c) ∷ answers_of step (state_after s (step s c)) cs
-
-abbrev pub state_of : {A C S : Type 0} → (S → C → Result (A × S) Refusal) → S → List C → S
-state_of step s [] = s
-state_of step s (c ∷ cs) = state_of step (state_after s (step s c)) cs
-
 -- whether an answer stands for a step
 abbrev pub stands : {A : Type 0} → Result A Refusal → Bool
 stands (Ok answer) = true
@@ -35,14 +25,15 @@ stands (Err OutOfMemory) = false
 stands (Err Store) = false
 stands (Err refusal) = true
 
--- the commands whose answers stand
-abbrev pub standing : {A C : Type 0} → List C → List (Result A Refusal) → List C
-standing cs rs = map (λ p. p.0) (filter (λ p. stands p.1) (zip cs rs))
+-- what an answer says of a step: one that stands is the step's, and the state is where it leads; another stands for no step
+abbrev pub IsTaken : {A S : Type 0} → S → Result (A × S) Refusal → Result A Refusal → S → Type 0
+IsTaken s taken r t = MatchBool (stands r) ((r ≡ told taken) × (t ≡ state_after s taken)) (t ≡ s)
 
--- from s, these answers to these commands are those of the machine over the steps that stand, which lead to t
-pub record IsRun {A C S : Type 0} (step : S → C → Result (A × S) Refusal) (s : S) (cs : List C) (rs : List (Result A Refusal)) (t : S) : Type 0 where
-  pub answers : filter stands rs ≡ answers_of step s (standing cs rs)
-  pub state : t ≡ state_of step s (standing cs rs)
+-- from s, these answers to these commands lead to t: to each command in turn an answer that stands is the step's, and another takes no step
+abbrev pub IsRun : {A C S : Type 0} → (S → C → Result (A × S) Refusal) → S → List C → List (Result A Refusal) → S → Type 0
+IsRun step s [] [] t = t ≡ s
+IsRun {S = S} step s (c ∷ cs) (r ∷ rs) t = (u : S) × IsTaken s (step s c) r u × IsRun step u cs rs t
+IsRun step s _ _ t = ⊥
 
 -- the machine's step at a pair of a moment and a command
 abbrev pub step_at : Settings → State → ℕ × Command → Result (Answer × State) Refusal

@@ -6,8 +6,8 @@ use Rattle.std.specs.Option.{option_map_or}
 use Rattle.std.specs.Prelude.{◌==◌, false}
 use Rattle.adr_text.specs.Refusals.{◌>>=◌}
 use Rattle.adr_text.specs.declared.refusal.Refusal.{Refusal}
-use Rattle.adr_text.specs.declared.refusal.Refusal.TheVariants.{OutOfMemory, Store, NoScan}
-use Rattle.adr_schema.specs.declared.shown.Stamps.{Stamps}
+use Rattle.adr_text.specs.declared.refusal.Refusal.TheVariants.{NoScan}
+use Rattle.adr_objects.specs.declared.shown.Stamps.{Stamps}
 use Rattle.adr_state.specs.declared.base.Base.{Base}
 use Rattle.adr_state.specs.declared.state.State.{State}
 use Rattle.adr_state.specs.declared.keys.MirrorKey.{MirrorKey}
@@ -19,6 +19,8 @@ use Rattle.adr_state.specs.declared.limits.Settings.{Settings}
 use Rattle.adr_machine.specs.declared.sight.Sight.{Sight}
 use Rattle.adr_machine.specs.declared.sight.Sight.TheVariants.{All, Of}
 use Rattle.adr_machine.specs.declared.command.Command.{Command}
+use Rattle.adr_machine.specs.declared.role.Role.{Role}
+use Rattle.adr_machine.specs.declared.query.Page.{Page}
 use Rattle.adr_machine.specs.declared.query.Query.{Query}
 use Rattle.adr_machine.specs.declared.query.Query.TheVariants.{Events, Vens, Ven, Resources, Resource, Shares, Probes}
 use Rattle.adr_machine.specs.declared.answer.Object.{Object}
@@ -59,7 +61,7 @@ step settings s now command = edit settings.limits now s.base command >>= λ e. 
 
 -- the ven that owns a resource
 abbrev pub owner_of : Base → ℕ → Option ℕ
-owner_of base resource = option_map (λ r. r.ven) (at nat_cmp resource base.resources)
+owner_of base resource = option_map (λ r. r.ven) (at nat_cmp resource base.portfolio.resources)
 
 -- whether what stands at a key is in sight: every ven sees the programs
 abbrev pub sees : Base → Sight → ViewKey → Bool
@@ -79,6 +81,9 @@ event_at stamps r = option_and_then (event_of r.0 r.1) (at view_cmp r.0 stamps)
 abbrev pub events_in_sight : State → Sight → List Object
 events_in_sight s sight = filter_map (event_at s.stamps) (filter (λ r. sees s.base sight r.0) (view s.base))
 
+abbrev pub events_reply : State → Role → Page → Result Answer Refusal
+events_reply s role page = sight_of s.base role >>= λ sight. Ok (answer.List (page_of page (events_in_sight s sight)))
+
 -- the first live keys that an open scan missed
 abbrev pub probes_reply : ℕ → Base → Option (List MirrorKey) → Result Answer Refusal
 probes_reply limit base None = Err NoScan
@@ -86,7 +91,7 @@ probes_reply limit base (Some polled) = Ok (answer.Probes (take limit (probes ba
 
 -- the reply to a query
 unfoldable pub reply : State → Query → Result Answer Refusal
-reply s (Events role page) = sight_of s.base role >>= λ sight. Ok (answer.List (page_of page (events_in_sight s sight)))
+reply s (Events role page) = events_reply s role page
 reply s (Vens role page) = vens_reply s.base role page
 reply s (Ven role id) = ven_reply s.base role id
 reply s (Resources role ven page) = resources_reply s.base role ven page
@@ -97,9 +102,3 @@ reply s (Probes limit) = probes_reply limit s.base s.base.scan
 -- the answer to who asks for the whole state
 abbrev pub image_of : State → Result State Refusal
 image_of s = Ok s
-
--- a refusal that may stand in place of a result: want of memory and the store's in place of any
-abbrev pub IsRefusalOf : {A : Type 0} → Refusal → Result A Refusal → Type 0
-IsRefusalOf OutOfMemory r = Unit {0}
-IsRefusalOf Store r = Unit {0}
-IsRefusalOf refusal r = r ≡ Err refusal

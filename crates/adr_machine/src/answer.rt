@@ -1,5 +1,5 @@
 //! What the machine answers.
-use adr_schema::{EventObject, ResourceObject, ShareObject, VenObject};
+use adr_objects::{EventObject, ResourceObject, ShareObject, VenObject};
 use adr_state::MirrorKey;
 use adr_text::Rows;
 

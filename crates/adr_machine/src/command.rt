@@ -1,6 +1,9 @@
 //! What the machine is told to do.
-use crate::role::Role;
-use adr_schema::{Found, Kind, ResourceIn, ShareIn, VenIn};
+ghost use Rattle.std.specs.Prelude.{◌≡◌};
+ghost use Rattle.std.specs.Option.{option_copied};
+
+use crate::role::{Role, is_operator};
+use adr_objects::{Found, Kind, ResourceIn, ShareIn, VenIn};
 use adr_text::{ObjectId, Rows};
 
 /// A command. Each is one step, at a moment.
@@ -70,4 +73,37 @@ pub enum Command {
         resource: ObjectId,
         share: ShareIn,
     },
+}
+
+impl Command {
+    ghost use Rattle.adr_machine.specs.Edits.{giver_of, is_allowed};
+
+    /// Who gives it, where the operator alone may.
+    fn giver(&self) -> Option<&Role>
+        ensures { option_copied result ≡ giver_of self.now }
+    {
+        match self {
+            Command::Evidence { .. }
+            | Command::Gone { .. }
+            | Command::ScanBegin
+            | Command::ScanEnd => None,
+            Command::VenAdd { role, .. }
+            | Command::VenPut { role, .. }
+            | Command::VenRemove { role, .. }
+            | Command::ResourceAdd { role, .. }
+            | Command::ResourcePut { role, .. }
+            | Command::ResourceRemove { role, .. }
+            | Command::ShareSet { role, .. } => Some(role),
+        }
+    }
+
+    /// Whether who gives it may.
+    pub fn is_allowed(&self) -> bool
+        ensures { result ≡ is_allowed self.now }
+    {
+        match self.giver() {
+            Some(role) => is_operator(role),
+            None => true,
+        }
+    }
 }

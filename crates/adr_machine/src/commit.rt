@@ -1,12 +1,13 @@
 //! Steps: an edit, and then its commit.
 ghost use Rattle.std.specs.Prelude.{◌≡◌, ◌≢◌, Ok, Err, IfOk, IfErr};
 ghost use Rattle.adr_text.specs.declared.refusal.Refusal.TheVariants.{Store};
-ghost use Rattle.adr_machine.specs.Steps.{answer_or_count, changed, committed, step, IsRefusalOf};
+ghost use Rattle.adr_machine.specs.Steps.{answer_or_count, changed, committed, step};
+ghost use Rattle.adr_text.specs.Refusals.{IsRefusalOf};
 
 use crate::answer::Answer;
 use crate::command::Command;
-use crate::edits::edited;
-use adr_schema::Stamps;
+use crate::edit::edited;
+use adr_objects::Stamps;
 use adr_state::{Base, Settings, State, ViewKey, changes_of, restamped, view_of};
 use adr_text::{Moment, Refusal, Table};
 use std::alloc::{AllocError, Global};

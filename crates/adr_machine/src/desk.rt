@@ -2,7 +2,8 @@
 ghost use Rattle.std.specs.Prelude.{◌≡◌, Ok, IfOk, IfErr, OnErr};
 ghost use Rattle.adr_state.specs.declared.state.State.{State};
 ghost use Rattle.adr_state.specs.declared.limits.Settings.{Settings};
-ghost use Rattle.adr_machine.specs.Steps.{step, reply, image_of, IsRefusalOf};
+ghost use Rattle.adr_machine.specs.Steps.{step, reply, image_of};
+ghost use Rattle.adr_text.specs.Refusals.{IsRefusalOf};
 
 use crate::answer::Answer;
 use crate::command::Command;

@@ -2,7 +2,8 @@
 ghost use Rattle.std.specs.Prelude.{◌≡◌, ◌≢◌, Ok, Err, IfOk, IfErr, OnErr};
 ghost use Rattle.adr_text.specs.declared.refusal.Refusal.TheVariants.{Store};
 ghost use Rattle.adr_state.specs.States.{empty};
-ghost use Rattle.adr_machine.specs.Steps.{step, reply, image_of, IsRefusalOf};
+ghost use Rattle.adr_machine.specs.Steps.{step, reply, image_of};
+ghost use Rattle.adr_text.specs.Refusals.{IsRefusalOf};
 
 use crate::answer::Answer;
 use crate::command::Command;

@@ -1,4 +1,7 @@
 //! Who asks.
+ghost use Rattle.std.specs.Prelude.{◌≡◌};
+ghost use Rattle.adr_machine.specs.Roles.{is_operator};
+
 use adr_text::ObjectId;
 
 /// Who gives a command or asks a query.
@@ -10,4 +13,14 @@ pub enum Role {
     Ven(ObjectId),
     /// The utility.
     Utility,
+}
+
+/// Whether the role is the operator's, who alone changes vens, resources and shares.
+pub fn is_operator(role: &Role) -> bool
+    ensures { result ≡ is_operator role.now }
+{
+    match role {
+        Role::Operator => true,
+        Role::Ven(_) | Role::Utility => false,
+    }
 }

@@ -1,3 +1,2 @@
 pub mod Raises
 pub mod Missed
-pub mod Calls

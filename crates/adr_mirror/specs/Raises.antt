@@ -4,7 +4,7 @@ use Rattle.std.specs.Option.{option_map_or}
 use Rattle.std.specs.BTreeSet.{insert_key}
 use Rattle.std.specs.declared.cmp.Ordering.TheVariants.{Less}
 use Rattle.sqlite.specs.Tree.{IsAscending}
-use Rattle.adr_schema.specs.declared.body.Found.{Found}
+use Rattle.adr_objects.specs.declared.body.Found.{Found}
 use Rattle.adr_state.specs.declared.base.Mark.{Mark}
 use Rattle.adr_state.specs.declared.keys.MirrorKey.{MirrorKey}
 use Rattle.adr_state.specs.Keys.{mirror_cmp, at}
@@ -66,17 +66,9 @@ with_raised e kept = record kept { mirror = raised kept.mirror e }
 abbrev pub with_joined : List (MirrorKey × Mark) → Kept → Kept
 with_joined evidence kept = record kept { mirror = joined kept.mirror evidence }
 
--- the numbers of the node say how many keys there are
-abbrev pub with_keys_added : ℕ → Kept → Kept
-with_keys_added added kept = record kept { meta = record kept.meta { keys = kept.meta.keys + added } }
-
 abbrev pub with_keys_polled : List Found → Kept → Kept
 with_keys_polled founds kept = record kept { polled = keys_found kept.polled founds }
 
--- keys that were polled are noted while a scan is open
-abbrev pub with_polled_if_open : List Found → Bool → Kept → Kept
-with_polled_if_open founds polled kept = if polled && kept.meta.scan then with_keys_polled founds kept else kept
-
--- a scan is open, or none is, with no key polled
-abbrev pub with_scan : Bool → Kept → Kept
-with_scan is_open kept = record kept { meta = record kept.meta { scan = is_open }; polled = [] }
+-- keys that were polled are noted, where a scan is open for it
+abbrev pub with_polled_if : Bool → List Found → Kept → Kept
+with_polled_if is_noted founds kept = if is_noted then with_keys_polled founds kept else kept

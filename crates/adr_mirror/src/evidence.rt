@@ -1,21 +1,18 @@
 //! Evidence joins the mirror.
-ghost use Rattle.std.specs.Prelude.{◌≡◌, ◌⊎◌, ◌+◌, false, true, nat_lt, if◌then◌else◌, [], ◌∷◌, IfOk, IfErr};
-ghost use Rattle.sqlite.specs.Held.{state};
-ghost use Rattle.sqlite.specs.State.{HasCleanDisk};
+ghost use Rattle.std.specs.Prelude.{◌≡◌, ◌⊎◌, ◌+◌, false, true, nat_lt, ◌&&◌, if◌then◌else◌, [], ◌∷◌, IfOk, IfErr, OnOk};
 ghost use Rattle.adr_text.specs.declared.refusal.Refusal.TheVariants.{LimitReached};
 ghost use Rattle.adr_sql.specs.Calls.{Stays};
 ghost use Rattle.adr_state.specs.Keys.{mirror_cmp, at};
 ghost use Rattle.adr_state.specs.Mirror.{key_of, mark_of, evidence_of, joined};
-ghost use Rattle.adr_db.specs.Calls.{Leaves, Finds, IsOfStore};
-ghost use Rattle.adr_machine.specs.Edits.{evidence, gone};
-ghost use Rattle.adr_mirror.specs.Raises.{HasRisen, HaveRisen, rise_of, noted, are_beyond, with_raised, with_joined, with_keys_added, with_keys_polled, with_polled_if_open};
-ghost use Rattle.adr_db.specs.BaseCalls.{Turns, Makes, Refuses};
-ghost use Rattle.adr_mirror.specs.Calls.{RefusesBeyond};
+ghost use Rattle.adr_db.specs.Calls.{LeavesKept, Turns, IsOfStore};
+ghost use Rattle.adr_state.specs.Evidence.{evidence, gone};
+ghost use Rattle.adr_mirror.specs.Raises.{HasRisen, HaveRisen, rise_of, noted, are_beyond, with_raised, with_joined, with_keys_polled, with_polled_if};
+ghost use Rattle.adr_db.specs.BaseCalls.{Makes, RefusesOn};
 
 use crate::raise::raise;
 use crate::risen::Risen;
-use adr_db::{put_meta, put_polled, read_meta};
-use adr_schema::{Found, Kind};
+use adr_db::{Meta, put_polled};
+use adr_objects::{Found, Kind};
 use adr_state::{Limits, Mark, MirrorKey, key_of, mark_of};
 use adr_text::{ObjectId, Refusal, Rows};
 use sqlite::{Alter, Transaction};
@@ -71,24 +68,15 @@ fn keys_with(limits: &Limits, keys: u64, added: u64) -> Result<u64, Refusal>
     Ok(keys + added)
 }
 
-/// Counts the keys that were added to the mirror, and refuses it where they are more than the limit then.
-fn count_keys<S: Alter>(
-    tx: &mut Transaction<'_, S>,
-    limits: &Limits,
-    added: u64,
-) -> Result<(), Refusal>
-    ensures same_reference { tx.new.conn.ghost_name ≡ tx.old.conn.ghost_name }
-    ensures stays { Stays S.Store tx.old.conn.now tx.new.conn.now result }
-    ensures turns { Turns S.Store tx.old.conn.now tx.new.conn.now (with_keys_added added) (λ kept _. are_beyond limits.now.keys kept.meta.keys added ≡ false) result }
-    ensures beyond { HasCleanDisk (state S.Store tx.new.conn.now) → IfErr result (RefusesBeyond (λ kept. are_beyond limits.now.keys kept.meta.keys added) (state S.Store tx.old.conn.now)) }
-    ensures refused { IfErr result (λ refusal. IsOfStore refusal ⊎ (refusal ≡ LimitReached)) }
+/// Counts the keys that were added to the mirror, and refuses them where they are more than the limit then.
+fn count_keys(limits: &Limits, meta: &mut Meta, added: u64) -> Result<(), Refusal>
+    ensures within { OnOk result ((meta.new ≡ record meta.old { keys = meta.old.keys + added }) × (are_beyond limits.now.keys meta.old.keys added ≡ false)) }
+    ensures beyond { IfErr result (λ refusal. (refusal ≡ LimitReached) × (are_beyond limits.now.keys meta.old.keys added ≡ true)) }
 {
     if added == 0 {
         return Ok(());
     }
-    let mut meta = read_meta(tx)?;
     meta.keys = keys_with(limits, meta.keys, added)?;
-    put_meta(tx, &meta)?;
     Ok(())
 }
 
@@ -96,7 +84,7 @@ fn count_keys<S: Alter>(
 fn poll_each<S: Alter>(tx: &mut Transaction<'_, S>, founds: &[Found]) -> Result<(), Refusal>
     ensures same_reference { tx.new.conn.ghost_name ≡ tx.old.conn.ghost_name }
     ensures stays { Stays S.Store tx.old.conn.now tx.new.conn.now result }
-    ensures leaves { Leaves S.Store tx.old.conn.now tx.new.conn.now (with_keys_polled founds.now) result }
+    ensures leaves { LeavesKept S.Store tx.old.conn.now tx.new.conn.now (with_keys_polled founds.now) result }
     ensures refused { IfErr result IsOfStore }
 {
     'founds: for found in founds {
@@ -105,47 +93,48 @@ fn poll_each<S: Alter>(tx: &mut Transaction<'_, S>, founds: &[Found]) -> Result<
     Ok(())
 }
 
-/// Notes the keys of what was polled, while a scan is open.
-fn poll<S: Alter>(
-    tx: &mut Transaction<'_, S>,
-    founds: &[Found],
-    polled: bool,
-) -> Result<(), Refusal>
+/// Whether keys are noted: they were polled, and a scan is open.
+fn is_noted(polled: bool, meta: &Meta) -> bool
+    ensures { result ≡ (polled && meta.now.scan) }
+{
+    polled && meta.scan
+}
+
+/// Notes the keys of what was polled, where a scan is open for it.
+fn poll<S: Alter>(tx: &mut Transaction<'_, S>, founds: &[Found], noted: bool) -> Result<(), Refusal>
     ensures same_reference { tx.new.conn.ghost_name ≡ tx.old.conn.ghost_name }
     ensures stays { Stays S.Store tx.old.conn.now tx.new.conn.now result }
-    ensures leaves { Leaves S.Store tx.old.conn.now tx.new.conn.now (with_polled_if_open founds.now polled) result }
+    ensures leaves { LeavesKept S.Store tx.old.conn.now tx.new.conn.now (with_polled_if noted founds.now) result }
     ensures refused { IfErr result IsOfStore }
 {
-    if !polled {
-        return Ok(());
-    }
-    let meta = read_meta(tx)?;
-    if !meta.scan {
+    if !noted {
         return Ok(());
     }
     poll_each(tx, founds)
 }
 
 /// Joins the mirror with the versions of a page or a notification, as a whole or not at all, and answers
-/// the keys whose mark rose. With `polled` the keys of the versions join the set of an open scan.
-/// Refused with `LimitReached` where keys were added and are more than the limit, deleted ones too;
-/// after a refusal the transaction has to be dropped.
+/// the keys whose mark rose. With `polled` the keys of the versions join the set of an open scan. The numbers
+/// of the node are handed in, and are left as the caller has to put them. Refused with `LimitReached` where
+/// keys were added and are more than the limit, deleted ones too; after a refusal the transaction has to be
+/// dropped.
 pub fn put_evidence<S: Alter>(
     alloc: Global,
     tx: &mut Transaction<'_, S>,
     limits: &Limits,
+    meta: &mut Meta,
     founds: &[Found],
     polled: bool,
 ) -> Result<Rows<MirrorKey>, Refusal>
     ensures same_reference { tx.new.conn.ghost_name ≡ tx.old.conn.ghost_name }
     ensures stays { Stays S.Store tx.old.conn.now tx.new.conn.now result }
-    ensures makes { Makes S.Store tx.old.conn.now tx.new.conn.now (λ base. evidence limits.now base founds.now polled) (λ before _ after keys. HaveRisen before.mirror after.mirror keys) result }
-    ensures refuses { Refuses S.Store tx.old.conn.now tx.new.conn.now (λ base. evidence limits.now base founds.now polled) result }
+    ensures makes { Makes S.Store tx.old.conn.now tx.new.conn.now (evidence limits.now founds.now polled) meta.old meta.new (λ before after keys. HaveRisen before.mirror after.mirror keys) result }
+    ensures refuses { RefusesOn S.Store tx.old.conn.now tx.new.conn.now (evidence limits.now founds.now polled) meta.old result }
     ensures refused { IfErr result (λ refusal. IsOfStore refusal ⊎ (refusal ≡ LimitReached)) }
 {
     let risen = join(alloc, tx, founds)?;
-    count_keys(tx, limits, risen.added)?;
-    poll(tx, founds, polled)?;
+    count_keys(limits, meta, risen.added)?;
+    poll(tx, founds, is_noted(polled, meta))?;
     Ok(risen.list(alloc)?)
 }
 
@@ -164,17 +153,18 @@ pub fn gone<S: Alter>(
     alloc: Global,
     tx: &mut Transaction<'_, S>,
     limits: &Limits,
+    meta: &mut Meta,
     kind: Kind,
     id: &ObjectId,
 ) -> Result<bool, Refusal>
     ensures same_reference { tx.new.conn.ghost_name ≡ tx.old.conn.ghost_name }
     ensures stays { Stays S.Store tx.old.conn.now tx.new.conn.now result }
-    ensures makes { Makes S.Store tx.old.conn.now tx.new.conn.now (λ base. gone limits.now base (record { kind = kind; id = id.now })) (λ before _ after rose. HaveRisen before.mirror after.mirror (if rose then record { kind = kind; id = id.now } ∷ [] else [])) result }
-    ensures refuses { Refuses S.Store tx.old.conn.now tx.new.conn.now (λ base. gone limits.now base (record { kind = kind; id = id.now })) result }
+    ensures makes { Makes S.Store tx.old.conn.now tx.new.conn.now (gone limits.now (record { kind = kind; id = id.now })) meta.old meta.new (λ before after rose. HaveRisen before.mirror after.mirror (if rose then record { kind = kind; id = id.now } ∷ [] else [])) result }
+    ensures refuses { RefusesOn S.Store tx.old.conn.now tx.new.conn.now (gone limits.now (record { kind = kind; id = id.now })) meta.old result }
     ensures refused { IfErr result (λ refusal. IsOfStore refusal ⊎ (refusal ≡ LimitReached)) }
 {
     let key = key_at(kind, id)?;
     let rise = raise(alloc, tx, &key, &Mark::Dead)?;
-    count_keys(tx, limits, rise.added())?;
+    count_keys(limits, meta, rise.added())?;
     Ok(rise.is_raised())
 }

@@ -1,6 +1,6 @@
 //! What is kept of a key, compared with a mark.
 ghost use Rattle.std.specs.Prelude.{◌≡◌, nat_lt, ◌==◌, ◌&&◌, ◌||◌, Option, Some, option_map, string_bytes, IfOk};
-ghost use Rattle.adr_schema.specs.Canonical.{canonical_text};
+ghost use Rattle.adr_objects.specs.Canonical.{canonical_text};
 ghost use Rattle.adr_state.specs.declared.base.Mark.{Mark as Marks};
 ghost use Rattle.adr_state.specs.Marks.{is_text_below, is_below};
 ghost use Rattle.adr_db.specs.Rows.{columns_row, mark_columns};
@@ -8,7 +8,7 @@ ghost use Rattle.adr_mirror.specs.Raises.{rise_of};
 
 use crate::raise::Rise;
 use adr_db::MarkColumns;
-use adr_schema::{Body, canonical};
+use adr_objects::{Body, canonical};
 use adr_state::Mark;
 use adr_text::Moment;
 use std::alloc::{AllocError, Global};

@@ -2,9 +2,8 @@
 ghost use Rattle.std.specs.Prelude.{◌≡◌, IfErr};
 ghost use Rattle.adr_sql.specs.Calls.{Stays};
 ghost use Rattle.adr_state.specs.Keys.{mirror_cmp, at};
-ghost use Rattle.adr_db.specs.Calls.{IsOfStore};
+ghost use Rattle.adr_db.specs.Calls.{Turns, IsOfStore};
 ghost use Rattle.adr_mirror.specs.Raises.{is_raised, added_by, rise_of, with_raised};
-ghost use Rattle.adr_db.specs.BaseCalls.{Turns};
 
 use crate::known::rise_of;
 use adr_db::{put_mark, read_mark};

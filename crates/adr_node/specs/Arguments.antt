@@ -1,6 +1,6 @@
 -- The program's arguments: `script`, and then limits as `NAME=NUMBER`.
 use Rattle.std.specs.Prelude.{ℕ, nat_le, List, [], ◌∷◌, length, codes, bytes_eq, Option, Some, None, option_and_then, if◌then◌else◌}
-use Rattle.adr_machine.specs.Digits.{most_number, number_within}
+use Rattle.adr_state.specs.Digits.{most_number, number_within}
 use Rattle.adr_state.specs.Limits.{largest, limits_set}
 use Rattle.adr_state.specs.declared.limits.Limits.{Limits}
 use Rattle.adr_script.specs.Cuts.{cut}

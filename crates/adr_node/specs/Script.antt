@@ -5,7 +5,7 @@ use Rattle.adr_state.specs.declared.state.State.{State}
 use Rattle.adr_state.specs.declared.limits.Limits.{Limits}
 use Rattle.adr_state.specs.declared.limits.Settings.{Settings}
 use Rattle.adr_script.specs.Lines.{lines_of}
-use Rattle.adr_script.specs.Scripts.{Runs, Stops}
+use Rattle.adr_script.specs.Scripts.{RunsScript, StopsScript}
 
 -- what the program is set to: the name under which it reports, and the limits of its arguments
 abbrev pub settings_of : Limits → Settings
@@ -13,8 +13,8 @@ settings_of limits = record { client = codes "aggregator"; limits = limits }
 
 -- from the empty state, all the lines of a text were taken, and what they print, n lines, is written
 abbrev pub RunsFromEmpty : Limits → List ℕ → Option (List ℕ) → Option (List ℕ) → ℕ → Type 0
-RunsFromEmpty limits text old new n = (t : State) × Runs (settings_of limits) empty (lines_of text) t old new 0 n
+RunsFromEmpty limits text old new n = (t : State) × RunsScript (settings_of limits) empty (lines_of text) t old new 0 n
 
 -- from the empty state, the first lines of a text were taken, and a part of what they print is written
 abbrev pub StopsFromEmpty : Limits → List ℕ → Option (List ℕ) → Option (List ℕ) → Type 0
-StopsFromEmpty limits text old new = (t : State) × Stops (settings_of limits) empty (lines_of text) t old new
+StopsFromEmpty limits text old new = (t : State) × StopsScript (settings_of limits) empty (lines_of text) t old new

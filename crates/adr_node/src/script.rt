@@ -31,10 +31,10 @@ fn run_from_empty<S: Source, W: Sink>(
     ensures read_fault { result ≡ Err fault.Read → (S.failed source.new ≡ S.failed source.old + 1) ⊎ (S.calls source.new ≡ S.calls source.old + MOST_READS) }
     ensures write_fault { result ≡ Err fault.Write → W.failed sink.new ≡ W.failed sink.old + 1 }
     ensures reads { S.calls source.new ≤ S.calls source.old + MOST_READS }
-    ensures long_line { IfSome (S.left source.old) (λ text. result ≡ Err fault.LineTooLong → HasLongLine [] text) }
-    ensures long_script { IfSome (S.left source.old) (λ text. result ≡ Err fault.ScriptTooLong → HasManyLines 0 [] text) }
-    ensures short_lines { OnOk result (IfSome (S.left source.old) (λ text. ¬ HasLongLine [] text)) }
-    ensures few_lines { OnOk result (IfSome (S.left source.old) (λ text. ¬ HasManyLines 0 [] text)) }
+    ensures long_line { IfSome (S.left source.old) (λ text. result ≡ Err fault.LineTooLong → HasLongLine text) }
+    ensures long_script { IfSome (S.left source.old) (λ text. result ≡ Err fault.ScriptTooLong → HasManyLines text) }
+    ensures short_lines { OnOk result (IfSome (S.left source.old) (λ text. ¬ HasLongLine text)) }
+    ensures few_lines { OnOk result (IfSome (S.left source.old) (λ text. ¬ HasManyLines text)) }
 {
     let Ok(client) = Name::new(alloc, CLIENT) else {
         return Err(ScriptFault::OutOfMemory);

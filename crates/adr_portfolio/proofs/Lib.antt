@@ -1,6 +1,3 @@
-pub mod Refusals
-pub mod Taken
-pub mod Vens
-pub mod Shares
-pub mod Under
+pub mod NameLemmas
+pub mod Decisions
 pub mod Sharing

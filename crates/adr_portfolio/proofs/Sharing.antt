@@ -7,22 +7,21 @@ use Rattle.std.proofs.lemmas.Cmp.{nat_cmp_total}
 use Rattle.sqlite_trees.specs.Tree.{IsAscending}
 use Rattle.sqlite_trees.proofs.ListLemmas.{all_weaker, ascending_weaker, ascending_from_map}
 use Rattle.sqlite.specs.State.{State}
-use Rattle.adr_schema.specs.declared.body.EventBody.{EventBody}
-use Rattle.adr_state.specs.declared.base.Base.{Base}
-use Rattle.adr_state.specs.declared.base.Resource.{Resource}
-use Rattle.adr_state.specs.declared.base.Ven.{Ven}
+use Rattle.adr_objects.specs.declared.body.EventBody.{EventBody}
+use Rattle.adr_state.specs.declared.portfolio.Resource.{Resource}
+use Rattle.adr_state.specs.declared.portfolio.Ven.{Ven}
 use Rattle.adr_state.specs.declared.keys.ShareKey.{ShareKey}
 use Rattle.adr_state.specs.declared.participants.Participant.{Participant}
 use Rattle.adr_state.specs.Keys.{id_cmp, share_cmp, at}
-use Rattle.adr_state.specs.Participants.{is_for, sharing, participant_of, participants}
+use Rattle.adr_state.specs.Participants.{is_for, as_participant, participant_of, participants}
 use Rattle.adr_sql.specs.Keys.{key_order}
 use Rattle.adr_sql.proofs.Keys.{ties, then_eq}
 use Rattle.adr_sql.proofs.Maps.{text_same}
 use Rattle.adr_db.specs.Rows.{share_row}
-use Rattle.adr_db.specs.Bases.{kept_of, HoldsBase}
+use Rattle.adr_db.specs.Kept.{Kept, Keeps}
 use Rattle.adr_db.specs.Sharing.{is_in, sharers}
 use Rattle.adr_db.proofs.Rows.{share_codec, number_same_is}
-use Rattle.adr_db.proofs.Sharing.{resources_rise}
+use Rattle.adr_db.proofs.Rises.{resources_rise, shares_rise}
 use Rattle.adr_portfolio.specs.Parts.{parts_of, part_of, parts_for}
 
 -- ---- lists
@@ -161,29 +160,24 @@ module _ (program : List ℕ) where
 
 -- ---- the participants
 
-module _ (base : Base) (event : EventBody) where
+module _ (kept : Kept) (event : EventBody) where
   abbrev sharing_as : ℕ → Resource → ℕ → Option Participant
-  sharing_as n resource weight = option_map (λ (ven : Ven). record { resource = n; weight = weight; name = resource.name; ven_name = ven.name }) (at nat_cmp resource.ven base.vens)
-
-  shares_rise : (s : State) → HoldsBase base s → IsAscending (λ a b. share_cmp a.0 b.0 ≡ Less) base.shares
-  shares_rise s was =
-      ascending_weaker _ (λ a b. share_cmp a.0 b.0 ≡ Less) (λ (a b : ShareKey × ℕ) (h : key_order 2 (share_row a) (share_row b) ≡ Less). sym (share_codec.keyed a.0 a.1 b) ∙ h) base.shares
-      (ascending_from_map (λ a b. key_order 2 a b ≡ Less) share_row base.shares was.rows.each.1.1.1.1.1.0.rising)
+  sharing_as n resource weight = option_map (λ (ven : Ven). record { resource = n; weight = weight; name = resource.name; ven_name = ven.name }) (at nat_cmp resource.ven kept.portfolio.vens)
 
   -- those who share in the program, whether they are looked up by resource or by share
-  sharers_are : (s : State) → HoldsBase base s → filter_map (sharing base event.program) base.resources ≡ sharers event.program (kept_of base)
+  sharers_are : (s : State) → Keeps kept s → filter_map (as_participant kept.portfolio event.program) kept.portfolio.resources ≡ sharers event.program kept
   sharers_are s was =
-      ap (λ (h : ℕ × Resource → Option Participant). filter_map h base.resources) (λ i r. option_and_then (sharing_as r.0 r.1) (at_is event.program r.0 base.shares i))
-      ∙ both_ways sharing_as base.resources (shares_in event.program base.shares) (resources_rise (kept_of base) s was) (in_rise event.program base.shares (shares_rise s was))
-      ∙ filter_map-map _ (part event.program) (filter (is_in event.program) base.shares)
+      ap (λ (h : ℕ × Resource → Option Participant). filter_map h kept.portfolio.resources) (λ i r. option_and_then (sharing_as r.0 r.1) (at_is event.program r.0 kept.portfolio.shares i))
+      ∙ both_ways sharing_as kept.portfolio.resources (shares_in event.program kept.portfolio.shares) (resources_rise kept s was) (in_rise event.program kept.portfolio.shares (shares_rise kept s was))
+      ∙ filter_map-map _ (part event.program) (filter (is_in event.program) kept.portfolio.shares)
 
   -- a resource with its share and its ven, where it has them
   abbrev shared : ℕ × Resource → Option ℕ → Option Ven → Option Participant
   shared r weight ven = option_and_then (λ (w : ℕ). option_map (λ (v : Ven). record { resource = r.0; weight = w; name = r.1.name; ven_name = v.name }) ven) weight
 
   -- its part, with its name tested before or behind
-  part_is : (r : ℕ × Resource) → option_map (λ (p : Participant). (p.resource, p.weight)) (participant_of base event r) ≡ option_and_then (part_of event.resource_names) (sharing base event.program r)
-  part_is r = by (is_for event.resource_names r.1.name) refl (at share_cmp (record { program = event.program; resource = r.0 }) base.shares) (at nat_cmp r.1.ven base.vens)
+  part_is : (r : ℕ × Resource) → option_map (λ (p : Participant). (p.resource, p.weight)) (participant_of kept.portfolio event r) ≡ option_and_then (part_of event.resource_names) (as_participant kept.portfolio event.program r)
+  part_is r = by (is_for event.resource_names r.1.name) refl (at share_cmp (record { program = event.program; resource = r.0 }) kept.portfolio.shares) (at nat_cmp r.1.ven kept.portfolio.vens)
     where
       by : (b : Bool) → is_for event.resource_names r.1.name ≡ b → (weight : Option ℕ) (ven : Option Ven)
           → option_map (λ (p : Participant). (p.resource, p.weight)) (cond b (shared r weight ven) None) ≡ option_and_then (part_of event.resource_names) (shared r weight ven)
@@ -194,9 +188,9 @@ module _ (base : Base) (event : EventBody) where
       by false is (Some w) None = refl
       by false is (Some w) (Some v) = rw is refl
 
-  pub parts_are : (s : State) → HoldsBase base s → parts_of (participants base event) ≡ parts_for event.resource_names (sharers event.program (kept_of base))
+  pub parts_are : (s : State) → Keeps kept s → parts_of (participants kept.portfolio event) ≡ parts_for event.resource_names (sharers event.program kept)
   parts_are s was =
-      map-filter_map (λ (p : Participant). (p.resource, p.weight)) (participant_of base event) base.resources
-      ∙ ap (λ (h : ℕ × Resource → Option (ℕ × ℕ)). filter_map h base.resources) (λ i r. part_is r i)
-      ∙ sym (filter_map-filter_map (part_of event.resource_names) (sharing base event.program) base.resources)
+      map-filter_map (λ (p : Participant). (p.resource, p.weight)) (participant_of kept.portfolio event) kept.portfolio.resources
+      ∙ ap (λ (h : ℕ × Resource → Option (ℕ × ℕ)). filter_map h kept.portfolio.resources) (λ i r. part_is r i)
+      ∙ sym (filter_map-filter_map (part_of event.resource_names) (as_participant kept.portfolio event.program) kept.portfolio.resources)
       ∙ ap (filter_map (part_of event.resource_names)) (sharers_are s was)

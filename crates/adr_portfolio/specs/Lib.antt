@@ -1,4 +1,4 @@
-pub mod Checks
-pub mod Calls
+pub mod Found
+pub mod Weights
 pub mod Parts
 pub mod Refusals

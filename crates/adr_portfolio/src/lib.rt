@@ -1,7 +1,6 @@
 //! Vens, their resources and shares, in the tables, on a lent transaction.
 #![tactic(auto)]
 
-mod draw;
 mod names;
 mod participant;
 mod resource;

@@ -2,7 +2,7 @@
 ghost use Rattle.std.specs.Prelude.{◌≡◌, ◌==◌, not};
 ghost use Rattle.std.specs.List.{list_any};
 
-use adr_schema::Number;
+use adr_objects::Number;
 
 /// Whether another number than this is among them.
 pub(crate) fn is_another_there(number: Number, numbers: &[Number]) -> bool

@@ -1,13 +1,12 @@
 //! Who takes part in an event, from the tables.
-ghost use Rattle.std.specs.Prelude.{◌≡◌, Ok, IfOk, IfErr};
+ghost use Rattle.std.specs.Prelude.{◌≡◌, IfOk, IfErr};
 ghost use Rattle.adr_state.specs.Participants.{participants};
 ghost use Rattle.adr_sql.specs.Calls.{Stays};
-ghost use Rattle.adr_db.specs.Calls.{IsOfStore};
-ghost use Rattle.adr_db.specs.BaseCalls.{Tells};
+ghost use Rattle.adr_db.specs.Calls.{Finds, IsOfStore};
 ghost use Rattle.adr_portfolio.specs.Parts.{part_of, parts_for, parts_of};
 
 use adr_db::read_sharers;
-use adr_schema::{EventBody, NameSet, Number};
+use adr_objects::{EventBody, NameSet, Number};
 use adr_state::{Participant, Weight, is_for, push_some};
 use adr_text::{Refusal, Rows};
 use sqlite::{Alter, Transaction};
@@ -49,7 +48,7 @@ pub fn participants<S: Alter>(
 ) -> Result<Rows<(Number, Weight)>, Refusal>
     ensures same_reference { tx.new.conn.ghost_name ≡ tx.old.conn.ghost_name }
     ensures stays { Stays S.Store tx.old.conn.now tx.new.conn.now result }
-    ensures tells { Tells S.Store tx.old.conn.now tx.new.conn.now (λ base. Ok (parts_of (participants base event.now))) result }
+    ensures finds { Finds S.Store tx.old.conn.now tx.new.conn.now (λ kept parts. parts ≡ parts_of (participants kept.portfolio event.now)) result }
     ensures refused { IfErr result IsOfStore }
 {
     let sharers = read_sharers(alloc, tx, &event.program)?;

@@ -1,30 +1,20 @@
 //! Resources are added to a ven, renamed and removed.
-ghost use Rattle.std.specs.Prelude.{◌≡◌, nat_le, length, Ok, Some, IfOk, IfErr, [], ◌∷◌};
-ghost use Rattle.adr_text.specs.declared.refusal.Refusal.TheVariants.{NotFound, Conflict, LimitReached, Exhausted};
+ghost use Rattle.std.specs.Prelude.{◌≡◌, ◌==◌, ◌&&◌, Some, IfOk, IfErr, [], ◌∷◌, is_some, option_and_then, if◌then◌else◌};
+ghost use Rattle.adr_text.specs.declared.refusal.Refusal.TheVariants.{NotFound, Conflict, LimitReached};
+ghost use Rattle.adr_state.specs.Stamping.{modified_at};
+ghost use Rattle.adr_state.specs.Resources.{resource_under, resource_object, resource_add, resource_put, resource_remove};
 ghost use Rattle.adr_sql.specs.Calls.{Stays};
-ghost use Rattle.sqlite.specs.Held.{state};
-ghost use Rattle.sqlite.specs.State.{HasCleanDisk};
-ghost use Rattle.adr_state.specs.declared.base.Base.{Base};
-ghost use Rattle.adr_db.specs.Bases.{HoldsBase};
 ghost use Rattle.adr_db.specs.Calls.{Finds, IsOfStore};
-ghost use Rattle.adr_machine.specs.Portfolio.{resource_row_under, resource_again, resource_object};
-ghost use Rattle.adr_machine.specs.declared.answer.Answer.TheVariants as answer;
-ghost use Rattle.adr_machine.specs.declared.answer.Object.TheVariants as object;
-ghost use Rattle.adr_machine.specs.Edits.{has_resource, has_other_resource, resource_of_ven, resource_renamed, resource_removed};
-ghost use Rattle.adr_machine.specs.Roles.{ven_at};
-ghost use Rattle.adr_db.specs.BaseCalls.{Makes, Refuses};
-ghost use Rattle.adr_portfolio.specs.Checks.{new_resource, found_under};
+ghost use Rattle.adr_db.specs.BaseCalls.{Carries, Refuses};
 ghost use Rattle.adr_portfolio.specs.Refusals.{IsOneOf};
-ghost use Rattle.adr_portfolio.specs.Calls.{RefusesBy};
+ghost use Rattle.adr_portfolio.specs.Found.{found_under};
 
-use crate::draw::draw;
 use crate::names::is_another_there;
 use adr_db::{
     count_resources, put_resource, read_resource, read_resources_named, read_ven, remove_resource,
 };
-use adr_machine::number_of;
-use adr_schema::{Number, ResourceName, ResourceObject, Stamps};
-use adr_state::{Limits, Resource};
+use adr_objects::{Number, ResourceName, ResourceObject};
+use adr_state::{Limits, Resource, check_free, check_new, fresh, modified_at, number_in};
 use adr_text::{Moment, ObjectId, Refusal};
 use sqlite::{Alter, Transaction};
 use std::alloc::{AllocError, Global};
@@ -35,118 +25,54 @@ fn copy_of(name: &ResourceName) -> Result<ResourceName, AllocError>
     name.clone()
 }
 
-/// Whether a resource has the name.
-fn is_taken<S: Alter>(
-    alloc: Global,
-    tx: &mut Transaction<'_, S>,
-    name: &ResourceName,
-) -> Result<bool, Refusal>
-    ensures same_reference { tx.new.conn.ghost_name ≡ tx.old.conn.ghost_name }
-    ensures stays { Stays S.Store tx.old.conn.now tx.new.conn.now result }
-    ensures finds { Finds S.Store tx.old.conn.now tx.new.conn.now (λ kept taken. taken ≡ has_resource name.now kept.resources) result }
-    ensures refused { IfErr result IsOfStore }
+fn shown(alloc: Global, number: Number, resource: &Resource) -> Result<ResourceObject, AllocError>
+    ensures { IfOk result (λ object. object ≡ resource_object (number, resource.now)) }
 {
-    let numbers = read_resources_named(alloc, tx, name)?;
-    Ok(!numbers.is_empty())
-}
-
-/// Whether there is no room for one more.
-fn is_full<S: Alter>(tx: &mut Transaction<'_, S>, limits: &Limits) -> Result<bool, Refusal>
-    ensures same_reference { tx.new.conn.ghost_name ≡ tx.old.conn.ghost_name }
-    ensures stays { Stays S.Store tx.old.conn.now tx.new.conn.now result }
-    ensures finds { Finds S.Store tx.old.conn.now tx.new.conn.now (λ kept full. full ≡ nat_le limits.now.resources (length kept.resources)) result }
-    ensures refused { IfErr result IsOfStore }
-{
-    let count = count_resources(tx)?;
-    Ok(limits.resources.get() <= count)
-}
-
-/// Refuses a name that is taken, and then a resource beyond the limit.
-fn check_new<S: Alter>(
-    alloc: Global,
-    tx: &mut Transaction<'_, S>,
-    limits: &Limits,
-    name: &ResourceName,
-) -> Result<(), Refusal>
-    ensures same_reference { tx.new.conn.ghost_name ≡ tx.old.conn.ghost_name }
-    ensures stays { Stays S.Store tx.old.conn.now tx.new.conn.now result }
-    ensures finds { Finds S.Store tx.old.conn.now tx.new.conn.now (λ kept _. new_resource limits.now name.now kept.resources ≡ Ok tt) result }
-    ensures refuses { RefusesBy S.Store tx.old.conn.now tx.new.conn.now (λ kept. new_resource limits.now name.now kept.resources) result }
-    ensures refused { IfErr result (IsOneOf (Conflict ∷ LimitReached ∷ [])) }
-{
-    let taken = is_taken(alloc, tx, name)?;
-    if taken {
-        return Err(Refusal::Conflict);
-    }
-    let full = is_full(tx, limits)?;
-    if full {
-        return Err(Refusal::LimitReached);
-    }
-    Ok(())
-}
-
-/// Adds a resource to the ven of a number.
-fn add_to<S: Alter>(
-    alloc: Global,
-    tx: &mut Transaction<'_, S>,
-    limits: &Limits,
-    now: Moment,
-    ven: Number,
-    name: &ResourceName,
-) -> Result<ResourceObject, Refusal>
-    ensures same_reference { tx.new.conn.ghost_name ≡ tx.old.conn.ghost_name }
-    ensures stays { Stays S.Store tx.old.conn.now tx.new.conn.now result }
-    ensures makes { Makes S.Store tx.old.conn.now tx.new.conn.now (λ base. resource_of_ven limits.now now base (Some ven) name.now) (λ _ said _ resource. said ≡ Some (answer.Object (object.Resource resource))) result }
-    ensures refuses { Refuses S.Store tx.old.conn.now tx.new.conn.now (λ base. resource_of_ven limits.now now base (Some ven) name.now) result }
-    ensures refused { IfErr result (IsOneOf (Exhausted ∷ Conflict ∷ LimitReached ∷ [])) }
-{
-    check_new(alloc, tx, limits, name)?;
-    let number = draw(tx, limits)?;
-    let stamps = Stamps {
-        created: now,
-        modified: now,
-    };
-    let resource = Resource {
-        ven,
-        name: copy_of(name)?,
-        stamps,
-    };
-    put_resource(tx, number, &resource)?;
     Ok(ResourceObject {
         number,
-        ven,
-        name: name.as_name().copy(alloc)?,
-        stamps,
+        ven: resource.ven,
+        name: resource.name.as_name().copy(alloc)?,
+        stamps: resource.stamps,
     })
 }
 
-/// Adds a resource to the ven of an id, under the next number. Refused with `NotFound` where the ven isn't
-/// there, then with `Conflict` where the name is taken, `LimitReached` and `Exhausted`.
+/// Adds a resource to the ven of an id, under the number that is handed in. Refused with `NotFound` where the
+/// ven isn't there, then with `Conflict` where the name is taken, and with `LimitReached`.
 pub fn resource_add<S: Alter>(
     alloc: Global,
     tx: &mut Transaction<'_, S>,
     limits: &Limits,
     now: Moment,
+    number: Number,
     ven: &ObjectId,
     name: &ResourceName,
 ) -> Result<ResourceObject, Refusal>
     ensures same_reference { tx.new.conn.ghost_name ≡ tx.old.conn.ghost_name }
     ensures stays { Stays S.Store tx.old.conn.now tx.new.conn.now result }
-    ensures makes { Makes S.Store tx.old.conn.now tx.new.conn.now (λ base. resource_of_ven limits.now now base (ven_at ven.now base) name.now) (λ _ said _ resource. said ≡ Some (answer.Object (object.Resource resource))) result }
-    ensures refuses { Refuses S.Store tx.old.conn.now tx.new.conn.now (λ base. resource_of_ven limits.now now base (ven_at ven.now base) name.now) result }
-    ensures refused { IfErr result (IsOneOf (NotFound ∷ Exhausted ∷ Conflict ∷ LimitReached ∷ [])) }
+    ensures carries { Carries S.Store tx.old.conn.now tx.new.conn.now (resource_add limits.now now number ven.now name.now) result }
+    ensures refuses { Refuses S.Store tx.old.conn.now tx.new.conn.now (λ kept. resource_add limits.now now number ven.now name.now kept.portfolio) result }
+    ensures refused { IfErr result (IsOneOf (NotFound ∷ Conflict ∷ LimitReached ∷ [])) }
 {
-    let Some(number) = number_of(b'v', ven) else {
+    let Some(ven) = number_in(b'v', ven) else {
         return Err(Refusal::NotFound);
     };
-    let Some(_) = read_ven(alloc, tx, number)? else {
+    let Some(_) = read_ven(alloc, tx, ven)? else {
         return Err(Refusal::NotFound);
     };
-    add_to(alloc, tx, limits, now, number, name)
+    let named = read_resources_named(alloc, tx, name)?;
+    let count = count_resources(tx)?;
+    check_new(!named.is_empty(), limits.resources.get() <= count)?;
+    let resource = Resource {
+        ven,
+        name: copy_of(name)?,
+        stamps: fresh(now),
+    };
+    put_resource(tx, number, &resource)?;
+    Ok(shown(alloc, number, &resource)?)
 }
 
 /// The resource of an id with its number, where it belongs to the ven of the other id.
-fn row_under<S: Alter>(
+fn read_under<S: Alter>(
     alloc: Global,
     tx: &mut Transaction<'_, S>,
     ven: &ObjectId,
@@ -154,13 +80,13 @@ fn row_under<S: Alter>(
 ) -> Result<Option<(Number, Resource)>, Refusal>
     ensures same_reference { tx.new.conn.ghost_name ≡ tx.old.conn.ghost_name }
     ensures stays { Stays S.Store tx.old.conn.now tx.new.conn.now result }
-    ensures tells { HasCleanDisk (state S.Store tx.new.conn.now) → IfOk result (λ row. (base : Base) → HoldsBase base (state S.Store tx.old.conn.now) → (row ≡ resource_row_under ven.now id.now base) × HoldsBase base (state S.Store tx.new.conn.now)) }
+    ensures finds { Finds S.Store tx.old.conn.now tx.new.conn.now (λ kept found. found ≡ resource_under ven.now id.now kept.portfolio) result }
     ensures refused { IfErr result IsOfStore }
 {
-    let Some(number) = number_of(b'r', id) else {
+    let Some(number) = number_in(b'r', id) else {
         return Ok(None);
     };
-    let Some(owner) = number_of(b'v', ven) else {
+    let Some(owner) = number_in(b'v', ven) else {
         return Ok(None);
     };
     let found = read_ven(alloc, tx, owner)?;
@@ -184,16 +110,42 @@ fn under(
     Some((number, found))
 }
 
-fn object_of(alloc: Global, number: Number, resource: &Resource) -> Result<ResourceObject, Refusal>
-    ensures object { IfOk result (λ shown. object.Resource shown ≡ resource_object (number, resource.now)) }
-    ensures refused { IfErr result IsOfStore }
+fn renamed(now: Moment, name: &ResourceName, resource: &Resource) -> Result<Resource, AllocError>
+    ensures { IfOk result (λ again. again ≡ record { ven = resource.now.ven; name = name.now; stamps = modified_at now resource.now.stamps }) }
 {
-    Ok(ResourceObject {
-        number,
+    Ok(Resource {
         ven: resource.ven,
-        name: resource.name.as_name().copy(alloc)?,
-        stamps: resource.stamps,
+        name: name.clone()?,
+        stamps: modified_at(now, resource.stamps),
     })
+}
+
+/// Gives a resource of a ven its name anew: it stays with its ven, keeps when it was created, and was
+/// modified now. Refused with `NotFound` where it isn't there, or belongs to another ven, and with `Conflict`
+/// where another resource has the name.
+pub fn resource_put<S: Alter>(
+    alloc: Global,
+    tx: &mut Transaction<'_, S>,
+    now: Moment,
+    ven: &ObjectId,
+    id: &ObjectId,
+    name: &ResourceName,
+) -> Result<ResourceObject, Refusal>
+    ensures same_reference { tx.new.conn.ghost_name ≡ tx.old.conn.ghost_name }
+    ensures stays { Stays S.Store tx.old.conn.now tx.new.conn.now result }
+    ensures carries { Carries S.Store tx.old.conn.now tx.new.conn.now (resource_put now ven.now id.now name.now) result }
+    ensures refuses { Refuses S.Store tx.old.conn.now tx.new.conn.now (λ kept. resource_put now ven.now id.now name.now kept.portfolio) result }
+    ensures refused { IfErr result (IsOneOf (NotFound ∷ Conflict ∷ [])) }
+{
+    let Some(row) = read_under(alloc, tx, ven, id)? else {
+        return Err(Refusal::NotFound);
+    };
+    let number = row.0;
+    let named = read_resources_named(alloc, tx, name)?;
+    check_free(is_another_there(number, named.as_slice()))?;
+    let resource = renamed(now, name, &row.1)?;
+    put_resource(tx, number, &resource)?;
+    Ok(shown(alloc, number, &resource)?)
 }
 
 /// Removes a resource of a ven with its shares, and answers the resource that went. Refused with `NotFound`
@@ -206,73 +158,14 @@ pub fn resource_remove<S: Alter>(
 ) -> Result<ResourceObject, Refusal>
     ensures same_reference { tx.new.conn.ghost_name ≡ tx.old.conn.ghost_name }
     ensures stays { Stays S.Store tx.old.conn.now tx.new.conn.now result }
-    ensures makes { Makes S.Store tx.old.conn.now tx.new.conn.now (λ base. resource_removed base (resource_row_under ven.now id.now base)) (λ _ said _ resource. said ≡ Some (answer.Object (object.Resource resource))) result }
-    ensures refuses { Refuses S.Store tx.old.conn.now tx.new.conn.now (λ base. resource_removed base (resource_row_under ven.now id.now base)) result }
+    ensures carries { Carries S.Store tx.old.conn.now tx.new.conn.now (resource_remove ven.now id.now) result }
+    ensures refuses { Refuses S.Store tx.old.conn.now tx.new.conn.now (λ kept. resource_remove ven.now id.now kept.portfolio) result }
     ensures refused { IfErr result (IsOneOf (NotFound ∷ [])) }
 {
-    let Some(row) = row_under(alloc, tx, ven, id)? else {
+    let Some(row) = read_under(alloc, tx, ven, id)? else {
         return Err(Refusal::NotFound);
     };
     let number = row.0;
     remove_resource(tx, number)?;
-    object_of(alloc, number, &row.1)
-}
-
-/// Whether another resource than that of the number has the name.
-fn is_taken_by_another<S: Alter>(
-    alloc: Global,
-    tx: &mut Transaction<'_, S>,
-    number: Number,
-    name: &ResourceName,
-) -> Result<bool, Refusal>
-    ensures same_reference { tx.new.conn.ghost_name ≡ tx.old.conn.ghost_name }
-    ensures stays { Stays S.Store tx.old.conn.now tx.new.conn.now result }
-    ensures finds { Finds S.Store tx.old.conn.now tx.new.conn.now (λ kept taken. taken ≡ has_other_resource number name.now kept.resources) result }
-    ensures refused { IfErr result IsOfStore }
-{
-    let numbers = read_resources_named(alloc, tx, name)?;
-    Ok(is_another_there(number, numbers.as_slice()))
-}
-
-fn again_of(now: Moment, name: &ResourceName, resource: &Resource) -> Result<Resource, AllocError>
-    ensures { IfOk result (λ again. again ≡ resource_again now name.now resource.now) }
-{
-    Ok(Resource {
-        ven: resource.ven,
-        name: copy_of(name)?,
-        stamps: Stamps {
-            created: resource.stamps.created,
-            modified: now,
-        },
-    })
-}
-
-/// Gives a resource of a ven its name anew: it keeps when it was created, and was modified now. Refused with
-/// `NotFound` where it isn't there, or belongs to another ven, and with `Conflict` where another resource has
-/// the name.
-pub fn resource_put<S: Alter>(
-    alloc: Global,
-    tx: &mut Transaction<'_, S>,
-    now: Moment,
-    ven: &ObjectId,
-    id: &ObjectId,
-    name: &ResourceName,
-) -> Result<ResourceObject, Refusal>
-    ensures same_reference { tx.new.conn.ghost_name ≡ tx.old.conn.ghost_name }
-    ensures stays { Stays S.Store tx.old.conn.now tx.new.conn.now result }
-    ensures makes { Makes S.Store tx.old.conn.now tx.new.conn.now (λ base. resource_renamed now base (resource_row_under ven.now id.now base) name.now) (λ _ said _ resource. said ≡ Some (answer.Object (object.Resource resource))) result }
-    ensures refuses { Refuses S.Store tx.old.conn.now tx.new.conn.now (λ base. resource_renamed now base (resource_row_under ven.now id.now base) name.now) result }
-    ensures refused { IfErr result (IsOneOf (NotFound ∷ Conflict ∷ [])) }
-{
-    let Some(row) = row_under(alloc, tx, ven, id)? else {
-        return Err(Refusal::NotFound);
-    };
-    let number = row.0;
-    let taken = is_taken_by_another(alloc, tx, number, name)?;
-    if taken {
-        return Err(Refusal::Conflict);
-    }
-    let again = again_of(now, name, &row.1)?;
-    put_resource(tx, number, &again)?;
-    object_of(alloc, number, &again)
+    Ok(shown(alloc, number, &row.1)?)
 }

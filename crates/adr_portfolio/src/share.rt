@@ -1,54 +1,38 @@
 //! Shares of resources in programs are set.
-ghost use Rattle.std.specs.Prelude.{◌≡◌, ◌≤◌, Ok, Some, IfOk, [], ◌∷◌, IfErr};
-ghost use Rattle.adr_state.specs.Weights.{most_weight};
+ghost use Rattle.std.specs.Prelude.{◌≡◌, ◌≤◌, IfOk, [], ◌∷◌, IfErr};
 ghost use Rattle.adr_text.specs.declared.refusal.Refusal.TheVariants.{NotFound, BadShare, LimitReached};
+ghost use Rattle.adr_state.specs.Weights.{most_weight};
+ghost use Rattle.adr_state.specs.Shares.{is_beyond, weight_set, share_of, share_set};
 ghost use Rattle.adr_sql.specs.Calls.{Stays};
-ghost use Rattle.adr_db.specs.Calls.{Finds};
-ghost use Rattle.adr_machine.specs.declared.answer.Answer.TheVariants as answer;
-ghost use Rattle.adr_machine.specs.Edits.{resource_at, share_put, share_of_resource};
-ghost use Rattle.adr_db.specs.BaseCalls.{Makes, Refuses};
-ghost use Rattle.adr_portfolio.specs.Checks.{new_share};
+ghost use Rattle.adr_db.specs.Calls.{Finds, IsOfStore};
+ghost use Rattle.adr_db.specs.BaseCalls.{Carries, Refuses};
 ghost use Rattle.adr_portfolio.specs.Refusals.{IsOneOf};
-ghost use Rattle.adr_portfolio.specs.Calls.{RefusesBy, Sets};
+ghost use Rattle.adr_portfolio.specs.Weights.{Sets};
 
 use adr_db::{count_shares, put_share, read_resource, read_share, remove_share};
-use adr_machine::number_of;
-use adr_schema::{Number, ShareObject};
-use adr_state::{Limits, ShareKey, Weight};
+use adr_objects::ShareObject;
+use adr_state::{Limits, ShareKey, Weight, number_in};
 use adr_text::{ObjectId, Refusal};
 use sqlite::{Alter, Transaction};
-use std::alloc::{AllocError, Global};
+use std::alloc::Global;
 
-fn key_at(program: &ObjectId, resource: Number) -> Result<ShareKey, AllocError>
-    ensures { IfOk result (λ key. key ≡ record { program = program.now; resource = resource }) }
-{
-    Ok(ShareKey {
-        program: program.clone()?,
-        resource,
-    })
-}
-
-/// Refuses a new share beyond the limit.
-fn check_new<S: Alter>(
+/// Whether the share is new, and there is no room for it.
+fn is_beyond<S: Alter>(
     tx: &mut Transaction<'_, S>,
     limits: &Limits,
     key: &ShareKey,
-) -> Result<(), Refusal>
+) -> Result<bool, Refusal>
     ensures same_reference { tx.new.conn.ghost_name ≡ tx.old.conn.ghost_name }
     ensures stays { Stays S.Store tx.old.conn.now tx.new.conn.now result }
-    ensures finds { Finds S.Store tx.old.conn.now tx.new.conn.now (λ kept _. new_share limits.now key.now kept.shares ≡ Ok tt) result }
-    ensures refuses { RefusesBy S.Store tx.old.conn.now tx.new.conn.now (λ kept. new_share limits.now key.now kept.shares) result }
-    ensures refused { IfErr result (IsOneOf (LimitReached ∷ [])) }
+    ensures finds { Finds S.Store tx.old.conn.now tx.new.conn.now (λ kept beyond. beyond ≡ is_beyond limits.now key.now kept.portfolio.shares) result }
+    ensures refused { IfErr result IsOfStore }
 {
     let found = read_share(tx, key)?;
     if found.is_some() {
-        return Ok(());
+        return Ok(false);
     }
     let count = count_shares(tx)?;
-    if limits.shares.get() <= count {
-        return Err(Refusal::LimitReached);
-    }
-    Ok(())
+    Ok(limits.shares.get() <= count)
 }
 
 fn weight_of(share: u32) -> Weight
@@ -63,7 +47,7 @@ fn weight_of(share: u32) -> Weight
 }
 
 /// Puts the share, or removes it where the weight is 0.
-fn put_weight<S: Alter>(
+fn set_weight<S: Alter>(
     tx: &mut Transaction<'_, S>,
     limits: &Limits,
     key: &ShareKey,
@@ -72,39 +56,40 @@ fn put_weight<S: Alter>(
     requires { share ≤ most_weight }
     ensures same_reference { tx.new.conn.ghost_name ≡ tx.old.conn.ghost_name }
     ensures stays { Stays S.Store tx.old.conn.now tx.new.conn.now result }
-    ensures sets { Sets S.Store tx.old.conn.now tx.new.conn.now (λ base. share_put limits.now base key.now share) result }
-    ensures refuses { Refuses S.Store tx.old.conn.now tx.new.conn.now (λ base. share_put limits.now base key.now share) result }
+    ensures sets { Sets S.Store tx.old.conn.now tx.new.conn.now (weight_set limits.now key.now share) result }
+    ensures refuses { Refuses S.Store tx.old.conn.now tx.new.conn.now (λ kept. weight_set limits.now key.now share kept.portfolio) result }
     ensures refused { IfErr result (IsOneOf (LimitReached ∷ [])) }
 {
     if share == 0 {
         return remove_share(tx, key);
     }
-    check_new(tx, limits, key)?;
+    let beyond = is_beyond(tx, limits, key)?;
+    if beyond {
+        return Err(Refusal::LimitReached);
+    }
     put_share(tx, key, weight_of(share))
 }
 
-/// Sets the share of the resource of a number.
+/// Sets the share of a key.
 fn set_of<S: Alter>(
     tx: &mut Transaction<'_, S>,
     limits: &Limits,
-    program: &ObjectId,
-    resource: Number,
+    key: ShareKey,
     share: u32,
 ) -> Result<ShareObject, Refusal>
     ensures same_reference { tx.new.conn.ghost_name ≡ tx.old.conn.ghost_name }
     ensures stays { Stays S.Store tx.old.conn.now tx.new.conn.now result }
-    ensures makes { Makes S.Store tx.old.conn.now tx.new.conn.now (λ base. share_of_resource limits.now base program.now (Some resource) share) (λ _ said _ set. said ≡ Some (answer.Share set)) result }
-    ensures refuses { Refuses S.Store tx.old.conn.now tx.new.conn.now (λ base. share_of_resource limits.now base program.now (Some resource) share) result }
+    ensures carries { Carries S.Store tx.old.conn.now tx.new.conn.now (share_of limits.now key share) result }
+    ensures refuses { Refuses S.Store tx.old.conn.now tx.new.conn.now (λ kept. share_of limits.now key share kept.portfolio) result }
     ensures refused { IfErr result (IsOneOf (BadShare ∷ LimitReached ∷ [])) }
 {
     if 1_000_000 < share {
         return Err(Refusal::BadShare);
     }
-    let key = key_at(program, resource)?;
-    put_weight(tx, limits, &key, share)?;
+    set_weight(tx, limits, &key, share)?;
     Ok(ShareObject {
         program: key.program,
-        resource,
+        resource: key.resource,
         share,
     })
 }
@@ -121,15 +106,16 @@ pub fn share_set<S: Alter>(
 ) -> Result<ShareObject, Refusal>
     ensures same_reference { tx.new.conn.ghost_name ≡ tx.old.conn.ghost_name }
     ensures stays { Stays S.Store tx.old.conn.now tx.new.conn.now result }
-    ensures makes { Makes S.Store tx.old.conn.now tx.new.conn.now (λ base. share_of_resource limits.now base program.now (resource_at resource.now base) share) (λ _ said _ set. said ≡ Some (answer.Share set)) result }
-    ensures refuses { Refuses S.Store tx.old.conn.now tx.new.conn.now (λ base. share_of_resource limits.now base program.now (resource_at resource.now base) share) result }
+    ensures carries { Carries S.Store tx.old.conn.now tx.new.conn.now (share_set limits.now program.now resource.now share) result }
+    ensures refuses { Refuses S.Store tx.old.conn.now tx.new.conn.now (λ kept. share_set limits.now program.now resource.now share kept.portfolio) result }
     ensures refused { IfErr result (IsOneOf (NotFound ∷ BadShare ∷ LimitReached ∷ [])) }
 {
-    let Some(number) = number_of(b'r', resource) else {
+    let program = program.clone()?;
+    let Some(resource) = number_in(b'r', resource) else {
         return Err(Refusal::NotFound);
     };
-    let Some(_) = read_resource(alloc, tx, number)? else {
+    let Some(_) = read_resource(alloc, tx, resource)? else {
         return Err(Refusal::NotFound);
     };
-    set_of(tx, limits, program, number, share)
+    set_of(tx, limits, ShareKey { program, resource }, share)
 }

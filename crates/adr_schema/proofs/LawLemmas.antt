@@ -1,10 +1,12 @@
 -- What a reading that went well says of what it read.
-use Rattle.std.proofs.Common.{◌≡◌, ℕ, suc, ◌+◌, Bool, true, false, cond, ◌||◌, ℤ, List, [], ◌∷◌, ◌++◌, length, codes, Option, Some, None, Result, Ok, Err, refl, sym, ap, ◌∙◌, true≢false, arith, IsTrue}
+use Rattle.std.proofs.Common.{◌≡◌, ℕ, suc, ◌+◌, Bool, true, false, cond, ℤ, List, [], ◌∷◌, ◌++◌, length, codes, Option, Some, None, Result, Ok, Err, refl, sym, ap, ◌∙◌, true≢false, arith, IsTrue}
 use Rattle.std.specs.Prelude.{All, IfSome, option_and_then, unwrap_or, filter, count_by, is_err, nat_le}
 use Rattle.std.specs.List.{AllByRecursion, filter_map, cons_option}
 use Rattle.std.specs.Result.{result_ok}
 use Rattle.std.specs.Ordering.{int_eq}
 use Rattle.std.specs.Cmp.{signed_Decides}
+use Rattle.std.proofs.lemmas.Bool.{and_parts, not-true, or_right}
+use Rattle.std.proofs.lemmas.Option.{same_Some}
 use Rattle.std.proofs.lemmas.List.Elements.{All-from_recursion}
 use Rattle.std.proofs.lemmas.List.Folds.{list_any-append}
 use Rattle.std.proofs.lemmas.List.Sums.{sum_by-cons}
@@ -13,17 +15,17 @@ use Rattle.adr_text.specs.Refusals.{◌>>=◌}
 use Rattle.adr_text.specs.Fields.{member_of, whole_of, required, optional, whole_from, id_in, i32_in}
 use Rattle.adr_text.specs.declared.fault.Fault.{Fault}
 use Rattle.adr_text.specs.declared.fault.Fault.TheVariants.{OutOfRange, Repeated, BadShape}
-use Rattle.adr_schema.specs.declared.kind.Kind.{Kind}
-use Rattle.adr_schema.specs.declared.interval.Interval.{Interval}
-use Rattle.adr_schema.specs.declared.interval.Period.{Period}
-use Rattle.adr_schema.specs.declared.body.EventBody.{EventBody}
-use Rattle.adr_schema.specs.declared.body.Found.{Found}
-use Rattle.adr_schema.specs.Limits.{is_setpoint, setpoint_at, most_intervals}
-use Rattle.adr_schema.specs.Intervals.{has_id, differ_after}
-use Rattle.adr_schema.specs.Events.{is_of_type, objects_in, text_in, priority_in, period_in, setpoint_in, typed_in, values_in, one_of, only_one, setpoint_of, setpoint_where, payloads_in, targets_in, fresh_id, interval_in, intervals_from, intervals_in, event_in}
+use Rattle.adr_objects.specs.declared.kind.Kind.{Kind}
+use Rattle.adr_objects.specs.declared.interval.Interval.{Interval}
+use Rattle.adr_objects.specs.declared.interval.Period.{Period}
+use Rattle.adr_objects.specs.declared.body.EventBody.{EventBody}
+use Rattle.adr_objects.specs.declared.body.Found.{Found}
+use Rattle.adr_objects.specs.Limits.{is_setpoint, setpoint_at, most_intervals}
+use Rattle.adr_objects.specs.Intervals.{has_id, differ_after}
+use Rattle.adr_objects.specs.Fields.{text_in, priority_in, period_in, setpoint_in}
+use Rattle.adr_schema.specs.Events.{is_of_type, objects_in, typed_in, values_in, one_of, only_one, setpoint_of, setpoint_where, payloads_in, targets_in, fresh_id, interval_in, intervals_from, intervals_in, event_in}
 use Rattle.adr_schema.specs.Pages.{found_in, founds, skipped}
 use Rattle.adr_schema.specs.Laws.{IsSmall, HaveOwnIds}
-use Rattle.adr_schema.proofs.Reading.{first_true, second_true}
 
 -- ---- a chain that went well: each of its parts did
 
@@ -87,12 +89,6 @@ pub record IsNext (before : List Interval) (i : Interval) : Type 0 where
   pub small : IsSmall i
   pub fresh : has_id i.id before ≡ false
 
-abbrev ok : {A : Type 0} → A → Result A Fault
-ok x = Ok x
-
-same_ok : {A : Type 0} (x y : A) → ok x ≡ ok y → x ≡ y
-same_ok x y h = cc
-
 abbrev interval_last : Data → ℤ → Option Period → Result Interval Fault
 interval_last d id period =
     optional (member_of (codes "payloads") d) payloads_in >>= λ payloads. Ok (record { id = id; period = period; setpoint = option_and_then (λ s. s) payloads })
@@ -106,7 +102,7 @@ interval_next before d i h =
     let id = followed (fresh_id before d) (interval_rest d) i h in
     let period = followed (optional (member_of (codes "intervalPeriod") d) period_in) (interval_last d id.first) i id.then in
     let payloads = followed (optional (member_of (codes "payloads") d) payloads_in) (λ payloads. Ok (record { id = id.first; period = period.first; setpoint = option_and_then (λ s. s) payloads })) i period.then in
-    let same = same_ok _ i payloads.then in
+    let same = same_Some _ i (ap result_ok payloads.then) in
     let asked = followed (required (member_of (codes "id") d) i32_in) (λ n. cond (has_id n before) (Err Repeated) (Ok n)) id.first id.was in
     let fresh = fresh_at asked.first before _ id.first refl asked.then in
     let small = carried_small payloads.first (optional_holds (λ s. IfSome s (λ amount. IsTrue (is_setpoint amount))) (member_of (codes "payloads") d) payloads_in payloads.first payloads_small payloads.was) in
@@ -183,38 +179,34 @@ event_read d e h =
     let targets = followed (optional (member_of (codes "targets") d) targets_in) (event_5 d program.first name.first priority.first period.first) e period.then in
     let intervals = followed (optional (member_of (codes "intervals") d) intervals_in)
     (λ intervals. Ok (record { program = program.first; name = name.first; priority = priority.first; period = period.first; resource_names = option_and_then (λ t. t) targets.first; intervals = unwrap_or intervals [] })) e targets.then in
-    with_intervals _ e intervals.then (or_none intervals.first (optional_holds (AreRead []) (member_of (codes "intervals") d) intervals_in intervals.first intervals_read intervals.was))
+    with_intervals _ e (same_Some _ e (ap result_ok intervals.then)) (or_none intervals.first (optional_holds (AreRead []) (member_of (codes "intervals") d) intervals_in intervals.first intervals_read intervals.was))
   where
-    with_intervals : (a b : EventBody) → ok a ≡ ok b → AreRead [] a.intervals → AreRead [] b.intervals
-    with_intervals a b e h = rw (← same_ok a b e) h
+    with_intervals : (a b : EventBody) → a ≡ b → AreRead [] a.intervals → AreRead [] b.intervals
+    with_intervals a b same h = rw (← same) h
 
 pub setpoints_small : (d : Data) (e : EventBody) → event_in d ≡ Ok e → All IsSmall e.intervals
 setpoints_small d e h = All-from_recursion IsSmall e.intervals (event_read d e h).small
 
 -- ---- ids of their own
 
-or_true : (a b : Bool) → b ≡ true → (a || b) ≡ true
-or_true true b h = refl
-or_true false b h = h
-
 has_last : (i : Interval) (q : List Interval) → has_id i.id (q ++ i ∷ []) ≡ true
 has_last i [] = rw ((signed_Decides i.id i.id).1 refl) refl
-has_last i (x ∷ q) = or_true (int_eq x.id i.id) _ (has_last i q)
+has_last i (x ∷ q) = or_right (int_eq x.id i.id) _ (has_last i q)
 
 has_still : (id : ℤ) (q rest : List Interval) → has_id id q ≡ true → has_id id (q ++ rest) ≡ true
 has_still id q rest h = rw (list_any-append (λ (i : Interval). int_eq i.id id) q rest, h) refl
 
 apart_later : (i j : Interval) (q between after : List Interval) → has_id i.id q ≡ true → differ_after q (between ++ j ∷ after) ≡ true → i.id ≡ j.id → ⊥
 apart_later i j q [] after seen apart same =
-    true≢false (sym seen ∙ ap (λ (id : ℤ). has_id id q) same ∙ first_true (has_id j.id q) (differ_after (q ++ j ∷ []) after) apart)
+    true≢false (sym seen ∙ ap (λ (id : ℤ). has_id id q) same ∙ not-true _ (and_parts _ _ apart).0)
 apart_later i j q (x ∷ between) after seen apart same =
-    apart_later i j (q ++ x ∷ []) between after (has_still i.id q (x ∷ []) seen) (second_true (has_id x.id q) (differ_after (q ++ x ∷ []) (between ++ j ∷ after)) apart) same
+    apart_later i j (q ++ x ∷ []) between after (has_still i.id q (x ∷ []) seen) (and_parts _ _ apart).1 same
 
 apart_from : (i j : Interval) (q before between after : List Interval) → differ_after q (before ++ i ∷ (between ++ j ∷ after)) ≡ true → i.id ≡ j.id → ⊥
 apart_from i j q [] between after apart same =
-    apart_later i j (q ++ i ∷ []) between after (has_last i q) (second_true (has_id i.id q) (differ_after (q ++ i ∷ []) (between ++ j ∷ after)) apart) same
+    apart_later i j (q ++ i ∷ []) between after (has_last i q) (and_parts _ _ apart).1 same
 apart_from i j q (x ∷ before) between after apart same =
-    apart_from i j (q ++ x ∷ []) before between after (second_true (has_id x.id q) (differ_after (q ++ x ∷ []) (before ++ i ∷ (between ++ j ∷ after))) apart) same
+    apart_from i j (q ++ x ∷ []) before between after (and_parts _ _ apart).1 same
 
 pub intervals_differ : (d : Data) (e : EventBody) → event_in d ≡ Ok e → HaveOwnIds e.intervals
 intervals_differ d e h before between after i j is same = apart_from i j [] before between after (rw is at (event_read d e h).apart) same

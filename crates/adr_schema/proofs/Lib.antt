@@ -1,6 +1,4 @@
-pub mod Plain
-pub mod Told
+pub mod NoFloats
+pub mod Refusals
 pub mod Reading
 pub mod LawLemmas
-pub mod Written
-pub mod Again

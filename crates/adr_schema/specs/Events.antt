@@ -4,15 +4,15 @@ use Rattle.std.specs.List.{list_all, list_any, flat_map}
 use Rattle.std.specs.Str.{bytes_eq}
 use Rattle.serde_json.specs.Data.{Data, null, boolean, number, string, array, object}
 use Rattle.adr_text.specs.Refusals.{◌>>=◌}
-use Rattle.adr_text.specs.Fields.{whole_of, member_of, text_of, items_in, required, optional, each, whole_from, id_in, name_in, i32_in}
+use Rattle.adr_text.specs.Fields.{member_of, text_of, items_in, required, optional, each, id_in, name_in, i32_in}
 use Rattle.adr_text.specs.declared.fault.Fault.{Fault}
 use Rattle.adr_text.specs.declared.fault.Fault.TheVariants.{NotOne, Repeated, BadShape}
-use Rattle.adr_schema.specs.declared.interval.Period.{Period}
-use Rattle.adr_schema.specs.declared.interval.Interval.{Interval}
-use Rattle.adr_schema.specs.declared.body.EventBody.{EventBody}
-use Rattle.adr_schema.specs.Limits.{text_within, setpoint_at, priority_at, most_intervals, most_names}
-use Rattle.adr_schema.specs.Intervals.{has_id}
-use Rattle.adr_schema.specs.NameSets.{name_set}
+use Rattle.adr_objects.specs.declared.interval.Interval.{Interval}
+use Rattle.adr_objects.specs.declared.body.EventBody.{EventBody}
+use Rattle.adr_objects.specs.Limits.{most_intervals}
+use Rattle.adr_objects.specs.Intervals.{has_id}
+use Rattle.adr_objects.specs.NameSets.{name_set_of}
+use Rattle.adr_objects.specs.Fields.{text_in, priority_in, setpoint_in, period_in}
 
 abbrev pub is_object : Data → Bool
 is_object null = false
@@ -27,22 +27,6 @@ unfoldable pub objects_in : Data → Result (List Data) Fault
 objects_in d = do
   ds ← items_in d
   if list_all is_object ds then Ok ds else Err BadShape
-
-unfoldable pub text_in : ℕ → Data → Result (List ℕ) Fault
-text_in most d = text_of d >>= text_within most
-
-unfoldable pub priority_in : Data → Result ℕ Fault
-priority_in d = whole_from (whole_of d) >>= priority_at
-
-unfoldable pub setpoint_in : Data → Result ℤ Fault
-setpoint_in d = whole_from (whole_of d) >>= setpoint_at
-
-unfoldable pub period_in : Data → Result Period Fault
-period_in d = do
-  start ← required (member_of (codes "start") d) (text_in 64)
-  duration ← optional (member_of (codes "duration") d) (text_in 64)
-  randomize_start ← optional (member_of (codes "randomizeStart") d) (text_in 64)
-  Ok (record { start = start; duration = duration; randomize_start = randomize_start })
 
 -- ---- payloads and targets: objects with a type
 
@@ -112,10 +96,6 @@ joined lists = flat_map (λ names. names) lists
 -- the names of these targets, in the order listed
 abbrev pub all_names : List Data → Result (List (List ℕ)) Fault
 all_names ds = each names_of_target ds >>= λ lists. Ok (joined lists)
-
--- at most 10,000 names in all, each counted as often as it is listed
-abbrev pub name_set_of : List (List ℕ) → Result (List (List ℕ)) Fault
-name_set_of names = if nat_le (length names) most_names then Ok (name_set names) else Err BadShape
 
 -- the set of the names that these targets list
 abbrev pub names_of_targets : List Data → Result (Option (List (List ℕ))) Fault

@@ -1,15 +1,8 @@
-pub mod Limits
 pub mod Bytes
 pub mod Ids
-pub mod Intervals
-pub mod NameSets
-pub mod Bodies
 pub mod Events
 pub mod Pages
 pub mod Notices
 pub mod Sites
-pub mod Canonical
-pub mod ReadBack
-pub mod Kept
 pub mod Objects
 pub mod Laws

@@ -8,8 +8,8 @@ use Rattle.adr_text.specs.Fields.{member_of, required}
 use Rattle.adr_text.specs.declared.fault.Fault.{Fault}
 use Rattle.adr_text.specs.declared.fault.Fault.TheVariants.{BadShape}
 use Rattle.adr_text.specs.declared.refusal.Refusal.{Refusal}
-use Rattle.adr_schema.specs.declared.kind.Kind.{Kind}
-use Rattle.adr_schema.specs.declared.kind.Kind.TheVariants as kind
+use Rattle.adr_objects.specs.declared.kind.Kind.{Kind}
+use Rattle.adr_objects.specs.declared.kind.Kind.TheVariants as kind
 use Rattle.adr_schema.specs.declared.notice.NoticeIn.{NoticeIn}
 use Rattle.adr_schema.specs.declared.notice.NoticeIn.TheVariants.{Found, Gone, Ignored}
 use Rattle.adr_schema.specs.Bytes.{bytes_as}
@@ -40,7 +40,7 @@ kind_named type =
 
 -- that the object of that id is gone
 abbrev pub gone_in : Kind → Data → Result NoticeIn Fault
-gone_in kind about = required (member_of (codes "id") about) upstream_id_in >>= λ id. Ok (Gone kind id)
+gone_in kind about = upstream_id_in about >>= λ id. Ok (Gone kind id)
 
 -- the version that the object is
 abbrev pub version_in : Kind → Data → Result NoticeIn Fault

@@ -6,12 +6,12 @@ use Rattle.adr_text.specs.Moments.{moment_text}
 use Rattle.adr_text.specs.Objects.{object_of, array_of, whole_data}
 use Rattle.adr_text.specs.Refusals.{title_of, detail_of, status_of}
 use Rattle.adr_text.specs.declared.refusal.Refusal.{Refusal}
-use Rattle.adr_schema.specs.declared.shown.ShownInterval.{ShownInterval}
-use Rattle.adr_schema.specs.declared.shown.EventObject.{EventObject}
-use Rattle.adr_schema.specs.declared.shown.VenObject.{VenObject}
-use Rattle.adr_schema.specs.declared.shown.ResourceObject.{ResourceObject}
-use Rattle.adr_schema.specs.declared.shown.ShareObject.{ShareObject}
-use Rattle.adr_schema.specs.Canonical.{natural_data, period_data}
+use Rattle.adr_objects.specs.declared.shown.ShownInterval.{ShownInterval}
+use Rattle.adr_objects.specs.declared.shown.EventObject.{EventObject}
+use Rattle.adr_objects.specs.declared.shown.VenObject.{VenObject}
+use Rattle.adr_objects.specs.declared.shown.ResourceObject.{ResourceObject}
+use Rattle.adr_objects.specs.declared.shown.ShareObject.{ShareObject}
+use Rattle.adr_objects.specs.Canonical.{natural_data, period_data}
 use Rattle.adr_schema.specs.Ids.{ven_id, resource_id, shown_id}
 
 abbrev pub moment_data : ℕ → Data

@@ -5,25 +5,35 @@ use Rattle.std.specs.Result.{result_ok}
 use Rattle.serde_json.specs.Data.{Data}
 use Rattle.adr_text.specs.Refusals.{◌>>=◌}
 use Rattle.adr_text.specs.Faults.{as_refusal}
-use Rattle.adr_text.specs.Fields.{text_of, member_of, items_in, required, name_in, moment_in}
+use Rattle.adr_text.specs.Fields.{member_of, items_in, required, name_in, moment_in}
 use Rattle.adr_text.specs.declared.fault.Fault.{Fault}
+use Rattle.adr_text.specs.declared.fault.Fault.TheVariants as fault
 use Rattle.adr_text.specs.declared.refusal.Refusal.{Refusal}
-use Rattle.adr_schema.specs.declared.kind.Kind.{Kind}
-use Rattle.adr_schema.specs.declared.kind.Kind.TheVariants as kind
-use Rattle.adr_schema.specs.declared.body.EventBody.{EventBody}
-use Rattle.adr_schema.specs.declared.body.Body.{Body}
-use Rattle.adr_schema.specs.declared.body.Body.TheVariants.{Program, Event, Opaque}
-use Rattle.adr_schema.specs.declared.body.Reason.TheVariants as reason
-use Rattle.adr_schema.specs.declared.body.Found.{Found}
+use Rattle.adr_objects.specs.declared.kind.Kind.{Kind}
+use Rattle.adr_objects.specs.declared.kind.Kind.TheVariants as kind
+use Rattle.adr_objects.specs.declared.body.EventBody.{EventBody}
+use Rattle.adr_objects.specs.declared.body.Body.{Body}
+use Rattle.adr_objects.specs.declared.body.Body.TheVariants.{Program, Event, Opaque}
+use Rattle.adr_objects.specs.declared.body.Reason.{Reason}
+use Rattle.adr_objects.specs.declared.body.Reason.TheVariants as reason
+use Rattle.adr_objects.specs.declared.body.Found.{Found}
 use Rattle.adr_schema.specs.Bytes.{bytes_as}
-use Rattle.adr_schema.specs.Limits.{upstream_id_of}
-use Rattle.adr_schema.specs.Bodies.{reason_of}
-use Rattle.adr_schema.specs.Events.{event_in}
+use Rattle.adr_objects.specs.Limits.{upstream_id_of}
+use Rattle.adr_schema.specs.Events.{text_at, event_in}
 
 -- a program with a fault has the wrong shape, whatever it is
 abbrev pub program_body : Result (List ℕ) Fault → Body
 program_body (Ok name) = Program name
 program_body (Err e) = Opaque reason.BadShape
+
+-- the reason that a fault is. Want of memory is none: a body is read with memory or not at all.
+abbrev pub reason_of : Fault → Reason
+reason_of fault.OutOfMemory = reason.BadShape
+reason_of fault.Fraction = reason.Fraction
+reason_of fault.NotOne = reason.NotOne
+reason_of fault.Repeated = reason.Repeated
+reason_of fault.OutOfRange = reason.OutOfRange
+reason_of fault.BadShape = reason.BadShape
 
 abbrev pub event_body : Result EventBody Fault → Body
 event_body (Ok event) = Event event
@@ -34,13 +44,14 @@ unfoldable pub body_in : Kind → Data → Body
 body_in kind.Program d = program_body (required (member_of (codes "programName") d) name_in)
 body_in kind.Event d = event_body (event_in d)
 
-unfoldable pub upstream_id_in : Data → Result (List ℕ) Fault
-upstream_id_in d = text_of d >>= upstream_id_of
+-- the id of an upstream object
+abbrev pub upstream_id_in : Data → Result (List ℕ) Fault
+upstream_id_in d = text_at (codes "id") d >>= upstream_id_of
 
 -- the version that an element is
 unfoldable pub found_in : Kind → Data → Result Found Fault
 found_in kind d = do
-  id ← required (member_of (codes "id") d) upstream_id_in
+  id ← upstream_id_in d
   moment ← required (member_of (codes "modificationDateTime") d) moment_in
   Ok (record { kind = kind; id = id; moment = moment; body = body_in kind d })
 

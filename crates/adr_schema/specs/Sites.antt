@@ -3,17 +3,15 @@ use Rattle.std.specs.Prelude.{ℕ, List, codes, Result, Ok}
 use Rattle.serde_json.specs.Data.{Data}
 use Rattle.adr_text.specs.Refusals.{◌>>=◌}
 use Rattle.adr_text.specs.Faults.{as_refusal}
-use Rattle.adr_text.specs.Fields.{text_of, member_of, required, name_in, u32_in}
+use Rattle.adr_text.specs.Fields.{member_of, required, name_in, u32_in}
 use Rattle.adr_text.specs.declared.fault.Fault.{Fault}
 use Rattle.adr_text.specs.declared.refusal.Refusal.{Refusal}
-use Rattle.adr_schema.specs.declared.site.VenIn.{VenIn}
-use Rattle.adr_schema.specs.declared.site.ResourceIn.{ResourceIn}
-use Rattle.adr_schema.specs.declared.site.ShareIn.{ShareIn}
+use Rattle.adr_objects.specs.declared.site.VenIn.{VenIn}
+use Rattle.adr_objects.specs.declared.site.ResourceIn.{ResourceIn}
+use Rattle.adr_objects.specs.declared.site.ShareIn.{ShareIn}
 use Rattle.adr_schema.specs.Bytes.{bytes_as}
-use Rattle.adr_schema.specs.Limits.{resource_name_of}
-
-unfoldable pub resource_name_in : Data → Result (List ℕ) Fault
-resource_name_in d = text_of d >>= resource_name_of
+use Rattle.adr_objects.specs.Limits.{resource_name_of}
+use Rattle.adr_schema.specs.Events.{text_at}
 
 unfoldable pub ven_in : Data → Result VenIn Fault
 ven_in d = do
@@ -22,7 +20,7 @@ ven_in d = do
 
 unfoldable pub resource_in : Data → Result ResourceIn Fault
 resource_in d = do
-  name ← required (member_of (codes "resourceName") d) resource_name_in
+  name ← text_at (codes "resourceName") d >>= resource_name_of
   Ok (record { name = name })
 
 unfoldable pub share_in : Data → Result ShareIn Fault

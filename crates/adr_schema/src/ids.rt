@@ -2,7 +2,7 @@
 ghost use Rattle.std.specs.Prelude.{◌≡◌, IfOk, string_bytes};
 ghost use Rattle.adr_schema.specs.Ids.{ven_id, resource_id, shown_id};
 
-use crate::number::Number;
+use adr_objects::Number;
 use adr_text::ObjectId;
 use std::alloc::{AllocError, Global};
 

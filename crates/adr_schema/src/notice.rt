@@ -1,6 +1,5 @@
 //! What a notification of the utility tells.
-use crate::body::{Found, UpstreamId};
-use crate::kind::Kind;
+use adr_objects::{Found, Kind, UpstreamId};
 
 /// What a notification tells (OpenADR 3.0, notification).
 #[derive(Debug, Drop)]

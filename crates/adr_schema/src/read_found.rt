@@ -4,24 +4,22 @@ ghost use Rattle.serde_json.specs.View.{view};
 ghost use Rattle.adr_text.specs.Faults.{Finds};
 ghost use Rattle.adr_text.specs.Refusals.{Gives};
 ghost use Rattle.adr_text.specs.Fields.{member_of, required, name_in};
-ghost use Rattle.adr_schema.specs.Bytes.{bytes_as};
 ghost use Rattle.adr_schema.specs.Events.{event_in};
 ghost use Rattle.adr_schema.specs.Pages.{upstream_id_in, program_body, event_body, body_in, found_in, founds_and_skipped, page_in, page_of, version_of};
 
-use crate::body::{Body, EventBody, Found, Reason, UpstreamId};
-use crate::kind::Kind;
+use crate::read_event::event;
 use crate::read_site::told;
-use adr_text::{Fault, FromJson, Refusal, Rows, list, needed, read_value, text};
+use crate::read_typed::text_at;
+use adr_objects::{Body, Found, Kind, Reason, UpstreamId};
+use adr_text::{Fault, Refusal, Rows, list, needed, read_value};
 use serde_json::Value;
 use std::alloc::Global;
 
-impl FromJson for UpstreamId {
-    ghost of = { upstream_id_in };
-
-    #[tactic(auto, unfolding(crate::specs::Pages::upstream_id_in))]
-    fn from_json(alloc: Global, value: &Value) -> Result<UpstreamId, Fault> {
-        UpstreamId::new(alloc, text(value)?)
-    }
+// The id of an upstream object.
+pub(crate) fn upstream_id(alloc: Global, object: &Value) -> Result<UpstreamId, Fault>
+    ensures { Finds (λ id. id) result (upstream_id_in (view object.now)) }
+{
+    UpstreamId::new(alloc, text_at(object, "id")?)
 }
 
 // What a program says. Whatever its fault is, it has the wrong shape.
@@ -40,7 +38,7 @@ fn program_body(alloc: Global, value: &Value) -> Result<Body, Fault>
 fn event_body(alloc: Global, value: &Value) -> Result<Body, Fault>
     ensures { Finds (λ b. b) result (Ok (event_body (event_in (view value.now)))) }
 {
-    match EventBody::from_json(alloc, value) {
+    match event(alloc, value) {
         Ok(event) => Ok(Body::Event(event)),
         Err(Fault::OutOfMemory) => Err(Fault::OutOfMemory),
         Err(Fault::Fraction) => Ok(Body::Opaque(Reason::Fraction)),
@@ -67,7 +65,7 @@ fn body(alloc: Global, kind: Kind, value: &Value) -> Result<Body, Fault>
 pub(crate) fn found(alloc: Global, kind: Kind, value: &Value) -> Result<Found, Fault>
     ensures { Finds (λ f. f) result (found_in kind (view value.now)) }
 {
-    let id = needed(alloc, value, "id")?;
+    let id = upstream_id(alloc, value)?;
     let moment = needed(alloc, value, "modificationDateTime")?;
     let body = body(alloc, kind, value)?;
     Ok(Found {
@@ -95,34 +93,26 @@ fn each_found(alloc: Global, kind: Kind, values: &[Value]) -> Result<(Rows<Found
     Ok((versions, skipped))
 }
 
-fn page(alloc: Global, kind: Kind, bytes: &[u8]) -> Result<(Rows<Found>, u64), Fault>
-    ensures { Finds (λ p. (p.0, p.1)) result (bytes_as (page_in kind) bytes.now) }
+fn page(alloc: Global, kind: Kind, value: &Value) -> Result<(Rows<Found>, u64), Fault>
+    ensures { Finds (λ p. (p.0, p.1)) result (page_in kind (view value.now)) }
 {
-    let value = read_value(alloc, bytes)?;
-    each_found(alloc, kind, list(&value)?)
+    each_found(alloc, kind, list(value)?)
 }
 
 /// The versions on a page of objects of that kind, in the page's order, and how many of its elements
 /// are none; `BadShape` where the bytes are no JSON array.
-#[tactic(auto, using(crate::proofs::Told::told_gives), unfolding(crate::specs::Pages::page_of))]
+#[tactic(auto, using(crate::proofs::Refusals::told_gives), unfolding(crate::specs::Pages::page_of))]
 pub fn read_page(alloc: Global, kind: Kind, bytes: &[u8]) -> Result<(Rows<Found>, u64), Refusal>
     ensures { Gives (λ p. (p.0, p.1)) result (page_of kind bytes.now) }
 {
-    told(page(alloc, kind, bytes))
-}
-
-fn one(alloc: Global, kind: Kind, bytes: &[u8]) -> Result<Found, Fault>
-    ensures { Finds (λ f. f) result (bytes_as (found_in kind) bytes.now) }
-{
-    let value = read_value(alloc, bytes)?;
-    found(alloc, kind, &value)
+    told(read_value(alloc, bytes).and_then(|value| page(alloc, kind, &value)))
 }
 
 /// The one version that the bytes are, as an object of that kind; `BadShape` where a page would skip it
 /// or the bytes are no JSON.
-#[tactic(auto, using(crate::proofs::Told::told_gives), unfolding(crate::specs::Pages::version_of))]
+#[tactic(auto, using(crate::proofs::Refusals::told_gives), unfolding(crate::specs::Pages::version_of))]
 pub fn read_one(alloc: Global, kind: Kind, bytes: &[u8]) -> Result<Found, Refusal>
     ensures { Gives (λ f. f) result (version_of kind bytes.now) }
 {
-    told(one(alloc, kind, bytes))
+    told(read_value(alloc, bytes).and_then(|value| found(alloc, kind, &value)))
 }

@@ -1,26 +1,17 @@
 //! The intervals of an event, read from JSON.
-ghost use Rattle.std.specs.Prelude.{◌≡◌, [], map, length, IsTrue, IfOk, false};
+ghost use Rattle.std.specs.Prelude.{◌≡◌, [], map, codes, length, IsTrue, IfOk, false};
 ghost use Rattle.serde_json.specs.View.{view};
 ghost use Rattle.adr_text.specs.Faults.{Finds};
-ghost use Rattle.adr_schema.specs.Intervals.{has_id, differ};
-ghost use Rattle.adr_schema.specs.Events.{values_in, one_of, setpoint_in, setpoint_of, payloads_in, fresh_id, interval_in, intervals_from, intervals_in};
+ghost use Rattle.adr_text.specs.Fields.{member_of, optional};
+ghost use Rattle.adr_objects.specs.Intervals.{has_id, differ};
+ghost use Rattle.adr_schema.specs.Events.{values_in, one_of, setpoint_of, payloads_in, fresh_id, interval_in, intervals_from, intervals_in};
 
-use crate::interval::{Interval, Intervals};
 use crate::read_typed::{objects, only_of_type, typed};
-use crate::setpoint::Setpoint;
-use adr_text::{Fault, FromJson, list, maybe, member, needed, whole};
+use adr_objects::{Interval, Intervals, Setpoint, has_id};
+use adr_text::{Fault, FromJson, list, maybe, member, needed};
 use serde_json::Value;
 use std::alloc::Global;
 use std::marker::Model;
-
-impl FromJson for Setpoint {
-    ghost of = { setpoint_in };
-
-    #[tactic(auto, unfolding(crate::specs::Events::setpoint_in))]
-    fn from_json(_alloc: Global, value: &Value) -> Result<Setpoint, Fault> {
-        Setpoint::new(whole(value).to_i64()?)
-    }
-}
 
 // The payloads of an interval, of which the setpoint is kept.
 #[derive(Drop)]
@@ -77,12 +68,6 @@ impl FromJson for Payloads {
     }
 }
 
-pub(crate) fn has_id(intervals: &[Interval], id: i32) -> bool
-    ensures { result ≡ has_id id intervals.now }
-{
-    intervals.iter().any(|i| i.id == id)
-}
-
 // An id that is not used before.
 fn fresh_id(alloc: Global, before: &[Interval], value: &Value) -> Result<i32, Fault>
     ensures id { Finds (λ id. id) result (fresh_id before.now (view value.now)) }
@@ -125,15 +110,25 @@ fn each_interval(alloc: Global, values: &[Value]) -> Result<Vec<Interval>, Fault
     Ok(intervals)
 }
 
-impl FromJson for Intervals {
-    ghost of = { intervals_in };
+// At most 1,000 intervals.
+#[tactic(auto, unfolding(crate::specs::Events::intervals_in))]
+fn intervals(alloc: Global, value: &Value) -> Result<Intervals, Fault>
+    ensures { Finds (λ is. is) result (intervals_in (view value.now)) }
+{
+    let values = objects(value)?;
+    if values.len() > 1000 {
+        return Err(Fault::BadShape);
+    }
+    Ok(Intervals::of(each_interval(alloc, values)?))
+}
 
-    #[tactic(auto, unfolding(crate::specs::Events::intervals_in))]
-    fn from_json(alloc: Global, value: &Value) -> Result<Intervals, Fault> {
-        let values = objects(value)?;
-        if values.len() > 1000 {
-            return Err(Fault::BadShape);
-        }
-        Ok(Intervals::of(each_interval(alloc, values)?))
+// The intervals of an event, where it lists any.
+pub(crate) fn intervals_of(alloc: Global, event: &Value) -> Result<Option<Intervals>, Fault>
+    ensures { Finds (λ is. is) result
+        (optional (member_of (codes "intervals") (view event.now)) intervals_in) }
+{
+    match member(event, "intervals") {
+        Some(found) => Ok(Some(intervals(alloc, found)?)),
+        None => Ok(None),
     }
 }

@@ -5,12 +5,12 @@ ghost use Rattle.adr_text.specs.Faults.{Finds};
 ghost use Rattle.adr_text.specs.Refusals.{Gives};
 ghost use Rattle.adr_schema.specs.Notices.{is_operation, operation_in, object_in, kind_named, gone_in, version_in, told_of, notice_in, notice_of};
 
-use crate::kind::Kind;
 use crate::notice::NoticeIn;
-use crate::read_found::found;
-use crate::read_site::read_posted;
+use crate::read_found::{found, upstream_id};
+use crate::read_site::told;
 use crate::read_typed::text_at;
-use adr_text::{Fault, FromJson, Refusal, member, needed};
+use adr_objects::Kind;
+use adr_text::{Fault, Refusal, member, read_value};
 use serde_json::Value;
 use std::alloc::Global;
 
@@ -61,7 +61,7 @@ fn kind_named(text: &str) -> Option<Kind>
 fn gone(alloc: Global, kind: Kind, object: &Value) -> Result<NoticeIn, Fault>
     ensures { Finds (λ n. n) result (gone_in kind (view object.now)) }
 {
-    let id = needed(alloc, object, "id")?;
+    let id = upstream_id(alloc, object)?;
     Ok(NoticeIn::Gone { kind, id })
 }
 
@@ -90,24 +90,22 @@ fn told_of(
     }
 }
 
-impl FromJson for NoticeIn {
-    ghost of = { notice_in };
-
-    #[tactic(auto, unfolding(crate::specs::Notices::notice_in))]
-    fn from_json(alloc: Global, value: &Value) -> Result<NoticeIn, Fault> {
-        let kind = kind_named(text_at(value, "objectType")?);
-        let operation = operation(value)?;
-        told_of(alloc, kind, operation, object(value)?)
-    }
+#[tactic(auto, unfolding(crate::specs::Notices::notice_in))]
+fn notice(alloc: Global, value: &Value) -> Result<NoticeIn, Fault>
+    ensures { Finds (λ n. n) result (notice_in (view value.now)) }
+{
+    let kind = kind_named(text_at(value, "objectType")?);
+    let operation = operation(value)?;
+    told_of(alloc, kind, operation, object(value)?)
 }
 
 /// What the notification that the bytes are tells (OpenADR 3.0, notification): for a program or an
 /// event, that it is gone (`DELETE`) or a version of it (`GET`, `POST`, `PUT`); of another kind of
 /// object nothing. `BadShape` where the bytes are no notification, or its object has no id of at most
 /// 100 bytes or, unless it is gone, no moment.
-#[tactic(auto, unfolding(crate::specs::Notices::notice_of))]
+#[tactic(auto, using(crate::proofs::Refusals::told_gives), unfolding(crate::specs::Notices::notice_of))]
 pub fn read_notice(alloc: Global, bytes: &[u8]) -> Result<NoticeIn, Refusal>
     ensures { Gives (λ n. n) result (notice_of bytes.now) }
 {
-    read_posted(alloc, bytes)
+    told(read_value(alloc, bytes).and_then(|value| notice(alloc, &value)))
 }

@@ -4,11 +4,11 @@ ghost use Rattle.std.specs.List.{list_any};
 ghost use Rattle.serde_json.specs.View.{view};
 ghost use Rattle.adr_text.specs.Fields.{each};
 ghost use Rattle.adr_text.specs.Faults.{Finds};
-ghost use Rattle.adr_schema.specs.Events.{is_of_type, resource_target, names_of_target, all_names, name_set_of, names_among, targets_in};
+ghost use Rattle.adr_schema.specs.Events.{is_of_type, resource_target, names_of_target, all_names, names_among, targets_in};
 
-use crate::name_set::NameSet;
 use crate::read_intervals::values_of;
 use crate::read_typed::{is_of_type, typed};
+use adr_objects::NameSet;
 use adr_text::{Fault, FromJson, Name, all};
 use serde_json::Value;
 use std::alloc::Global;
@@ -62,20 +62,6 @@ fn names_of_targets(alloc: Global, targets: &[Value]) -> Result<Vec<Name>, Fault
     Ok(names)
 }
 
-// The set of at most 10,000 names in all, each counted as often as it is listed.
-pub(crate) fn name_set(alloc: Global, names: Vec<Name>) -> Result<NameSet, Fault>
-    ensures { Finds (λ s. s) result (name_set_of names.items) }
-{
-    if names.len() > 10_000 {
-        return Err(Fault::BadShape);
-    }
-    let mut set = NameSet::new(alloc);
-    for name in names {
-        set.insert(name)?;
-    }
-    Ok(set)
-}
-
 // The names of the resource targets, where there is such a target.
 #[tactic(auto, using(crate::proofs::Reading::rules_of_lists))]
 fn names_among(alloc: Global, targets: &[Value]) -> Result<Option<NameSet>, Fault>
@@ -85,7 +71,7 @@ fn names_among(alloc: Global, targets: &[Value]) -> Result<Option<NameSet>, Faul
         return Ok(None);
     }
     let names = names_of_targets(alloc, targets)?;
-    Ok(Some(name_set(alloc, names)?))
+    Ok(Some(NameSet::of(alloc, names)?))
 }
 
 impl FromJson for Targets {

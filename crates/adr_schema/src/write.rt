@@ -1,13 +1,13 @@
 //! Objects, written as JSON.
-ghost use Rattle.std.specs.Prelude.{◌≡◌, ⊤, [], ◌∷◌, IfOk, OnOk, option_map, string_bytes};
+ghost use Rattle.std.specs.Prelude.{◌≡◌, [], ◌∷◌, map, IfOk, OnOk, option_map, string_bytes};
 ghost use Rattle.serde_json.specs.View.{view, members_view};
 ghost use Rattle.adr_text.specs.Objects.{add_all, array_of, whole_data};
 ghost use Rattle.adr_schema.specs.Objects.{values_data, payloads_data, targets_data, shown_interval_data, event_object_head, event_object_tail, event_object_data, ven_object_data, resource_object_data, share_object_data, problem_data, event_text, events_text, ven_text, resource_text, share_text, problem_text};
 
 use crate::ids::{resource_id, shown_id, ven_id};
-use crate::shown::{EventObject, ResourceObject, ShareObject, ShownInterval, VenObject};
 use crate::write_fields::{compact, put_text, valued};
-use adr_text::{Name, Refusal, ToJson, array, put, put_maybe};
+use adr_objects::{EventObject, ResourceObject, ShareObject, ShownInterval, VenObject};
+use adr_text::{Name, Refusal, ToJson, put, put_maybe};
 use serde_json::{Map, Value};
 use std::alloc::{AllocError, Global};
 
@@ -33,24 +33,31 @@ fn payloads(alloc: Global, part: &Option<i64>) -> Result<Value, AllocError>
     }
 }
 
-impl ToJson for ShownInterval {
-    ghost json = { shown_interval_data };
+// An interval with the resource's part.
+#[tactic(auto, unfolding(crate::specs::Objects::shown_interval_data))]
+fn shown_interval(alloc: Global, interval: &ShownInterval) -> Result<Value, AllocError>
+    ensures { IfOk result (λ v. view v ≡ shown_interval_data interval.now) }
+{
+    let mut members = Map::new(alloc);
+    put(&mut members, alloc, "id", &interval.id)?;
+    put_maybe(&mut members, alloc, "intervalPeriod", &interval.period)?;
+    serde_json::put(
+        &mut members,
+        alloc,
+        "payloads",
+        payloads(alloc, &interval.part)?,
+    )?;
+    Ok(Value::Object(members))
+}
 
-    ghost keeps = { λ _. ⊤ };
-
-    #[tactic(auto, unfolding(crate::specs::Objects::shown_interval_data))]
-    fn to_json(&self, alloc: Global) -> Result<Value, AllocError> {
-        let mut members = Map::new(alloc);
-        put(&mut members, alloc, "id", &self.id)?;
-        put_maybe(&mut members, alloc, "intervalPeriod", &self.period)?;
-        serde_json::put(
-            &mut members,
-            alloc,
-            "payloads",
-            payloads(alloc, &self.part)?,
-        )?;
-        Ok(Value::Object(members))
+fn shown_intervals(alloc: Global, intervals: &[ShownInterval]) -> Result<Value, AllocError>
+    ensures { IfOk result (λ v. view v ≡ array_of (map shown_interval_data intervals.now)) }
+{
+    let mut values = Vec::new(alloc);
+    for interval in intervals {
+        values.push(shown_interval(alloc, interval)?)?;
     }
+    Ok(Value::Array(values))
 }
 
 // Whose event it is: the ven's name, then the resource's.
@@ -72,7 +79,7 @@ fn put_head(
         ≡ add_all (members_view members.old.entries) (event_object_head event.now)) }
 {
     let id = shown_id(alloc, event.resource, &event.event)?;
-    let intervals = array(alloc, event.shown.intervals.as_slice())?;
+    let intervals = shown_intervals(alloc, event.shown.intervals.as_slice())?;
     put(members, alloc, "createdDateTime", &event.stamps.created)?;
     put_maybe(members, alloc, "eventName", &event.shown.name)?;
     put_text(members, alloc, "id", id.as_str())?;
@@ -102,82 +109,81 @@ fn put_tail(
     serde_json::put(members, alloc, "targets", targets)
 }
 
-impl ToJson for EventObject {
-    ghost json = { event_object_data };
-
-    ghost keeps = { λ _. ⊤ };
-
-    #[tactic(auto, unfolding(crate::specs::Objects::event_object_data))]
-    fn to_json(&self, alloc: Global) -> Result<Value, AllocError> {
-        let mut members = Map::new(alloc);
-        put_head(&mut members, alloc, self)?;
-        put_tail(&mut members, alloc, self)?;
-        Ok(Value::Object(members))
-    }
+#[tactic(auto, unfolding(crate::specs::Objects::event_object_data))]
+fn event_object(alloc: Global, event: &EventObject) -> Result<Value, AllocError>
+    ensures { IfOk result (λ v. view v ≡ event_object_data event.now) }
+{
+    let mut members = Map::new(alloc);
+    put_head(&mut members, alloc, event)?;
+    put_tail(&mut members, alloc, event)?;
+    Ok(Value::Object(members))
 }
 
-impl ToJson for VenObject {
-    ghost json = { ven_object_data };
-
-    ghost keeps = { λ _. ⊤ };
-
-    #[tactic(auto, unfolding(crate::specs::Objects::ven_object_data))]
-    fn to_json(&self, alloc: Global) -> Result<Value, AllocError> {
-        let id = ven_id(alloc, self.number)?;
-        let mut members = Map::new(alloc);
-        put(&mut members, alloc, "createdDateTime", &self.stamps.created)?;
-        put_text(&mut members, alloc, "id", id.as_str())?;
-        put(
-            &mut members,
-            alloc,
-            "modificationDateTime",
-            &self.stamps.modified,
-        )?;
-        put_text(&mut members, alloc, "objectType", "VEN")?;
-        put(&mut members, alloc, "venName", &self.name)?;
-        Ok(Value::Object(members))
+fn event_objects(alloc: Global, events: &[EventObject]) -> Result<Value, AllocError>
+    ensures { IfOk result (λ v. view v ≡ array_of (map event_object_data events.now)) }
+{
+    let mut values = Vec::new(alloc);
+    for event in events {
+        values.push(event_object(alloc, event)?)?;
     }
+    Ok(Value::Array(values))
 }
 
-impl ToJson for ResourceObject {
-    ghost json = { resource_object_data };
-
-    ghost keeps = { λ _. ⊤ };
-
-    #[tactic(auto, unfolding(crate::specs::Objects::resource_object_data))]
-    fn to_json(&self, alloc: Global) -> Result<Value, AllocError> {
-        let id = resource_id(alloc, self.number)?;
-        let ven = ven_id(alloc, self.ven)?;
-        let mut members = Map::new(alloc);
-        put(&mut members, alloc, "createdDateTime", &self.stamps.created)?;
-        put_text(&mut members, alloc, "id", id.as_str())?;
-        put(
-            &mut members,
-            alloc,
-            "modificationDateTime",
-            &self.stamps.modified,
-        )?;
-        put_text(&mut members, alloc, "objectType", "RESOURCE")?;
-        put(&mut members, alloc, "resourceName", &self.name)?;
-        put_text(&mut members, alloc, "venID", ven.as_str())?;
-        Ok(Value::Object(members))
-    }
+#[tactic(auto, unfolding(crate::specs::Objects::ven_object_data))]
+fn ven_object(alloc: Global, ven: &VenObject) -> Result<Value, AllocError>
+    ensures { IfOk result (λ v. view v ≡ ven_object_data ven.now) }
+{
+    let id = ven_id(alloc, ven.number)?;
+    let mut members = Map::new(alloc);
+    put(&mut members, alloc, "createdDateTime", &ven.stamps.created)?;
+    put_text(&mut members, alloc, "id", id.as_str())?;
+    put(
+        &mut members,
+        alloc,
+        "modificationDateTime",
+        &ven.stamps.modified,
+    )?;
+    put_text(&mut members, alloc, "objectType", "VEN")?;
+    put(&mut members, alloc, "venName", &ven.name)?;
+    Ok(Value::Object(members))
 }
 
-impl ToJson for ShareObject {
-    ghost json = { share_object_data };
+#[tactic(auto, unfolding(crate::specs::Objects::resource_object_data))]
+fn resource_object(alloc: Global, resource: &ResourceObject) -> Result<Value, AllocError>
+    ensures { IfOk result (λ v. view v ≡ resource_object_data resource.now) }
+{
+    let id = resource_id(alloc, resource.number)?;
+    let ven = ven_id(alloc, resource.ven)?;
+    let mut members = Map::new(alloc);
+    put(
+        &mut members,
+        alloc,
+        "createdDateTime",
+        &resource.stamps.created,
+    )?;
+    put_text(&mut members, alloc, "id", id.as_str())?;
+    put(
+        &mut members,
+        alloc,
+        "modificationDateTime",
+        &resource.stamps.modified,
+    )?;
+    put_text(&mut members, alloc, "objectType", "RESOURCE")?;
+    put(&mut members, alloc, "resourceName", &resource.name)?;
+    put_text(&mut members, alloc, "venID", ven.as_str())?;
+    Ok(Value::Object(members))
+}
 
-    ghost keeps = { λ _. ⊤ };
-
-    #[tactic(auto, unfolding(crate::specs::Objects::share_object_data))]
-    fn to_json(&self, alloc: Global) -> Result<Value, AllocError> {
-        let resource = resource_id(alloc, self.resource)?;
-        let mut members = Map::new(alloc);
-        put(&mut members, alloc, "programID", &self.program)?;
-        put_text(&mut members, alloc, "resourceID", resource.as_str())?;
-        put(&mut members, alloc, "share", &self.share)?;
-        Ok(Value::Object(members))
-    }
+#[tactic(auto, unfolding(crate::specs::Objects::share_object_data))]
+fn share_object(alloc: Global, share: &ShareObject) -> Result<Value, AllocError>
+    ensures { IfOk result (λ v. view v ≡ share_object_data share.now) }
+{
+    let resource = resource_id(alloc, share.resource)?;
+    let mut members = Map::new(alloc);
+    put(&mut members, alloc, "programID", &share.program)?;
+    put_text(&mut members, alloc, "resourceID", resource.as_str())?;
+    put(&mut members, alloc, "share", &share.share)?;
+    Ok(Value::Object(members))
 }
 
 // A problem as JSON.
@@ -194,47 +200,47 @@ fn problem(alloc: Global, refusal: Refusal) -> Result<Value, AllocError>
 }
 
 /// The text of an event (OpenADR 3.0, EVENT).
-#[tactic(auto, using(crate::proofs::Plain::event_object_whole), unfolding(crate::specs::Objects::event_text))]
+#[tactic(auto, using(crate::proofs::NoFloats::event_object_whole), unfolding(crate::specs::Objects::event_text))]
 pub fn write_event(alloc: Global, event: &EventObject) -> Result<String, AllocError>
     ensures { IfOk result (λ s. string_bytes s ≡ event_text event.now) }
 {
-    compact(alloc, event.to_json(alloc)?)
+    compact(alloc, event_object(alloc, event)?)
 }
 
 /// The text of a list of events, in the order given.
-#[tactic(auto, using(crate::proofs::Plain::event_objects_whole), unfolding(crate::specs::Objects::events_text))]
+#[tactic(auto, using(crate::proofs::NoFloats::event_objects_whole), unfolding(crate::specs::Objects::events_text))]
 pub fn write_events(alloc: Global, events: &[EventObject]) -> Result<String, AllocError>
     ensures { IfOk result (λ s. string_bytes s ≡ events_text events.now) }
 {
-    compact(alloc, array(alloc, events)?)
+    compact(alloc, event_objects(alloc, events)?)
 }
 
 /// The text of a ven (OpenADR 3.0, VEN).
-#[tactic(auto, using(crate::proofs::Plain::ven_object_whole), unfolding(crate::specs::Objects::ven_text))]
+#[tactic(auto, using(crate::proofs::NoFloats::ven_object_whole), unfolding(crate::specs::Objects::ven_text))]
 pub fn write_ven(alloc: Global, ven: &VenObject) -> Result<String, AllocError>
     ensures { IfOk result (λ s. string_bytes s ≡ ven_text ven.now) }
 {
-    compact(alloc, ven.to_json(alloc)?)
+    compact(alloc, ven_object(alloc, ven)?)
 }
 
 /// The text of a resource (OpenADR 3.0, RESOURCE).
-#[tactic(auto, using(crate::proofs::Plain::resource_object_whole), unfolding(crate::specs::Objects::resource_text))]
+#[tactic(auto, using(crate::proofs::NoFloats::resource_object_whole), unfolding(crate::specs::Objects::resource_text))]
 pub fn write_resource(alloc: Global, resource: &ResourceObject) -> Result<String, AllocError>
     ensures { IfOk result (λ s. string_bytes s ≡ resource_text resource.now) }
 {
-    compact(alloc, resource.to_json(alloc)?)
+    compact(alloc, resource_object(alloc, resource)?)
 }
 
 /// The text of a share.
-#[tactic(auto, using(crate::proofs::Plain::share_object_whole), unfolding(crate::specs::Objects::share_text))]
+#[tactic(auto, using(crate::proofs::NoFloats::share_object_whole), unfolding(crate::specs::Objects::share_text))]
 pub fn write_share(alloc: Global, share: &ShareObject) -> Result<String, AllocError>
     ensures { IfOk result (λ s. string_bytes s ≡ share_text share.now) }
 {
-    compact(alloc, share.to_json(alloc)?)
+    compact(alloc, share_object(alloc, share)?)
 }
 
 /// The text of the problem that a refusal is told as (OpenADR 3.0, problem; RFC 9457).
-#[tactic(auto, using(crate::proofs::Plain::problem_whole), unfolding(crate::specs::Objects::problem_text))]
+#[tactic(auto, using(crate::proofs::NoFloats::problem_whole), unfolding(crate::specs::Objects::problem_text))]
 pub fn write_problem(alloc: Global, refusal: Refusal) -> Result<String, AllocError>
     ensures { IfOk result (λ s. string_bytes s ≡ problem_text refusal) }
 {

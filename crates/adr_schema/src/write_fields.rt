@@ -1,65 +1,12 @@
 //! Fields of written objects.
-ghost use Rattle.std.specs.Prelude.{◌≡◌, ◌≤◌, [], ◌∷◌, length, IsTrue, IfOk, OnOk, string_bytes, false};
+ghost use Rattle.std.specs.Prelude.{◌≡◌, [], ◌∷◌, IfOk, OnOk, string_bytes, false};
 ghost use Rattle.serde_json.specs.Written.{has_float, compact_text};
 ghost use Rattle.serde_json.specs.Data.{string, put as with_member};
 ghost use Rattle.serde_json.specs.View.{view, members_view};
-ghost use Rattle.adr_text.specs.Objects.{whole_data};
-ghost use Rattle.adr_schema.specs.Canonical.{natural_data, period_data};
-ghost use Rattle.adr_schema.specs.Kept.{IsPeriod};
-ghost use Rattle.adr_schema.specs.Limits.{is_setpoint, most_priority};
 ghost use Rattle.adr_schema.specs.Objects.{values_data};
 
-use crate::interval::Period;
-use crate::setpoint::{Priority, Setpoint};
-use crate::text::Text;
-use adr_text::{ToJson, put, put_maybe};
 use serde_json::{Map, Value};
 use std::alloc::{AllocError, Global};
-
-impl<const MOST: usize> ToJson for Text<MOST> {
-    ghost json = { string };
-
-    ghost keeps = { λ text. length text ≤ MOST };
-
-    fn to_json(&self, alloc: Global) -> Result<Value, AllocError> {
-        Value::try_from_str(alloc, self.as_str())
-    }
-}
-
-impl ToJson for Setpoint {
-    ghost json = { whole_data };
-
-    ghost keeps = { λ amount. IsTrue (is_setpoint amount) };
-
-    fn to_json(&self, _alloc: Global) -> Result<Value, AllocError> {
-        Ok(Value::from(self.get()))
-    }
-}
-
-impl ToJson for Priority {
-    ghost json = { natural_data };
-
-    ghost keeps = { λ rank. rank ≤ most_priority };
-
-    fn to_json(&self, _alloc: Global) -> Result<Value, AllocError> {
-        Ok(Value::from(self.get()))
-    }
-}
-
-impl ToJson for Period {
-    ghost json = { period_data };
-
-    ghost keeps = { IsPeriod };
-
-    #[tactic(auto, unfolding(crate::specs::Canonical::period_data))]
-    fn to_json(&self, alloc: Global) -> Result<Value, AllocError> {
-        let mut members = Map::new(alloc);
-        put_maybe(&mut members, alloc, "duration", &self.duration)?;
-        put_maybe(&mut members, alloc, "randomizeStart", &self.randomize_start)?;
-        put(&mut members, alloc, "start", &self.start)?;
-        Ok(Value::Object(members))
-    }
-}
 
 // Sets a member to a text.
 pub(crate) fn put_text(

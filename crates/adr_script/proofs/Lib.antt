@@ -1,4 +1,5 @@
-pub mod TurnLemmas
-pub mod ScriptLemmas
-pub mod OutputLemmas
-pub mod TextLemmas
+pub mod Utf8
+pub mod Turns
+pub mod Lines
+pub mod Scripts
+pub mod Readings

@@ -5,8 +5,8 @@ use Rattle.std.specs.Fmt.{decimal}
 use Rattle.adr_text.specs.Refusals.{number_of, title_of, status_of}
 use Rattle.adr_text.specs.declared.refusal.Refusal.{Refusal}
 use Rattle.adr_schema.specs.Objects.{event_text, ven_text, resource_text, share_text, problem_text}
-use Rattle.adr_schema.specs.declared.kind.Kind.{Kind}
-use Rattle.adr_schema.specs.declared.kind.Kind.TheVariants as kind
+use Rattle.adr_objects.specs.declared.kind.Kind.{Kind}
+use Rattle.adr_objects.specs.declared.kind.Kind.TheVariants as kind
 use Rattle.adr_state.specs.declared.keys.MirrorKey.{MirrorKey}
 use Rattle.adr_machine.specs.declared.answer.Object.{Object}
 use Rattle.adr_machine.specs.declared.answer.Object.TheVariants.{Event, Ven, Resource, Share}
@@ -26,12 +26,12 @@ object_text (Share s) = share_text s
 
 -- the objects behind the first, each behind a comma
 abbrev pub behind_commas : List Object → List ℕ
-behind_commas objects = flat_map (λ o. 44 ∷ object_text o) objects
+behind_commas objects = flat_map (λ o. codes "," ++ object_text o) objects
 
 -- a list of objects, in brackets
 abbrev pub list_text : List Object → List ℕ
 list_text [] = codes "[]"
-list_text (o ∷ objects) = 91 ∷ object_text o ++ behind_commas objects ++ 93 ∷ []
+list_text (o ∷ objects) = codes "[" ++ object_text o ++ behind_commas objects ++ codes "]"
 
 -- the body of an answer; a count of changes is told to nobody, nor is what a scan missed
 unfoldable pub answer_text : Answer → List ℕ
@@ -55,21 +55,21 @@ status_for asked.Nothing = 200
 
 -- `STATUS BODY`
 abbrev pub reply_line : ℕ → List ℕ → List ℕ
-reply_line status body = decimal status ++ 32 ∷ body ++ 10 ∷ []
+reply_line status body = decimal status ++ codes " " ++ body ++ codes "\n"
 
 -- `changes N skipped M`
 unfoldable pub changes_line : ℕ → ℕ → List ℕ
-changes_line changes skipped = codes "changes " ++ decimal changes ++ codes " skipped " ++ decimal skipped ++ 10 ∷ []
+changes_line changes skipped = codes "changes " ++ decimal changes ++ codes " skipped " ++ decimal skipped ++ codes "\n"
 
 unfoldable pub bad_line : List ℕ
-bad_line = codes "bad line" ++ 10 ∷ []
+bad_line = codes "bad line\n"
 
 -- a refused request: its status and the problem
 unfoldable pub problem_line : Refusal → List ℕ
 problem_line r = reply_line (status_of r) (problem_text r)
 
 abbrev pub refused_by : ℕ → List ℕ → List ℕ
-refused_by number title = codes "refused " ++ decimal number ++ 32 ∷ title ++ 10 ∷ []
+refused_by number title = codes "refused " ++ decimal number ++ codes " " ++ title ++ codes "\n"
 
 -- a refused step of the node: `refused N TITLE`
 unfoldable pub refused_line : Refusal → List ℕ
@@ -77,10 +77,10 @@ refused_line r = refused_by (number_of r) (title_of r)
 
 -- `changes N`
 unfoldable pub count_line : ℕ → List ℕ
-count_line changes = codes "changes " ++ decimal changes ++ 10 ∷ []
+count_line changes = codes "changes " ++ decimal changes ++ codes "\n"
 
 unfoldable pub done_line : List ℕ
-done_line = codes "done" ++ 10 ∷ []
+done_line = codes "done\n"
 
 abbrev pub kind_word : Kind → List ℕ
 kind_word kind.Program = codes "programs"
@@ -88,14 +88,14 @@ kind_word kind.Event = codes "events"
 
 -- ` programs/ID` or ` events/ID`
 abbrev pub key_text : MirrorKey → List ℕ
-key_text key = 32 ∷ kind_word key.kind ++ 47 ∷ key.id
+key_text key = codes " " ++ kind_word key.kind ++ codes "/" ++ key.id
 
 abbrev pub keys_text : List MirrorKey → List ℕ
 keys_text keys = flat_map key_text keys
 
 -- `probes`, and each key
 unfoldable pub probes_line : List MirrorKey → List ℕ
-probes_line keys = codes "probes" ++ keys_text keys ++ 10 ∷ []
+probes_line keys = codes "probes" ++ keys_text keys ++ codes "\n"
 
 -- what a request prints
 abbrev pub request_text : ℕ → Result Answer Refusal → List ℕ

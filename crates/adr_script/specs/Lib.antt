@@ -8,3 +8,5 @@ pub mod Bodies
 pub mod Turns
 pub mod Lines
 pub mod Scripts
+pub mod Readings
+pub mod Laws

@@ -3,14 +3,14 @@ use Rattle.std.specs.Prelude.{ℕ, List, codes, Option, Some, None, option_map, 
 use Rattle.adr_script.specs.declared.paths.Path.{Path}
 use Rattle.adr_script.specs.declared.paths.Path.TheVariants.{Events, Notifications, Vens, Ven, Resources, Resource, Shares, Share}
 use Rattle.adr_script.specs.Cuts.{cut, behind}
-use Rattle.adr_script.specs.Words.{id_at}
+use Rattle.adr_script.specs.Words.{id_from}
 
 abbrev pub both_ids : List ℕ → List ℕ → Option (List ℕ × List ℕ)
-both_ids first second = option_and_then (λ a. option_map (λ b. (a, b)) (id_at second)) (id_at first)
+both_ids first second = option_and_then (λ a. option_map (λ b. (a, b)) (id_from second)) (id_from first)
 
 -- the resources of a ven, or one of them
 abbrev pub resources_path : List ℕ → Option (List ℕ) → Option Path
-resources_path ven None = option_map (λ ven. Resources ven) (id_at ven)
+resources_path ven None = option_map (λ ven. Resources ven) (id_from ven)
 resources_path ven (Some id) = option_map (λ ids. Resource ids.0 ids.1) (both_ids ven id)
 
 abbrev pub under_ven : List ℕ → List ℕ × Option (List ℕ) → Option Path
@@ -18,12 +18,12 @@ under_ven ven (word, id) = if bytes_eq word (codes "resources") then resources_p
 
 -- behind `/vens/`: `{venID}`, `{venID}/resources` and `{venID}/resources/{resourceID}`
 abbrev pub ven_path : List ℕ × Option (List ℕ) → Option Path
-ven_path (id, None) = option_map (λ id. Ven id) (id_at id)
+ven_path (id, None) = option_map (λ id. Ven id) (id_from id)
 ven_path (ven, Some rest) = under_ven ven (cut 47 rest)
 
 -- behind `/shares/`: `{programID}` and `{programID}/{resourceID}`
 abbrev pub share_path : List ℕ × Option (List ℕ) → Option Path
-share_path (program, None) = option_map (λ program. Shares program) (id_at program)
+share_path (program, None) = option_map (λ program. Shares program) (id_from program)
 share_path (program, Some resource) = option_map (λ ids. Share ids.0 ids.1) (both_ids program resource)
 
 abbrev pub longer_path : Option (List ℕ) → Option (List ℕ) → Option Path

@@ -5,16 +5,16 @@ use Rattle.form_urlencoded.specs.Form.{decode, raw_pairs}
 use Rattle.adr_text.specs.Refusals.{◌>>=◌, or_else}
 use Rattle.adr_text.specs.declared.refusal.Refusal.{Refusal}
 use Rattle.adr_text.specs.declared.refusal.Refusal.TheVariants.{BadShape}
-use Rattle.adr_machine.specs.Digits.{number_within}
+use Rattle.adr_state.specs.Digits.{number_within}
 use Rattle.adr_machine.specs.declared.query.Page.{Page}
 
 -- a name or a value as text
-abbrev pub text_in : List ℕ → List ℕ
-text_in bytes = utf8_lossy (decode bytes)
+abbrev pub decoded_text : List ℕ → List ℕ
+decoded_text bytes = utf8_lossy (decode bytes)
 
 -- the values of the parameter of a name, in their order
 unfoldable pub values_of : List ℕ → List (List ℕ × List ℕ) → List (List ℕ)
-values_of name pairs = map (λ p. text_in p.1) (filter (λ p. bytes_eq (text_in p.0) name) pairs)
+values_of name pairs = map (λ p. decoded_text p.1) (filter (λ p. bytes_eq (decoded_text p.0) name) pairs)
 
 -- the number that a parameter is, given at most once
 abbrev pub single : ℕ → ℕ → List (List ℕ) → Result ℕ Refusal

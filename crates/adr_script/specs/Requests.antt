@@ -14,7 +14,7 @@ use Rattle.adr_machine.specs.declared.query.Query.TheVariants.{Events, Vens, Ven
 use Rattle.adr_script.specs.declared.asked.Asked.{Asked}
 use Rattle.adr_script.specs.declared.asked.Asked.TheVariants as asked
 use Rattle.adr_script.specs.Cuts.{cut}
-use Rattle.adr_script.specs.Words.{text_at, role_at}
+use Rattle.adr_script.specs.Words.{text_from, role_from}
 use Rattle.adr_script.specs.Queries.{page_asked}
 use Rattle.adr_script.specs.declared.paths.Path.{Path}
 use Rattle.adr_script.specs.declared.paths.Path.TheVariants as path
@@ -89,7 +89,7 @@ asked_as (Some role) method target body = asked_on role method (cut 63 target) b
 
 -- a role, a method, a target and a body
 unfoldable pub asked_of : List ℕ → List ℕ → List ℕ → List ℕ → Result (Option Asked) Refusal
-asked_of role method target body = if is_none (text_at target) then Ok None else asked_as (role_at role) method target body
+asked_of role method target body = if is_none (text_from target) then Ok None else asked_as (role_from role) method target body
 
 abbrev pub targeted : List ℕ → List ℕ → List ℕ × Option (List ℕ) → Result (Option Asked) Refusal
 targeted role method (target, body) = asked_of role method target (unwrap_or body [])

@@ -1,48 +1,43 @@
 -- The run of a script: each line in its turn, and what is printed of them.
-use Rattle.std.specs.Prelude.{◌≡◌, ◌≤◌, ◌+◌, ℕ, List, [], ◌∷◌, ◌++◌, length, take, Option}
+use Rattle.std.specs.Prelude.{◌≡◌, ◌≤◌, ◌+◌, ◌==◌, ℕ, not, List, [], ◌∷◌, ◌++◌, length, take, Option}
+use Rattle.std.specs.List.{count_by}
 use Rattle.std.specs.Io.KnownBytes.{Appends}
 use Rattle.adr_state.specs.declared.state.State.{State}
 use Rattle.adr_state.specs.declared.limits.Settings.{Settings}
 use Rattle.adr_script.specs.Turns.{IsTurn}
 
--- from s, a line prints out, which is n lines, and leaves t: an empty line is passed over
-abbrev pub Prints : Settings → State → List ℕ → List ℕ → ℕ → State → Type 0
-Prints settings s [] out n t = (out ≡ []) × (n ≡ 0) × (t ≡ s)
-Prints settings s (b ∷ line) out n t = (n ≡ 1) × IsTurn settings s (b ∷ line) out t
+-- from s, a line prints out and leaves t
+pub data Prints (settings : Settings) (s : State) : List ℕ → List ℕ → State → Type 0 where
+  -- an empty line is passed over
+  passed_over : Prints settings s [] [] s
+  -- any other has its turn
+  has_turn : {b : ℕ} {line out : List ℕ} {t : State} → IsTurn settings s (b ∷ line) out t → Prints settings s (b ∷ line) out t
 
--- the first line, and then the others
-pub record InTurn (First : List ℕ → ℕ → State → Type 0) (Others : State → List ℕ → ℕ → Type 0) (out : List ℕ) (n : ℕ) : Type 0 where
-  pub first_out : List ℕ
-  pub other_out : List ℕ
-  pub first_count : ℕ
-  pub other_count : ℕ
-  pub between : State
-  pub first : First first_out first_count between
-  pub others : Others between other_out other_count
-  pub all_out : out ≡ first_out ++ other_out
-  pub all_count : n ≡ first_count + other_count
+-- from s, the lines in turn print out and leave t
+pub data PrintAll (settings : Settings) : State → List (List ℕ) → List ℕ → State → Type 0 where
+  -- no lines
+  no_lines : {s : State} → PrintAll settings s [] [] s
+  -- a line, and then the others
+  line_first : {s u t : State} {line out rest : List ℕ} {lines : List (List ℕ)} → Prints settings s line out u → PrintAll settings u lines rest t → PrintAll settings s (line ∷ lines) (out ++ rest) t
 
--- from s, the lines in turn print out, which is n lines, and leave t
-abbrev pub PrintAll : Settings → State → List (List ℕ) → List ℕ → ℕ → State → Type 0
-PrintAll settings s [] out n t = (out ≡ []) × (n ≡ 0) × (t ≡ s)
-PrintAll settings s (line ∷ lines) out n t = InTurn (Prints settings s line) (λ u rest m. PrintAll settings u lines rest m t) out n
+-- how many of the lines are printed: all but the empty ones
+abbrev pub number_printed : List (List ℕ) → ℕ
+number_printed lines = count_by (λ line. not (length line == 0)) lines
 
--- all the lines were taken, and what they print is written
-pub record Runs (settings : Settings) (s : State) (lines : List (List ℕ)) (t : State) (old new : Option (List ℕ)) (before after : ℕ) : Type 0 where
+-- all the lines were taken, what they print is written, and it is counted
+pub record RunsScript (settings : Settings) (s : State) (lines : List (List ℕ)) (t : State) (old new : Option (List ℕ)) (before after : ℕ) : Type 0 where
   pub out : List ℕ
-  pub count : ℕ
-  pub prints : PrintAll settings s lines out count t
+  pub prints : PrintAll settings s lines out t
   pub written : Appends old new out
-  pub counted : after ≡ before + count
+  pub counted : after ≡ before + number_printed lines
 
 -- the first of the lines were taken, and a part of what they print is written
-pub record Stops (settings : Settings) (s : State) (lines : List (List ℕ)) (t : State) (old new : Option (List ℕ)) : Type 0 where
+pub record StopsScript (settings : Settings) (s : State) (lines : List (List ℕ)) (t : State) (old new : Option (List ℕ)) : Type 0 where
   pub taken : ℕ
   pub out : List ℕ
-  pub count : ℕ
   pub part : ℕ
   pub few : taken ≤ length lines
-  pub prints : PrintAll settings s (take taken lines) out count t
+  pub prints : PrintAll settings s (take taken lines) out t
   pub written : Appends old new (take part out)
 
 -- a part of the bytes was written

@@ -13,7 +13,7 @@ use Rattle.adr_script.specs.declared.asked.Asked.{Asked}
 use Rattle.adr_script.specs.declared.asked.Asked.TheVariants as asked
 use Rattle.adr_script.specs.declared.step.NodeStep.{NodeStep}
 use Rattle.adr_script.specs.Cuts.{cut}
-use Rattle.adr_script.specs.Words.{moment_at}
+use Rattle.adr_script.specs.Words.{moment_from}
 use Rattle.adr_script.specs.Requests.{request_of}
 use Rattle.adr_script.specs.Steps.{step_of}
 use Rattle.adr_script.specs.Bodies.{status_for, bad_line, problem_line, refused_line, request_text, step_text}
@@ -59,7 +59,7 @@ turn_at settings s (Some now) (role, Some rest) = turn_of settings s now role re
 
 abbrev pub turn_behind : Settings → State → List ℕ × Option (List ℕ) → List ℕ × State
 turn_behind settings s (moment, None) = (bad_line, s)
-turn_behind settings s (moment, Some rest) = turn_at settings s (moment_at moment) (cut 32 rest)
+turn_behind settings s (moment, Some rest) = turn_at settings s (moment_from moment) (cut 32 rest)
 
 -- what a line that isn't empty prints, and the state that it leaves
 unfoldable pub line_turn : Settings → State → List ℕ → List ℕ × State
@@ -80,22 +80,31 @@ role_behind (moment, Some rest) = (cut 32 rest).0
 unfoldable pub want_line : List ℕ → Refusal → List ℕ
 want_line line refusal = want_by (role_behind (cut 32 line)) refusal
 
--- a desk's answer: the machine's; or want of memory or the store's refusal in its place, and no step
-abbrev pub Outcome : State → Result (Answer × State) Refusal → Result Answer Refusal → State → Type 0
-Outcome s r answer t = ((answer ≡ told r) × (t ≡ state_after s r)) ⊎ ((stands answer ≡ false) × (t ≡ s))
+-- ---- turns as they are taken
 
--- a turn as it was taken: as it is defined; or want of memory or the store's refusal in its place, and no step;
--- or want of memory in place of the text of a step that was taken
-abbrev pub Takes : (Refusal → List ℕ) → State → List ℕ × State → List ℕ → State → Type 0
-Takes want s turn out t =
-    ((out ≡ turn.0) × (t ≡ turn.1))
-    ⊎ (((out ≡ want OutOfMemory) ⊎ (out ≡ want Store)) × (t ≡ s))
-    ⊎ ((out ≡ want OutOfMemory) × (t ≡ turn.1))
+-- a desk's answer, and the state after it
+pub data Outcome (s : State) (r : Result (Answer × State) Refusal) (answer : Result Answer Refusal) (t : State) : Type 0 where
+  -- the machine's
+  as_machine : answer ≡ told r → t ≡ state_after s r → Outcome s r answer t
+  -- want of memory or the store's refusal in its place, and no step
+  no_answer : stands answer ≡ false → t ≡ s → Outcome s r answer t
 
--- the state behind a turn whose text could not be built: the step was taken, or it wasn't
-abbrev pub Leaves : State → List ℕ × State → State → Type 0
-Leaves s turn t = (t ≡ s) ⊎ (t ≡ turn.1)
+-- a turn as it was taken
+pub data Takes (want : Refusal → List ℕ) (s : State) (turn : List ℕ × State) (out : List ℕ) (t : State) : Type 0 where
+  -- the turn as it is defined
+  as_defined : out ≡ turn.0 → t ≡ turn.1 → Takes want s turn out t
+  -- want of memory or the store's refusal in its place, and no step
+  in_its_place : (out ≡ want OutOfMemory) ⊎ (out ≡ want Store) → t ≡ s → Takes want s turn out t
+  -- want of memory in place of the text of a step that was taken
+  without_text : out ≡ want OutOfMemory → t ≡ turn.1 → Takes want s turn out t
+
+-- the state behind a turn whose text could not be built
+pub data MayLeave (s : State) (turn : List ℕ × State) (t : State) : Type 0 where
+  -- that of before: no step was taken
+  no_step : t ≡ s → MayLeave s turn t
+  -- that of the step
+  step_taken : t ≡ turn.1 → MayLeave s turn t
 
 -- from s, what a line that isn't empty may print, and the state that it may leave
-unfoldable pub IsTurn : Settings → State → List ℕ → List ℕ → State → Type 0
+abbrev pub IsTurn : Settings → State → List ℕ → List ℕ → State → Type 0
 IsTurn settings s line out t = Takes (want_line line) s (line_turn settings s line) out t

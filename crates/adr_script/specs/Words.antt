@@ -9,20 +9,20 @@ use Rattle.adr_machine.specs.declared.role.Role.TheVariants.{Operator, Ven, Util
 use Rattle.adr_script.specs.Cuts.{behind}
 
 -- the bytes, where they are text
-unfoldable pub text_at : List ℕ → Option (List ℕ)
-text_at bytes = if is_utf8 bytes then Some bytes else None
+unfoldable pub text_from : List ℕ → Option (List ℕ)
+text_from bytes = if is_utf8 bytes then Some bytes else None
 
 -- the moment that the bytes say
-unfoldable pub moment_at : List ℕ → Option ℕ
-moment_at bytes = option_and_then (λ text. result_ok (moment_of text)) (text_at bytes)
+unfoldable pub moment_from : List ℕ → Option ℕ
+moment_from bytes = option_and_then (λ text. result_ok (moment_of text)) (text_from bytes)
 
 -- the object id that the bytes are
-unfoldable pub id_at : List ℕ → Option (List ℕ)
-id_at bytes = option_and_then (λ text. result_ok (id_of text)) (text_at bytes)
+unfoldable pub id_from : List ℕ → Option (List ℕ)
+id_from bytes = option_and_then (λ text. result_ok (id_of text)) (text_from bytes)
 
 -- `operator`, `utility` or `ven:` and an id
-unfoldable pub role_at : List ℕ → Option Role
-role_at bytes =
+unfoldable pub role_from : List ℕ → Option Role
+role_from bytes =
     if bytes_eq bytes (codes "operator") then Some Operator
     else (if bytes_eq bytes (codes "utility") then Some Utility
-    else option_map Ven (option_and_then id_at (behind (codes "ven:") bytes)))
+    else option_map Ven (option_and_then id_from (behind (codes "ven:") bytes)))

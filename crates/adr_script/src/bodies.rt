@@ -3,7 +3,8 @@ ghost use Rattle.std.specs.Prelude.{◌≡◌, ◌++◌, IfOk, OnOk, string_byte
 ghost use Rattle.adr_script.specs.Bodies.{object_text, list_text, answer_text, reply_line, changes_line, bad_line, problem_line, refused_by, refused_line, count_line, done_line, kind_word, key_text, probes_line, request_text, step_line, step_text};
 
 use adr_machine::{Answer, Object};
-use adr_schema::{Kind, write_event, write_problem, write_resource, write_share, write_ven};
+use adr_objects::Kind;
+use adr_schema::{write_event, write_problem, write_resource, write_share, write_ven};
 use adr_state::MirrorKey;
 use adr_text::Refusal;
 use std::alloc::{AllocError, Global};

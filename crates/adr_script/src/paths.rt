@@ -5,7 +5,7 @@ ghost use Rattle.adr_script.specs.Cuts.{cut, behind};
 ghost use Rattle.adr_script.specs.Paths.{both_ids, resources_path, under_ven, ven_path, share_path, longer_path, path_of};
 
 use crate::cuts::{behind, cut};
-use crate::words::id_at;
+use crate::words::id_from;
 use adr_text::ObjectId;
 use std::alloc::{AllocError, Global};
 
@@ -43,10 +43,10 @@ fn both_ids(
 ) -> Result<Option<(ObjectId, ObjectId)>, AllocError>
     ensures { IfOk result (λ ids. ids ≡ both_ids first.now second.now) }
 {
-    let Some(first) = id_at(alloc, first)? else {
+    let Some(first) = id_from(alloc, first)? else {
         return Ok(None);
     };
-    match id_at(alloc, second)? {
+    match id_from(alloc, second)? {
         Some(second) => Ok(Some((first, second))),
         None => Ok(None),
     }
@@ -57,7 +57,7 @@ fn resources_path(alloc: Global, ven: &[u8], id: Option<&[u8]>) -> Result<Option
     ensures { IfOk result (λ path. path ≡ resources_path ven.now (option_copied id.entry)) }
 {
     match id {
-        None => Ok(id_at(alloc, ven)?.map(Path::Resources)),
+        None => Ok(id_from(alloc, ven)?.map(Path::Resources)),
         Some(id) => match both_ids(alloc, ven, id)? {
             Some((ven, id)) => Ok(Some(Path::Resource { ven, id })),
             None => Ok(None),
@@ -81,7 +81,7 @@ fn ven_path(alloc: Global, rest: &[u8]) -> Result<Option<Path>, AllocError>
     ensures { IfOk result (λ path. path ≡ ven_path (cut 47 rest.now)) }
 {
     match cut(b'/', rest) {
-        (id, None) => Ok(id_at(alloc, id)?.map(Path::Ven)),
+        (id, None) => Ok(id_from(alloc, id)?.map(Path::Ven)),
         (ven, Some(rest)) => under_ven(alloc, ven, rest),
     }
 }
@@ -91,7 +91,7 @@ fn share_path(alloc: Global, rest: &[u8]) -> Result<Option<Path>, AllocError>
     ensures { IfOk result (λ path. path ≡ share_path (cut 47 rest.now)) }
 {
     match cut(b'/', rest) {
-        (program, None) => Ok(id_at(alloc, program)?.map(Path::Shares)),
+        (program, None) => Ok(id_from(alloc, program)?.map(Path::Shares)),
         (program, Some(resource)) => match both_ids(alloc, program, resource)? {
             Some((program, resource)) => Ok(Some(Path::Share { program, resource })),
             None => Ok(None),

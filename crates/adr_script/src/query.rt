@@ -3,8 +3,8 @@ ghost use Rattle.std.specs.Prelude.{◌≡◌, ◌≤◌, map, codes, IfOk};
 ghost use Rattle.std.specs.Cow.{cow_str_bytes};
 ghost use Rattle.form_urlencoded.specs.Form.{raw_pairs};
 ghost use Rattle.adr_text.specs.Refusals.{Gives};
-ghost use Rattle.adr_machine.specs.Digits.{most_number};
-ghost use Rattle.adr_script.specs.Queries.{values_of, single, number_in, page_asked, text_in};
+ghost use Rattle.adr_state.specs.Digits.{most_number};
+ghost use Rattle.adr_script.specs.Queries.{values_of, single, number_in, page_asked, decoded_text};
 ghost use Rattle.std.specs.Prelude.{bytes_eq};
 
 use adr_machine::{Page, number_within};
@@ -15,14 +15,14 @@ use std::borrow::CowStr;
 
 /// Whether the decoded name is this one.
 fn is_named(alloc: Global, encoded: &[u8], name: &str) -> Result<bool, AllocError>
-    ensures { IfOk result (λ is. is ≡ bytes_eq (text_in encoded.now) name.now) }
+    ensures { IfOk result (λ is. is ≡ bytes_eq (decoded_text encoded.now) name.now) }
 {
     let decoded = decode(alloc, encoded)?;
     Ok(decoded.as_str() == name)
 }
 
 fn decoded(alloc: Global, encoded: &[u8]) -> Result<CowStr<'_>, AllocError>
-    ensures { IfOk result (λ text. cow_str_bytes text ≡ text_in encoded.now) }
+    ensures { IfOk result (λ text. cow_str_bytes text ≡ decoded_text encoded.now) }
 {
     decode(alloc, encoded)
 }

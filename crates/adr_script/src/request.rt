@@ -9,9 +9,10 @@ use crate::asked::Asked;
 use crate::cuts::cut;
 use crate::paths::{Path, path_of};
 use crate::query::page_asked;
-use crate::words::{role_at, text_at};
+use crate::words::{role_from, text_from};
 use adr_machine::{Command, Query, Role};
-use adr_schema::{NoticeIn, ShareIn, read_notice, read_resource, read_share, read_ven};
+use adr_objects::ShareIn;
+use adr_schema::{NoticeIn, read_notice, read_resource, read_share, read_ven};
 use adr_text::{Refusal, Rows};
 use std::alloc::{AllocError, Global};
 
@@ -216,10 +217,10 @@ fn asked_of(
 ) -> Result<Option<Asked>, Refusal>
     ensures { Gives (λ a. a) result (asked_of role.now method.now target.now body.now) }
 {
-    if text_at(target).is_none() {
+    if text_from(target).is_none() {
         return Ok(None);
     }
-    let Some(role) = role_at(alloc, role)? else {
+    let Some(role) = role_from(alloc, role)? else {
         return Ok(None);
     };
     asked_on(alloc, role, method, target, body)

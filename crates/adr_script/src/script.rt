@@ -1,12 +1,14 @@
 //! Scripts: lines as they come, each answered in its turn.
-ghost use Rattle.std.specs.Prelude.{◌≡◌, ◌+◌, ◌≤◌, ◌<◌, ◌⊎◌, ℕ, List, [], ◌∷◌, length, IfOk, OnOk, OnErr, IfSome, Err, ◌≢◌};
+ghost use Rattle.std.specs.Prelude.{◌≡◌, ◌≢◌, ◌+◌, ◌≤◌, ◌<◌, ◌⊎◌, ℕ, List, [], ◌∷◌, ◌++◌, length, IfOk, IfErr, OnOk, OnErr, IfSome, Err};
 ghost use Rattle.adr_script.specs.declared.fault.ScriptFault.TheVariants.{Read, Write, LineTooLong, ScriptTooLong};
-ghost use Rattle.adr_script.specs.Lines.{ended, unended, last_line, lines_of, HasLongLine, HasManyLines, most_bytes, most_lines};
-ghost use Rattle.adr_script.specs.Scripts.{Runs, Stops};
+ghost use Rattle.adr_script.specs.Lines.{lines_of, HasLongLine, HasManyLines, most_lines};
+ghost use Rattle.adr_script.specs.Scripts.{RunsScript, StopsScript};
+ghost use Rattle.adr_script.specs.Readings.{HasRead, HasStopped};
 
 use crate::fault::ScriptFault;
 use crate::output::write_all;
-use crate::turn::take_turn;
+use crate::progress::Progress;
+use crate::turn::answer_line;
 use adr_machine::Desk;
 use adr_text::{Sink, Source};
 use std::alloc::Global;
@@ -20,29 +22,16 @@ pub const MOST_LINES: u64 = 1_000_000;
 /// The most reads of one run, 2^41.
 pub const MOST_READS: u64 = 2_199_023_255_552;
 
-/// Where the reading of a script stands.
-#[derive(Drop)]
-struct Progress {
-    /// The line so far.
-    line: Vec<u8>,
-    /// How many lines ended.
-    seen: u64,
-    /// How many of them were printed.
-    printed: u64,
-    ghost few: { seen ≤ 1_000_000 },
-    ghost fewer: { printed ≤ seen },
-}
-
-/// Answers a line that ended; an empty one is passed over.
+/// Answers the line so far, and gives how many are printed then; an empty one is passed over.
 fn end_line<D: Desk, W: Sink>(
     alloc: Global,
     desk: &mut D,
     sink: &mut W,
-    line: &[u8],
+    progress: &Progress,
 ) -> Result<u64, ScriptFault>
-    ensures ok { IfOk result (λ n. D.is_sound desk.new → Runs (D.settings desk.old) (D.state desk.old) (line.now ∷ []) (D.state desk.new) (W.written sink.old) (W.written sink.new) 0 n) }
-    ensures few { IfOk result (λ n. n ≤ 1) }
-    ensures err { OnErr result (D.is_sound desk.new → Stops (D.settings desk.old) (D.state desk.old) (line.now ∷ []) (D.state desk.new) (W.written sink.old) (W.written sink.new)) }
+    ensures ok { IfOk result (λ n. D.is_sound desk.new → RunsScript (D.settings desk.old) (D.state desk.old) (progress.now.line.items ∷ []) (D.state desk.new) (W.written sink.old) (W.written sink.new) progress.now.printed n) }
+    ensures few { IfOk result (λ n. n ≤ progress.now.printed + 1) }
+    ensures err { OnErr result (D.is_sound desk.new → (others : List (List ℕ)) → StopsScript (D.settings desk.old) (D.state desk.old) (progress.now.line.items ∷ others) (D.state desk.new) (W.written sink.old) (W.written sink.new)) }
     ensures no_write_fault { IfOk result (λ _. W.failed sink.new ≡ W.failed sink.old) }
     ensures write_fault { result ≡ Err Write → W.failed sink.new ≡ W.failed sink.old + 1 }
     ensures no_read_fault { result ≢ Err Read }
@@ -51,12 +40,13 @@ fn end_line<D: Desk, W: Sink>(
     ensures was_sound { D.is_sound desk.new → D.is_sound desk.old }
     ensures same_settings { D.settings desk.new ≡ D.settings desk.old }
 {
+    let line = progress.line.as_slice();
     if line.is_empty() {
-        return Ok(0);
+        return Ok(progress.printed);
     }
-    let out = take_turn(alloc, desk, line)?;
+    let out = answer_line(alloc, desk, line)?;
     match write_all(sink, out.as_str().as_bytes()) {
-        Ok(()) => Ok(1),
+        Ok(()) => Ok(progress.printed + 1),
         Err(_) => Err(ScriptFault::Write),
     }
 }
@@ -69,22 +59,17 @@ fn take_end<D: Desk, W: Sink>(
     progress: &mut Progress,
 ) -> Result<(), ScriptFault>
     requires { progress.old.seen < most_lines }
-    ensures line { OnOk result (progress.new.line.items ≡ []) }
-    ensures seen { OnOk result (progress.new.seen ≡ progress.old.seen + 1) }
-    ensures ok { OnOk result (D.is_sound desk.new → Runs (D.settings desk.old) (D.state desk.old) (progress.old.line.items ∷ []) (D.state desk.new) (W.written sink.old) (W.written sink.new) progress.old.printed progress.new.printed) }
-    ensures err { OnErr result (D.is_sound desk.new → Stops (D.settings desk.old) (D.state desk.old) (progress.old.line.items ∷ []) (D.state desk.new) (W.written sink.old) (W.written sink.new)) }
+    ensures ok { OnOk result (HasRead (D.is_sound desk.new) (D.settings desk.old) (D.state desk.old) (D.state desk.new) (W.written sink.old) (W.written sink.new) progress.old progress.new (10 ∷ [])) }
+    ensures err { IfErr result (λ fault. (rest : List ℕ) → HasStopped (D.is_sound desk.new) (D.settings desk.old) (D.state desk.old) (D.state desk.new) (W.written sink.old) (W.written sink.new) progress.old (10 ∷ rest) fault) }
     ensures no_write_fault { OnOk result (W.failed sink.new ≡ W.failed sink.old) }
     ensures write_fault { result ≡ Err Write → W.failed sink.new ≡ W.failed sink.old + 1 }
     ensures no_read_fault { result ≢ Err Read }
-    ensures no_long_line { result ≢ Err LineTooLong }
-    ensures no_long_script { result ≢ Err ScriptTooLong }
     ensures was_sound { D.is_sound desk.new → D.is_sound desk.old }
     ensures same_settings { D.settings desk.new ≡ D.settings desk.old }
 {
-    let printed = end_line(alloc, desk, sink, &progress.line)?;
+    progress.printed = end_line(alloc, desk, sink, progress)?;
     progress.line.clear();
     progress.seen += 1;
-    progress.printed += printed;
     Ok(())
 }
 
@@ -96,17 +81,11 @@ fn take_byte<D: Desk, W: Sink>(
     progress: &mut Progress,
     byte: u8,
 ) -> Result<(), ScriptFault>
-    ensures line { OnOk result (progress.new.line.items ≡ unended progress.old.line.items (byte ∷ [])) }
-    ensures ok { OnOk result (D.is_sound desk.new → Runs (D.settings desk.old) (D.state desk.old) (ended progress.old.line.items (byte ∷ [])) (D.state desk.new) (W.written sink.old) (W.written sink.new) progress.old.printed progress.new.printed) }
-    ensures err { OnErr result (D.is_sound desk.new → Stops (D.settings desk.old) (D.state desk.old) (ended progress.old.line.items (byte ∷ [])) (D.state desk.new) (W.written sink.old) (W.written sink.new)) }
+    ensures ok { OnOk result (HasRead (D.is_sound desk.new) (D.settings desk.old) (D.state desk.old) (D.state desk.new) (W.written sink.old) (W.written sink.new) progress.old progress.new (byte ∷ [])) }
+    ensures err { IfErr result (λ fault. (rest : List ℕ) → HasStopped (D.is_sound desk.new) (D.settings desk.old) (D.state desk.old) (D.state desk.new) (W.written sink.old) (W.written sink.new) progress.old (byte ∷ rest) fault) }
     ensures no_write_fault { OnOk result (W.failed sink.new ≡ W.failed sink.old) }
     ensures write_fault { result ≡ Err Write → W.failed sink.new ≡ W.failed sink.old + 1 }
     ensures no_read_fault { result ≢ Err Read }
-    ensures seen { OnOk result (progress.new.seen ≡ progress.old.seen + length (ended progress.old.line.items (byte ∷ []))) }
-    ensures long_line { result ≡ Err LineTooLong → HasLongLine progress.old.line.items (byte ∷ []) }
-    ensures long_script { result ≡ Err ScriptTooLong → HasManyLines progress.old.seen progress.old.line.items (byte ∷ []) }
-    ensures short_lines { OnOk result (¬ HasLongLine progress.old.line.items (byte ∷ [])) }
-    ensures few_lines { OnOk result (¬ HasManyLines progress.old.seen progress.old.line.items (byte ∷ [])) }
     ensures was_sound { D.is_sound desk.new → D.is_sound desk.old }
     ensures same_settings { D.settings desk.new ≡ D.settings desk.old }
 {
@@ -132,17 +111,11 @@ fn take_piece<D: Desk, W: Sink>(
     progress: &mut Progress,
     piece: &[u8],
 ) -> Result<(), ScriptFault>
-    ensures line { OnOk result (progress.new.line.items ≡ unended progress.old.line.items piece.now) }
-    ensures ok { OnOk result (D.is_sound desk.new → Runs (D.settings desk.old) (D.state desk.old) (ended progress.old.line.items piece.now) (D.state desk.new) (W.written sink.old) (W.written sink.new) progress.old.printed progress.new.printed) }
-    ensures err { OnErr result (D.is_sound desk.new → Stops (D.settings desk.old) (D.state desk.old) (ended progress.old.line.items piece.now) (D.state desk.new) (W.written sink.old) (W.written sink.new)) }
+    ensures ok { OnOk result (HasRead (D.is_sound desk.new) (D.settings desk.old) (D.state desk.old) (D.state desk.new) (W.written sink.old) (W.written sink.new) progress.old progress.new piece.now) }
+    ensures err { IfErr result (λ fault. (rest : List ℕ) → HasStopped (D.is_sound desk.new) (D.settings desk.old) (D.state desk.old) (D.state desk.new) (W.written sink.old) (W.written sink.new) progress.old (piece.now ++ rest) fault) }
     ensures no_write_fault { OnOk result (W.failed sink.new ≡ W.failed sink.old) }
     ensures write_fault { result ≡ Err Write → W.failed sink.new ≡ W.failed sink.old + 1 }
     ensures no_read_fault { result ≢ Err Read }
-    ensures seen { OnOk result (progress.new.seen ≡ progress.old.seen + length (ended progress.old.line.items piece.now)) }
-    ensures long_line { result ≡ Err LineTooLong → HasLongLine progress.old.line.items piece.now }
-    ensures long_script { result ≡ Err ScriptTooLong → HasManyLines progress.old.seen progress.old.line.items piece.now }
-    ensures short_lines { OnOk result (¬ HasLongLine progress.old.line.items piece.now) }
-    ensures few_lines { OnOk result (¬ HasManyLines progress.old.seen progress.old.line.items piece.now) }
     ensures was_sound { D.is_sound desk.new → D.is_sound desk.old }
     ensures same_settings { D.settings desk.new ≡ D.settings desk.old }
 {
@@ -150,30 +123,6 @@ fn take_piece<D: Desk, W: Sink>(
         take_byte(alloc, desk, sink, progress, *byte)?;
     }
     Ok(())
-}
-
-/// Answers the last line, which lacks its LF.
-fn finish<D: Desk, W: Sink>(
-    alloc: Global,
-    desk: &mut D,
-    sink: &mut W,
-    progress: &Progress,
-) -> Result<u64, ScriptFault>
-    ensures ok { IfOk result (λ n. D.is_sound desk.new → Runs (D.settings desk.old) (D.state desk.old) (last_line progress.now.line.items) (D.state desk.new) (W.written sink.old) (W.written sink.new) progress.now.printed n) }
-    ensures err { OnErr result (D.is_sound desk.new → Stops (D.settings desk.old) (D.state desk.old) (last_line progress.now.line.items) (D.state desk.new) (W.written sink.old) (W.written sink.new)) }
-    ensures no_write_fault { IfOk result (λ _. W.failed sink.new ≡ W.failed sink.old) }
-    ensures write_fault { result ≡ Err Write → W.failed sink.new ≡ W.failed sink.old + 1 }
-    ensures no_read_fault { result ≢ Err Read }
-    ensures no_long_line { result ≢ Err LineTooLong }
-    ensures no_long_script { result ≢ Err ScriptTooLong }
-    ensures was_sound { D.is_sound desk.new → D.is_sound desk.old }
-    ensures same_settings { D.settings desk.new ≡ D.settings desk.old }
-{
-    if progress.line.is_empty() {
-        return Ok(progress.printed);
-    }
-    let printed = end_line(alloc, desk, sink, &progress.line)?;
-    Ok(progress.printed + printed)
 }
 
 /// Runs the lines of a script as they come, each in its turn, and answers how many were printed.
@@ -186,16 +135,16 @@ pub fn run_script<D: Desk, S: Source, W: Sink>(
     source: &mut S,
     sink: &mut W,
 ) -> Result<u64, ScriptFault>
-    ensures all { IfOk result (λ n. IfSome (S.left source.old) (λ text. D.is_sound desk.new → Runs (D.settings desk.old) (D.state desk.old) (lines_of text) (D.state desk.new) (W.written sink.old) (W.written sink.new) 0 n)) }
-    ensures some { OnErr result (IfSome (S.left source.old) (λ text. D.is_sound desk.new → Stops (D.settings desk.old) (D.state desk.old) (lines_of text) (D.state desk.new) (W.written sink.old) (W.written sink.new))) }
+    ensures all { IfOk result (λ n. IfSome (S.left source.old) (λ text. D.is_sound desk.new → RunsScript (D.settings desk.old) (D.state desk.old) (lines_of text) (D.state desk.new) (W.written sink.old) (W.written sink.new) 0 n)) }
+    ensures some { OnErr result (IfSome (S.left source.old) (λ text. D.is_sound desk.new → StopsScript (D.settings desk.old) (D.state desk.old) (lines_of text) (D.state desk.new) (W.written sink.old) (W.written sink.new))) }
     ensures no_fault_is_passed_over { OnOk result ((S.failed source.new ≡ S.failed source.old) × (W.failed sink.new ≡ W.failed sink.old)) }
     ensures read_fault { result ≡ Err Read → (S.failed source.new ≡ S.failed source.old + 1) ⊎ (S.calls source.new ≡ S.calls source.old + MOST_READS) }
     ensures write_fault { result ≡ Err Write → W.failed sink.new ≡ W.failed sink.old + 1 }
     ensures reads { S.calls source.new ≤ S.calls source.old + MOST_READS }
-    ensures long_line { IfSome (S.left source.old) (λ text. result ≡ Err LineTooLong → HasLongLine [] text) }
-    ensures long_script { IfSome (S.left source.old) (λ text. result ≡ Err ScriptTooLong → HasManyLines 0 [] text) }
-    ensures short_lines { OnOk result (IfSome (S.left source.old) (λ text. ¬ HasLongLine [] text)) }
-    ensures few_lines { OnOk result (IfSome (S.left source.old) (λ text. ¬ HasManyLines 0 [] text)) }
+    ensures long_line { IfSome (S.left source.old) (λ text. result ≡ Err LineTooLong → HasLongLine text) }
+    ensures long_script { IfSome (S.left source.old) (λ text. result ≡ Err ScriptTooLong → HasManyLines text) }
+    ensures short_lines { OnOk result (IfSome (S.left source.old) (λ text. ¬ HasLongLine text)) }
+    ensures few_lines { OnOk result (IfSome (S.left source.old) (λ text. ¬ HasManyLines text)) }
     ensures was_sound { D.is_sound desk.new → D.is_sound desk.old }
     ensures same_settings { D.settings desk.new ≡ D.settings desk.old }
 {
@@ -211,7 +160,7 @@ pub fn run_script<D: Desk, S: Source, W: Sink>(
             Err(_) => return Err(ScriptFault::Read),
         };
         if n == 0 {
-            return finish(alloc, desk, sink, &progress);
+            return end_line(alloc, desk, sink, &progress);
         }
         take_piece(alloc, desk, sink, &mut progress, &buffer[..n])?;
     }

@@ -3,13 +3,14 @@ ghost use Rattle.std.specs.Prelude.{◌≡◌, IfOk};
 ghost use Rattle.std.specs.Option.{option_copied};
 ghost use Rattle.adr_text.specs.Refusals.{Gives};
 ghost use Rattle.adr_script.specs.Cuts.{cut};
-ghost use Rattle.adr_script.specs.Steps.{plain_step, kind_at, page_of_kind, page_step, gone_step, scan_step, count_at, probes_step, step_by, step_of};
+ghost use Rattle.adr_script.specs.Steps.{plain_step, kind_from, page_of_kind, page_step, gone_step, scan_step, count_from, probes_step, step_by, step_of};
 
 use crate::asked::Asked;
 use crate::cuts::cut;
-use crate::words::id_at;
+use crate::words::id_from;
 use adr_machine::{Command, Query, number_within};
-use adr_schema::{Kind, read_page};
+use adr_objects::Kind;
+use adr_schema::read_page;
 use adr_text::Refusal;
 use std::alloc::{AllocError, Global};
 
@@ -30,8 +31,8 @@ fn plain_step(asked: Asked) -> NodeStep
     }
 }
 
-fn kind_at(word: &[u8]) -> Option<Kind>
-    ensures { result ≡ kind_at word.now }
+fn kind_from(word: &[u8]) -> Option<Kind>
+    ensures { result ≡ kind_from word.now }
 {
     if word == b"programs".as_slice() {
         Some(Kind::Program)
@@ -65,7 +66,7 @@ fn page_step(alloc: Global, rest: &[u8]) -> Result<Option<NodeStep>, Refusal>
     ensures { Gives (λ s. s) result (page_step (cut 32 rest.now)) }
 {
     match cut(b' ', rest) {
-        (kind, Some(json)) => page_of_kind(alloc, kind_at(kind), json),
+        (kind, Some(json)) => page_of_kind(alloc, kind_from(kind), json),
         (_, None) => Ok(None),
     }
 }
@@ -77,10 +78,10 @@ fn gone_step(alloc: Global, rest: &[u8]) -> Result<Option<NodeStep>, AllocError>
     let (kind, Some(id)) = cut(b' ', rest) else {
         return Ok(None);
     };
-    let Some(kind) = kind_at(kind) else {
+    let Some(kind) = kind_from(kind) else {
         return Ok(None);
     };
-    match id_at(alloc, id)? {
+    match id_from(alloc, id)? {
         Some(id) => Ok(Some(plain_step(Asked::Command(Command::Gone { kind, id })))),
         None => Ok(None),
     }
@@ -100,8 +101,8 @@ fn scan_step(word: &[u8]) -> Option<NodeStep>
 }
 
 /// The number of 1 to 9 digits.
-fn count_at(digits: &[u8]) -> Option<u32>
-    ensures { result ≡ count_at digits.now }
+fn count_from(digits: &[u8]) -> Option<u32>
+    ensures { result ≡ count_from digits.now }
 {
     if 9 < digits.len() {
         return None;
@@ -116,7 +117,7 @@ fn count_at(digits: &[u8]) -> Option<u32>
 fn probes_step(digits: &[u8]) -> Option<NodeStep>
     ensures { result ≡ probes_step digits.now }
 {
-    match count_at(digits) {
+    match count_from(digits) {
         Some(limit) => Some(plain_step(Asked::Query(Query::Probes { limit }))),
         None => None,
     }

@@ -4,14 +4,14 @@ ghost use Rattle.adr_text.specs.declared.refusal.Refusal.TheVariants.{OutOfMemor
 ghost use Rattle.adr_script.specs.Bodies.{problem_line, refused_line, request_text, step_text};
 ghost use Rattle.adr_script.specs.Requests.{request_of};
 ghost use Rattle.adr_script.specs.Steps.{step_of};
-ghost use Rattle.adr_script.specs.Turns.{asked_step, request_turn, node_turn, turn_of, line_turn, want_by, want_line, Outcome, Takes, Leaves, IsTurn};
+ghost use Rattle.adr_script.specs.Turns.{asked_step, request_turn, node_turn, turn_of, line_turn, want_by, want_line, Outcome, Takes, MayLeave, IsTurn};
 
 use crate::asked::{Asked, status_for};
 use crate::bodies::{bad_line, problem_line, refused_line, request_text, step_text};
 use crate::cuts::cut;
 use crate::request::request_of;
 use crate::step::{NodeStep, step_of};
-use crate::words::moment_at;
+use crate::words::moment_from;
 use adr_machine::{Answer, Desk};
 use adr_text::{Moment, Refusal};
 use std::alloc::{AllocError, Global};
@@ -37,7 +37,7 @@ fn answer_asked<D: Desk>(
     asked: &Asked,
 ) -> Result<String, AllocError>
     ensures ok { IfOk result (λ out. D.is_sound desk.new → Takes problem_line (D.state desk.old) (request_turn (D.settings desk.old) (D.state desk.old) now (Ok (Some asked.now))) (string_bytes out) (D.state desk.new)) }
-    ensures err { OnErr result (D.is_sound desk.new → Leaves (D.state desk.old) (request_turn (D.settings desk.old) (D.state desk.old) now (Ok (Some asked.now))) (D.state desk.new)) }
+    ensures err { OnErr result (D.is_sound desk.new → MayLeave (D.state desk.old) (request_turn (D.settings desk.old) (D.state desk.old) now (Ok (Some asked.now))) (D.state desk.new)) }
     ensures was_sound { D.is_sound desk.new → D.is_sound desk.old }
     ensures same_settings { D.settings desk.new ≡ D.settings desk.old }
 {
@@ -55,7 +55,7 @@ fn answer_request<D: Desk>(
     rest: &[u8],
 ) -> Result<String, AllocError>
     ensures ok { IfOk result (λ out. D.is_sound desk.new → Takes problem_line (D.state desk.old) (request_turn (D.settings desk.old) (D.state desk.old) now (request_of role.now rest.now)) (string_bytes out) (D.state desk.new)) }
-    ensures err { OnErr result (D.is_sound desk.new → Leaves (D.state desk.old) (request_turn (D.settings desk.old) (D.state desk.old) now (request_of role.now rest.now)) (D.state desk.new)) }
+    ensures err { OnErr result (D.is_sound desk.new → MayLeave (D.state desk.old) (request_turn (D.settings desk.old) (D.state desk.old) now (request_of role.now rest.now)) (D.state desk.new)) }
     ensures was_sound { D.is_sound desk.new → D.is_sound desk.old }
     ensures same_settings { D.settings desk.new ≡ D.settings desk.old }
 {
@@ -74,7 +74,7 @@ fn answer_step<D: Desk>(
     step: &NodeStep,
 ) -> Result<String, AllocError>
     ensures ok { IfOk result (λ out. D.is_sound desk.new → Takes refused_line (D.state desk.old) (node_turn (D.settings desk.old) (D.state desk.old) now (Ok (Some step.now))) (string_bytes out) (D.state desk.new)) }
-    ensures err { OnErr result (D.is_sound desk.new → Leaves (D.state desk.old) (node_turn (D.settings desk.old) (D.state desk.old) now (Ok (Some step.now))) (D.state desk.new)) }
+    ensures err { OnErr result (D.is_sound desk.new → MayLeave (D.state desk.old) (node_turn (D.settings desk.old) (D.state desk.old) now (Ok (Some step.now))) (D.state desk.new)) }
     ensures was_sound { D.is_sound desk.new → D.is_sound desk.old }
     ensures same_settings { D.settings desk.new ≡ D.settings desk.old }
 {
@@ -90,7 +90,7 @@ fn answer_node<D: Desk>(
     words: &[u8],
 ) -> Result<String, AllocError>
     ensures ok { IfOk result (λ out. D.is_sound desk.new → Takes refused_line (D.state desk.old) (node_turn (D.settings desk.old) (D.state desk.old) now (step_of words.now)) (string_bytes out) (D.state desk.new)) }
-    ensures err { OnErr result (D.is_sound desk.new → Leaves (D.state desk.old) (node_turn (D.settings desk.old) (D.state desk.old) now (step_of words.now)) (D.state desk.new)) }
+    ensures err { OnErr result (D.is_sound desk.new → MayLeave (D.state desk.old) (node_turn (D.settings desk.old) (D.state desk.old) now (step_of words.now)) (D.state desk.new)) }
     ensures was_sound { D.is_sound desk.new → D.is_sound desk.old }
     ensures same_settings { D.settings desk.new ≡ D.settings desk.old }
 {
@@ -111,7 +111,7 @@ fn answer_role<D: Desk>(
     rest: &[u8],
 ) -> Result<String, AllocError>
     ensures ok { IfOk result (λ out. D.is_sound desk.new → Takes (want_by role.now) (D.state desk.old) (turn_of (D.settings desk.old) (D.state desk.old) now role.now rest.now) (string_bytes out) (D.state desk.new)) }
-    ensures err { OnErr result (D.is_sound desk.new → Leaves (D.state desk.old) (turn_of (D.settings desk.old) (D.state desk.old) now role.now rest.now) (D.state desk.new)) }
+    ensures err { OnErr result (D.is_sound desk.new → MayLeave (D.state desk.old) (turn_of (D.settings desk.old) (D.state desk.old) now role.now rest.now) (D.state desk.new)) }
     ensures was_sound { D.is_sound desk.new → D.is_sound desk.old }
     ensures same_settings { D.settings desk.new ≡ D.settings desk.old }
 {
@@ -125,8 +125,8 @@ fn answer_role<D: Desk>(
 /// The turn of a line.
 #[tactic(auto, unfolding(crate::specs::Turns::line_turn, crate::specs::Turns::want_line))]
 fn take_line<D: Desk>(alloc: Global, desk: &mut D, line: &[u8]) -> Result<String, AllocError>
-    ensures ok { IfOk result (λ out. D.is_sound desk.new → Takes (want_line line.now) (D.state desk.old) (line_turn (D.settings desk.old) (D.state desk.old) line.now) (string_bytes out) (D.state desk.new)) }
-    ensures err { OnErr result (D.is_sound desk.new → Leaves (D.state desk.old) (line_turn (D.settings desk.old) (D.state desk.old) line.now) (D.state desk.new)) }
+    ensures ok { IfOk result (λ out. D.is_sound desk.new → IsTurn (D.settings desk.old) (D.state desk.old) line.now (string_bytes out) (D.state desk.new)) }
+    ensures err { OnErr result (D.is_sound desk.new → MayLeave (D.state desk.old) (line_turn (D.settings desk.old) (D.state desk.old) line.now) (D.state desk.new)) }
     ensures was_sound { D.is_sound desk.new → D.is_sound desk.old }
     ensures same_settings { D.settings desk.new ≡ D.settings desk.old }
 {
@@ -134,7 +134,7 @@ fn take_line<D: Desk>(alloc: Global, desk: &mut D, line: &[u8]) -> Result<String
         return bad_line(alloc);
     };
     let (role, rest) = cut(b' ', rest);
-    let Some(now) = moment_at(moment) else {
+    let Some(now) = moment_from(moment) else {
         return bad_line(alloc);
     };
     let Some(rest) = rest else {
@@ -159,8 +159,8 @@ fn want_of_memory(alloc: Global, line: &[u8]) -> Result<String, AllocError>
 /// Takes the turn of a line that isn't empty, and gives what it prints, with its LF. Where memory runs
 /// out for the reply, that refusal is printed in its place.
 pub fn answer_line<D: Desk>(alloc: Global, desk: &mut D, line: &[u8]) -> Result<String, AllocError>
-    ensures ok { IfOk result (λ out. D.is_sound desk.new → Takes (want_line line.now) (D.state desk.old) (line_turn (D.settings desk.old) (D.state desk.old) line.now) (string_bytes out) (D.state desk.new)) }
-    ensures err { OnErr result (D.is_sound desk.new → Leaves (D.state desk.old) (line_turn (D.settings desk.old) (D.state desk.old) line.now) (D.state desk.new)) }
+    ensures ok { IfOk result (λ out. D.is_sound desk.new → IsTurn (D.settings desk.old) (D.state desk.old) line.now (string_bytes out) (D.state desk.new)) }
+    ensures err { OnErr result (D.is_sound desk.new → MayLeave (D.state desk.old) (line_turn (D.settings desk.old) (D.state desk.old) line.now) (D.state desk.new)) }
     ensures was_sound { D.is_sound desk.new → D.is_sound desk.old }
     ensures same_settings { D.settings desk.new ≡ D.settings desk.old }
 {
@@ -168,20 +168,4 @@ pub fn answer_line<D: Desk>(alloc: Global, desk: &mut D, line: &[u8]) -> Result<
         Ok(text) => Ok(text),
         Err(_) => want_of_memory(alloc, line),
     }
-}
-
-/// The turn of a line that isn't empty: what it prints, where the text could be built, and the state
-/// that it leaves in any case.
-#[tactic(auto, unfolding(crate::specs::Turns::IsTurn))]
-pub(crate) fn take_turn<D: Desk>(
-    alloc: Global,
-    desk: &mut D,
-    line: &[u8],
-) -> Result<String, AllocError>
-    ensures taken { IfOk result (λ out. D.is_sound desk.new → IsTurn (D.settings desk.old) (D.state desk.old) line.now (string_bytes out) (D.state desk.new)) }
-    ensures left { OnErr result (D.is_sound desk.new → (out : List ℕ) × IsTurn (D.settings desk.old) (D.state desk.old) line.now out (D.state desk.new)) }
-    ensures was_sound { D.is_sound desk.new → D.is_sound desk.old }
-    ensures same_settings { D.settings desk.new ≡ D.settings desk.old }
-{
-    answer_line(alloc, desk, line)
 }

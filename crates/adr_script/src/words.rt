@@ -1,7 +1,7 @@
 //! The words of a line: moments, ids and roles.
 ghost use Rattle.std.specs.Prelude.{◌≡◌, IfOk};
 ghost use Rattle.std.specs.Option.{option_copied};
-ghost use Rattle.adr_script.specs.Words.{text_at, moment_at, id_at, role_at};
+ghost use Rattle.adr_script.specs.Words.{text_from, moment_from, id_from, role_from};
 
 use crate::cuts::behind;
 use adr_machine::Role;
@@ -10,9 +10,9 @@ use std::alloc::{AllocError, Global};
 use std::str::from_utf8;
 
 /// The bytes, where they are text.
-#[tactic(auto, unfolding(crate::specs::Words::text_at))]
-pub(crate) fn text_at(bytes: &[u8]) -> Option<&str>
-    ensures { option_copied result ≡ text_at bytes.now }
+#[tactic(auto, using(crate::proofs::Utf8::is_text), unfolding(crate::specs::Words::text_from))]
+pub(crate) fn text_from(bytes: &[u8]) -> Option<&str>
+    ensures { option_copied result ≡ text_from bytes.now }
 {
     match from_utf8(bytes) {
         Ok(text) => Some(text),
@@ -21,20 +21,20 @@ pub(crate) fn text_at(bytes: &[u8]) -> Option<&str>
 }
 
 /// The moment that the bytes say.
-#[tactic(auto, unfolding(crate::specs::Words::moment_at))]
-pub(crate) fn moment_at(bytes: &[u8]) -> Option<Moment>
-    ensures { result ≡ moment_at bytes.now }
+#[tactic(auto, unfolding(crate::specs::Words::moment_from))]
+pub(crate) fn moment_from(bytes: &[u8]) -> Option<Moment>
+    ensures { result ≡ moment_from bytes.now }
 {
-    let text = text_at(bytes)?;
+    let text = text_from(bytes)?;
     Moment::read(text).ok()
 }
 
 /// The object id that the bytes are.
-#[tactic(auto, unfolding(crate::specs::Words::id_at))]
-pub(crate) fn id_at(alloc: Global, bytes: &[u8]) -> Result<Option<ObjectId>, AllocError>
-    ensures { IfOk result (λ id. id ≡ id_at bytes.now) }
+#[tactic(auto, unfolding(crate::specs::Words::id_from))]
+pub(crate) fn id_from(alloc: Global, bytes: &[u8]) -> Result<Option<ObjectId>, AllocError>
+    ensures { IfOk result (λ id. id ≡ id_from bytes.now) }
 {
-    let Some(text) = text_at(bytes) else {
+    let Some(text) = text_from(bytes) else {
         return Ok(None);
     };
     match ObjectId::new(alloc, text) {
@@ -45,9 +45,9 @@ pub(crate) fn id_at(alloc: Global, bytes: &[u8]) -> Result<Option<ObjectId>, All
 }
 
 /// The role that the bytes say: `operator`, `utility`, or `ven:` and an id.
-#[tactic(auto, unfolding(crate::specs::Words::role_at))]
-pub(crate) fn role_at(alloc: Global, bytes: &[u8]) -> Result<Option<Role>, AllocError>
-    ensures { IfOk result (λ role. role ≡ role_at bytes.now) }
+#[tactic(auto, unfolding(crate::specs::Words::role_from))]
+pub(crate) fn role_from(alloc: Global, bytes: &[u8]) -> Result<Option<Role>, AllocError>
+    ensures { IfOk result (λ role. role ≡ role_from bytes.now) }
 {
     if bytes == b"operator".as_slice() {
         return Ok(Some(Role::Operator));
@@ -58,7 +58,7 @@ pub(crate) fn role_at(alloc: Global, bytes: &[u8]) -> Result<Option<Role>, Alloc
     let Some(id) = behind(b"ven:", bytes) else {
         return Ok(None);
     };
-    match id_at(alloc, id)? {
+    match id_from(alloc, id)? {
         Some(id) => Ok(Some(Role::Ven(id))),
         None => Ok(None),
     }

@@ -1,8 +1,8 @@
 -- DELETE in a table to which references point, each ON DELETE CASCADE: the rows that go take along those that point to them, through
 -- any chain of tables, and no other row goes.
 use Rattle.std.proofs.Common.{◌≡◌, ◌≢◌, ◌⊎◌, inl, inr, ℕ, zero, suc, ◌<◌, ℤ, Bool, true, false, not, ◌&&◌, ◌||◌, ◌==◌, cond, List, [], ◌∷◌, ◌++◌, map, filter, drop, length, slice_get, Option, Some, None, Ok, Result, MatchBool, IsTrue, true≢false, refl, sym, ap, ap₂, subst, ◌∙◌, Equal, is_eq, arith, length-append, eqb-true, IsPermutation, fold, ◌+◌}
-use Rattle.std.specs.Prelude.{nat_lt}
-use Rattle.std.specs.List.{AllByRecursion, AllZip, list_any, flat_map, filter_map}
+use Rattle.std.specs.Prelude.{nat_lt, is_some}
+use Rattle.std.specs.List.{AllByRecursion, list_all, list_any, flat_map, filter_map}
 use Rattle.std.proofs.lemmas.Bool.{eq-eqb, cases_Bool, both_ways, not-true, and_parts}
 use Rattle.std.proofs.lemmas.Cmp.{tied_back, tied_itself}
 use Rattle.sqlite_value.specs.declared.value.Value.{Value}
@@ -17,6 +17,7 @@ use Rattle.sqlite_trees.specs.View.{is_int}
 use Rattle.sqlite_trees.proofs.ListLemmas.{filter_same}
 use Rattle.sqlite_sql.specs.Ops.{binary, is_null}
 use Rattle.sqlite_sql.specs.Query.{end as no_join}
+use Rattle.sqlite_schema.specs.declared.schema.Action.{Action}
 use Rattle.sqlite_schema.specs.declared.schema.Action.TheVariants.{Cascade}
 use Rattle.sqlite_schema.specs.declared.schema.Constraint.TheVariants.{ForeignKey}
 use Rattle.sqlite_schema.specs.declared.schema.Keys.TheVariants.{Enforced}
@@ -29,7 +30,7 @@ use Rattle.sqlite_rules.specs.declared.error.Rowids.TheVariants.{Given}
 use Rattle.sqlite_rules.specs.declared.action.Deed.TheVariants.{Delete}
 use Rattle.sqlite_rules.specs.Action.{Work, works, work_for, work_by, deed_for, pairs, loses, is_child_of, AreChildren, action_edit, Acts, ActsOn, Goes, Leads, Writes, max_depth}
 use Rattle.sqlite_rules.specs.Edit.{edit_of, taken_by, row_at, without_all, Applies}
-use Rattle.sqlite_rules.proofs.ListLemmas.{all_has, all_from, test_has, some_has, some_from, has_kept, has_filtered, has_got, has_either}
+use Rattle.sqlite_rules.proofs.ListLemmas.{all_has, all_from, test_has, some_has, some_from, has_kept, has_filtered, has_got, has_either, has_left, has_right}
 use Rattle.sqlite_rules.proofs.PlaceLemmas.{tied_same, row_at_is, named_parent}
 use Rattle.sqlite_rules.proofs.TableLemmas.{without_all_has, int_is}
 use Rattle.sqlite_rules.proofs.ProbeLemmas.{mapped_has}
@@ -301,9 +302,13 @@ agree_tie p q a b h =
     let one = (and_parts (equal (first_key plain).collation (column a p) (column b q)) true h).0 in
     tied (column a p) (column b q) (rw first_key-plain at one)
 
--- which rows of each table go, in the order of the tables; of one that stays as it is, none
+-- which rows of a table go, by its tree; of a table that is not named, none
 abbrev pub Losses : Type 0
-Losses = List (Option (Row → Bool))
+Losses = List (ℕ × (Row → Bool))
+
+abbrev pub loss_of : Losses → ℕ → Option (Row → Bool)
+loss_of [] tree = None
+loss_of (l ∷ ls) tree = cond (l.0 == tree) (Some l.1) (loss_of ls tree)
 
 abbrev pub lost_by : Option (Row → Bool) → Row → Bool
 lost_by None row = false
@@ -313,20 +318,67 @@ abbrev pub lessened : Option (Row → Bool) → List Row → List Row
 lessened None rows = rows
 lessened (Some goes) rows = filter (λ row. not (goes row)) rows
 
-abbrev pub lessened_each : Losses → Contents → Contents
-lessened_each [] all = all
-lessened_each (l ∷ ls) [] = []
-lessened_each (l ∷ ls) (rows ∷ all) = lessened l rows ∷ lessened_each ls all
+abbrev pub lessened_each : Losses → List Table → Contents → Contents
+lessened_each ls [] all = all
+lessened_each ls (t ∷ ts) [] = []
+lessened_each ls (t ∷ ts) (rows ∷ all) = lessened (loss_of ls t.tree) rows ∷ lessened_each ls ts all
 
--- the rows that go, by the tree of their table
-abbrev pub lost_in : List Table → Losses → ℕ → Row → Bool
-lost_in [] ls tree row = false
-lost_in (t ∷ ts) [] tree row = false
-lost_in (t ∷ ts) (l ∷ ls) tree row = cond (t.tree == tree) (lost_by l row) (lost_in ts ls tree row)
+-- the tables that lose rows
+abbrev pub losing : Losses → List Table → List Table
+losing ls = filter (λ t. is_some (loss_of ls t.tree))
+
+-- the references to tables that lose rows, each with its own table and the key that it points to
+abbrev pub link_to : Losses → Table → Reference → Option ParentKey → Option (Table × Reference × ParentKey)
+link_to ls child ref None = None
+link_to ls child ref (Some key) = cond (is_some (loss_of ls key.0)) (Some (child, ref, key)) None
+
+abbrev pub links : Schema → Losses → List (Table × Reference × ParentKey)
+links schema ls = flat_map (λ t. filter_map (λ ref. link_to ls t ref (parent_key schema.tables ref)) t.references) schema.tables
+
+lost_some : (loss : Option (Row → Bool)) (row : Row) → lost_by loss row ≡ true → is_some loss ≡ true
+lost_some None row h = h
+lost_some (Some goes) row h = refl
+
+in_flat : {X Y : Type 0} (f : X → List Y) (xs : List X) (x : X) (y : Y) → Has xs x → Has (f x) y → Has (flat_map f xs) y
+in_flat f [] x y has h = absurd has
+in_flat f (z ∷ xs) x y (inl same) h = has_left (f z) (flat_map f xs) y (subst (λ x. Has (f x) y) same h)
+in_flat f (z ∷ xs) x y (inr later) h = has_right (f z) (flat_map f xs) y (in_flat f xs x y later h)
+
+in_some : {X Y : Type 0} (f : X → Option Y) (xs : List X) (x : X) (y : Y) → Has xs x → f x ≡ Some y → Has (filter_map f xs) y
+in_some f [] x y has h = absurd has
+in_some f (z ∷ xs) x y (inl same) h = subst (λ o. Has (Rattle.std.specs.List.cons_option o (filter_map f xs)) y) (sym (ap f (sym same) ∙ h)) (inl refl)
+in_some {X} {Y} f (z ∷ xs) x y (inr later) h = by (f z) (in_some f xs x y later h)
+  where
+    by : (o : Option Y) → Has (filter_map f xs) y → Has (Rattle.std.specs.List.cons_option o (filter_map f xs)) y
+    by None has = has
+    by (Some v) has = inr has
+
+-- whether a reference is ON DELETE CASCADE
+abbrev pub takes_along : Action → Bool
+takes_along Cascade = true
+takes_along _ = false
+
+abbrev pub cascades : Reference → Bool
+cascades ref = takes_along ref.on_delete
+
+is_cascading : (ref : Reference) → cascades ref ≡ true → ref.on_delete ≡ Cascade
+is_cascading ref = by ref.on_delete
+  where
+    by : (a : Action) → takes_along a ≡ true → a ≡ Cascade
+    by Cascade h = refl
+    by _ h = absurd cc
+
+each_cascades : (ts : List Table) → list_all (λ t. list_all cascades t.references) ts ≡ true → AllByRecursion (λ t. AllByRecursion (λ ref. ref.on_delete ≡ Cascade) t.references) ts
+each_cascades [] h = tt
+each_cascades (t ∷ ts) h = let both = and_parts _ _ h in (each t.references both.0, each_cascades ts both.1)
+  where
+    each : (refs : List Reference) → list_all cascades refs ≡ true → AllByRecursion (λ ref. ref.on_delete ≡ Cascade) refs
+    each [] h = tt
+    each (ref ∷ refs) h = let both = and_parts _ _ h in (is_cascading ref both.0, each refs both.1)
 
 module _ (schema : Schema) (root : Table) (losses : Losses) (all : Contents) where
   abbrev pub goes : ℕ → Row → Bool
-  goes = lost_in schema.tables losses
+  goes tree = lost_by (loss_of losses tree)
 
   -- the reference is of one column, to a primary key of one
   pub record IsSimple (ref : Reference) (key : ParentKey) (at : ℕ) : Type 0 where
@@ -340,10 +392,6 @@ module _ (schema : Schema) (root : Table) (losses : Losses) (all : Contents) whe
     pub simple : IsSimple ref key at
     pub along : (r m : Row) → Has (by_tree schema.tables all child.tree) r → Has (by_tree schema.tables all key.0) m → value_cmp (column m 0) (column r at) ≡ Equal → goes key.0 m ≡ true → goes child.tree r ≡ true
 
-  abbrev pub AreAlong : Table → Reference → Option ParentKey → Type 0
-  AreAlong child ref None = Unit {0}
-  AreAlong child ref (Some key) = GoAlong child ref key
-
   -- the row names such as go alone
   pub record NamesGone (t : Table) (r : Row) : Type 0 where
     pub ref : Reference
@@ -356,12 +404,11 @@ module _ (schema : Schema) (root : Table) (losses : Losses) (all : Contents) whe
     pub full : is_null (column r at) ≡ false
     pub alone : (m : Row) → Has (by_tree schema.tables all key.0) m → value_cmp (column m 0) (column r at) ≡ Equal → goes key.0 m ≡ true
 
-  -- what `refl` and `tt` find of the tables, and what is to be shown of the references
+  -- what `refl` finds of the tables, and what is to be shown of those that lose rows and of the references to them
   pub record IsChain : Type 0 where
-    pub each : AllZip (λ t l. (row : Row) → goes t.tree row ≡ lost_by l row) schema.tables losses
-    pub cascading : AllByRecursion (λ t. AllByRecursion (λ ref. ref.on_delete ≡ Cascade) t.references) schema.tables
-    pub along : AllByRecursion (λ t. AllByRecursion (λ ref. AreAlong t ref (parent_key schema.tables ref)) t.references) schema.tables
-    pub because : AllByRecursion (λ t. (r : Row) → Has (by_tree schema.tables all t.tree) r → goes t.tree r ≡ true → (t.tree ≡ root.tree) ⊎ NamesGone t r) schema.tables
+    pub cascading : list_all (λ t. list_all cascades t.references) schema.tables ≡ true
+    pub along : AllByRecursion (λ l. GoAlong l.0 l.1 l.2) (links schema losses)
+    pub because : AllByRecursion (λ t. (r : Row) → Has (by_tree schema.tables all t.tree) r → goes t.tree r ≡ true → (t.tree ≡ root.tree) ⊎ NamesGone t r) (losing losses schema.tables)
 
   module _ (chain : IsChain) (db : Trees) (held : StoresEach schema.tables db all) where
     -- what is stored is a row of the table
@@ -388,23 +435,31 @@ module _ (schema : Schema) (root : Table) (losses : Losses) (all : Contents) whe
         let one : agree plain (1 ∷ []) m (suc at ∷ []) r ≡ true = rw (simple.columns, simple.places, simple.order) at h in
         ap₂ value_cmp (column_drop m 0) (column_drop r at) ∙ tied_back value_cmp_total (column r (suc at)) (column m 1) (agree_tie 1 (suc at) m r one)
 
-    stored_along : (t : Table) → Has schema.tables t → (ref : Reference) (key : Option ParentKey) → parent_key schema.tables ref ≡ key → AreAlong t ref key → IsAlong schema root (λ tree r. goes tree (drop 1 r)) db t ref key
-    stored_along t listed ref None parent h = tt
-    stored_along t listed ref (Some key) parent h = λ r m has there agree go. h.along (drop 1 r) (drop 1 m) (held_row t listed r has) (held_parent ref key parent m there) (agrees ref key h.at h.simple r m agree) go
+    stored_along : (t : Table) → Has schema.tables t → (ref : Reference) → Has t.references ref → (key : Option ParentKey) → parent_key schema.tables ref ≡ key → IsAlong schema root (λ tree r. goes tree (drop 1 r)) db t ref key
+    stored_along t listed ref refers None parent = tt
+    stored_along t listed ref refers (Some key) parent = λ r m has there agree go.
+        let loses : is_some (loss_of losses key.0) ≡ true = lost_some (loss_of losses key.0) (drop 1 m) go in
+        let linked : link_to losses t ref (parent_key schema.tables ref) ≡ Some (t, ref, key) = ap (link_to losses t ref) parent ∙ ap (λ b. cond b (Some (t, ref, key)) None) loses in
+        let link = in_flat (λ t. filter_map (λ ref. link_to losses t ref (parent_key schema.tables ref)) t.references) schema.tables t (t, ref, key) listed
+        (in_some (λ ref. link_to losses t ref (parent_key schema.tables ref)) t.references ref (t, ref, key) refers linked) in
+        let h = all_has (λ l. GoAlong l.0 l.1 l.2) (links schema losses) (t, ref, key) chain.along link in
+        h.along (drop 1 r) (drop 1 m) (held_row t listed r has) (held_parent ref key parent m there) (agrees ref key h.at h.simple r m agree) go
 
     stored_because : (t : Table) → Has schema.tables t → (r : Row) → Has (db t.tree) r → goes t.tree (drop 1 r) ≡ true → (t.tree ≡ root.tree) ⊎ IsBecause schema root (λ tree r. goes tree (drop 1 r)) db t r
-    stored_because t listed r has go = elim (all_has _ schema.tables t chain.because listed (drop 1 r) (held_row t listed r has) go) [
-      | inl is_root ↦ inl is_root
-      | inr why ↦ inr (record {
-        ref = why.ref;
-        listed = why.listed;
-        key = why.key;
-        parent = why.parent;
-        before = why.before;
-        full = subst (λ columns. has_null columns r ≡ false) (sym why.simple.columns) (ap (λ b. b || false) (ap is_null (sym (column_drop r why.at)) ∙ why.full));
-        alone = λ m there agree. why.alone (drop 1 m) (held_parent why.ref why.key why.parent m there) (agrees_back why.ref why.key why.at why.simple r m agree);
-      })
-    ]
+    stored_because t listed r has go =
+        let loses = has_kept (λ t. is_some (loss_of losses t.tree)) schema.tables t listed (lost_some (loss_of losses t.tree) (drop 1 r) go) in
+        elim (all_has _ (losing losses schema.tables) t chain.because loses (drop 1 r) (held_row t listed r has) go) [
+          | inl is_root ↦ inl is_root
+          | inr why ↦ inr (record {
+            ref = why.ref;
+            listed = why.listed;
+            key = why.key;
+            parent = why.parent;
+            before = why.before;
+            full = subst (λ columns. has_null columns r ≡ false) (sym why.simple.columns) (ap (λ b. b || false) (ap is_null (sym (column_drop r why.at)) ∙ why.full));
+            alone = λ m there agree. why.alone (drop 1 m) (held_parent why.ref why.key why.parent m there) (agrees_back why.ref why.key why.at why.simple r m agree);
+          })
+        ]
 
     stored_each : (ts : List Table) (rows : Contents) → StoresEach ts db rows → AllByRecursion (λ t. IsTable (db t.tree) × AllByRecursion (λ r. IsTrue (is_int (rowid r))) (db t.tree)) ts
     stored_each [] rows h = tt
@@ -413,21 +468,17 @@ module _ (schema : Schema) (root : Table) (losses : Losses) (all : Contents) whe
 
     pub is_cascade : IsCascade schema root (λ tree r. goes tree (drop 1 r)) db
     is_cascade = record {
-      cascading = chain.cascading;
-      along = λ t listed ref refers. stored_along t listed ref (parent_key schema.tables ref) refl (all_has _ t.references ref (all_has _ schema.tables t chain.along listed) refers);
+      cascading = each_cascades schema.tables chain.cascading;
+      along = λ t listed ref refers. stored_along t listed ref refers (parent_key schema.tables ref) refl;
       because = stored_because;
       listed = λ t listed. (all_has _ schema.tables t (stored_each schema.tables all held) listed).0;
       numbered = λ t listed. (all_has _ schema.tables t (stored_each schema.tables all held) listed).1;
     }
 
-  stores_less : (ts : List Table) (ls : Losses) (db end : Trees) (rows : Contents) → AllZip (λ t l. (row : Row) → goes t.tree row ≡ lost_by l row) ts ls
-      → ((t : Table) → Has ts t → end t.tree ≡ filter (λ r. not (goes t.tree (drop 1 r))) (db t.tree)) → StoresEach ts db rows → StoresEach ts end (lessened_each ls rows)
-  stores_less [] [] db end rows each left h = h
-  stores_less [] (l ∷ ls) db end rows each left h = absurd each
-  stores_less (t ∷ ts) [] db end rows each left h = absurd each
-  stores_less (t ∷ ts) (l ∷ ls) db end [] each left h = absurd h
-  stores_less (t ∷ ts) (l ∷ ls) db end (r ∷ rows) each left h =
-      (one l each.0, stores_less ts ls db end rows each.1 (λ u has. left u (inr has)) h.1)
+  stores_less : (ts : List Table) (db end : Trees) (rows : Contents) → ((t : Table) → Has ts t → end t.tree ≡ filter (λ r. not (goes t.tree (drop 1 r))) (db t.tree)) → StoresEach ts db rows → StoresEach ts end (lessened_each losses ts rows)
+  stores_less [] db end rows left h = h
+  stores_less (t ∷ ts) db end [] left h = absurd h
+  stores_less (t ∷ ts) db end (r ∷ rows) left h = (one (loss_of losses t.tree) refl, stores_less ts db end rows (λ u has. left u (inr has)) h.1)
     where
       filtered : Stores (length t.primary) (length t.columns) (end t.tree) (filter (λ row. not (goes t.tree row)) r)
       filtered = subst (λ stored. Stores (length t.primary) (length t.columns) stored (filter (λ row. not (goes t.tree row)) r)) (sym (left t (inl refl))) (stores_filter _ _ (λ row. not (goes t.tree row)) (db t.tree) r h.0)
@@ -436,14 +487,14 @@ module _ (schema : Schema) (root : Table) (losses : Losses) (all : Contents) whe
       every [] = refl
       every (x ∷ xs) = ap (λ rest. x ∷ rest) (every xs)
 
-      one : (l : Option (Row → Bool)) → ((row : Row) → goes t.tree row ≡ lost_by l row) → Stores (length t.primary) (length t.columns) (end t.tree) (lessened l r)
-      one None same = subst (Stores (length t.primary) (length t.columns) (end t.tree)) (ap (λ (f : Row → Bool). filter (λ row. not (f row)) r) (λ i row. same row i) ∙ every r) filtered
-      one (Some go) same = subst (Stores (length t.primary) (length t.columns) (end t.tree)) (ap (λ (f : Row → Bool). filter (λ row. not (f row)) r) (λ i row. same row i)) filtered
+      one : (l : Option (Row → Bool)) → loss_of losses t.tree ≡ l → Stores (length t.primary) (length t.columns) (end t.tree) (lessened l r)
+      one None is = subst (Stores (length t.primary) (length t.columns) (end t.tree)) (ap (λ l. filter (λ row. not (lost_by l row)) r) is ∙ every r) filtered
+      one (Some go) is = subst (Stores (length t.primary) (length t.columns) (end t.tree)) (ap (λ l. filter (λ row. not (lost_by l row)) r) is) filtered
 
 -- DELETE by the first k columns of the key, which are the parameters, with all that goes along
 module _ (schema : Schema) (at k : ℕ) (table : Table) (it : IsFound schema at table) (sql : List ℕ) (params : Row) (text : IsRemoveText schema at table no_join (equalities 0 k) sql) (full : are_full 0 k params ≡ true) where
-  pub cascade_runs : (losses : Losses) (old new : State) (count : ℕ) (all : Contents) → IsChain schema table losses all → ((row : Row) → lost_in schema.tables losses table.tree row ≡ has_key k params row)
-      → Executes sql params old new (Ok count) → Holds schema all old → Holds schema (lessened_each losses all) new
+  pub cascade_runs : (losses : Losses) (old new : State) (count : ℕ) (all : Contents) → IsChain schema table losses all → ((row : Row) → lost_by (loss_of losses table.tree) row ≡ has_key k params row)
+      → Executes sql params old new (Ok count) → Holds schema all old → Holds schema (lessened_each losses schema.tables all) new
   cascade_runs losses old new count all chain rooted h was =
       let db = old.now.trees in
       let gone = removal schema at table it no_join (equalities 0 k) sql params text old new count h was.has in
@@ -453,14 +504,14 @@ module _ (schema : Schema) (at k : ℕ) (table : Table) (it : IsFound schema at 
       let here = stores_at schema.tables at table db all it.found was.each in
       let found = λ (r : Row). passes_is k params r full in
       let left = chosen db table.tree no_join (equalities 0 k) params gone.rows text.flat gone.found here.listed here.numbered in
-      let sound : (id : ℤ) → Has (ids_of gone.rows) id → (r : Row) × Has (db table.tree) r × (lost_in schema.tables losses table.tree (drop 1 r) ≡ true) × (rowid r ≡ Int id) = λ id has.
+      let sound : (id : ℤ) → Has (ids_of gone.rows) id → (r : Row) × Has (db table.tree) r × (lost_by (loss_of losses table.tree) (drop 1 r) ≡ true) × (rowid r ≡ Int id) = λ id has.
       let r = chosen_from db table.tree no_join (equalities 0 k) params gone.rows text.flat gone.found id has in
       (r.0, r.1, rooted (drop 1 r.0) ∙ sym (found r.0) ∙ r.2, int_is (rowid r.0) (all_has _ (db table.tree) r.0 here.numbered r.1) ∙ ap Int (sym r.3)) in
-      let none : (r : Row) → Has (without_all (db table.tree) (ids_of gone.rows)) r → lost_in schema.tables losses table.tree (drop 1 r) ≡ false = λ r has.
+      let none : (r : Row) → Has (without_all (db table.tree) (ids_of gone.rows)) r → lost_by (loss_of losses table.tree) (drop 1 r) ≡ false = λ r has.
       let stays = has_filtered _ (db table.tree) r (subst (λ rows. Has rows r) left has) in
       rooted (drop 1 r) ∙ sym (found r) ∙ not-true _ stays.1 in
-      let lessens = leaves schema table (λ tree r. lost_in schema.tables losses tree (drop 1 r)) db (is_cascade schema table losses all chain db was.each) listed (ids_of gone.rows) gone.end sound none gone.writes keeps in
+      let lessens = leaves schema table (λ tree r. lost_by (loss_of losses tree) (drop 1 r)) db (is_cascade schema table losses all chain db was.each) listed (ids_of gone.rows) gone.end sound none gone.writes keeps in
       record {
         has = ap (λ (d : Database). d.schema) gone.now;
-        each = subst (λ (d : Database). StoresEach schema.tables d.trees (lessened_each losses all)) (sym gone.now) (stores_less schema table losses all schema.tables losses db gone.end all chain.each lessens was.each);
+        each = subst (λ (d : Database). StoresEach schema.tables d.trees (lessened_each losses schema.tables all)) (sym gone.now) (stores_less schema table losses all schema.tables db gone.end all lessens was.each);
       }

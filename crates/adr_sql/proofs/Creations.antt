@@ -51,11 +51,6 @@ makes_one schema tables sql rest old new count it h = go it.others it.makes it.s
     go [] none same = absurd none
     go (t ∷ ts) makes same = record { so_far = created it.so_far t; others = ts; holds = create_runs it.so_far t sql makes.0 old new count h it.holds; makes = makes.1; same = same }
 
-pub made_all : (schema : Schema) (tables : List Table) (s : State) → IsUnderWay schema tables [] s → Holds (fold created schema tables) (empty_tables (fold created schema tables).tables) s
-made_all schema tables s it =
-    let all : it.so_far ≡ fold created schema tables = ap (fold created it.so_far) (sym it.makes) ∙ it.same in
-    subst (λ x. Holds x (empty_tables x.tables) s) all it.holds
-
 -- ---- an error of one of the texts
 
 -- the first of the texts ran and these are left: where one of these fails, one of all fails

@@ -15,10 +15,10 @@ use Rattle.sqlite_sql.specs.Query.{Query, Join, inner, counted, end, matches, Ou
 use Rattle.sqlite_schema.specs.declared.schema.Table.{Table}
 use Rattle.sqlite_schema.specs.declared.schema.Schema.{Schema}
 use Rattle.sqlite.specs.State.{State, Shown}
-use Rattle.adr_sql.specs.Keys.{key_order}
+use Rattle.adr_sql.specs.Keys.{cells, key_order}
 use Rattle.adr_sql.specs.Contents.{Contents, rows_of_table, Holds}
 use Rattle.adr_sql.proofs.Places.{by_tree, is_tree, seen, by_tree_is, stores_at, IsFound}
-use Rattle.adr_sql.proofs.Selections.{fair, order_from, cells, sort_cells, ordered_as, IsQueryText, found_in, query_runs}
+use Rattle.adr_sql.proofs.Selections.{fair, order_from, sort_cells, ordered_as, IsQueryText, found_in, query_runs}
 
 -- ---- lists
 

@@ -12,5 +12,6 @@ pub mod Creations
 pub mod Transactions
 pub mod Commits
 pub mod Maps
+pub mod KeyedMaps
 pub mod Rising
 pub mod Cascades

@@ -1,5 +1,5 @@
 -- A table that stands for a map: to put, to remove and to read by key are the map's own words.
-use Rattle.std.proofs.Common.{inl, inr, Option, None, length, suc, Ok, ◌≡◌, ℕ, ℤ, Bool, true, false, not, cond, List, [], ◌∷◌, map, Some, refl, sym, ap, ap₂, subst, ◌∙◌, Ordering, Less, Equal, Greater, is_eq}
+use Rattle.std.proofs.Common.{inl, inr, Option, None, suc, fold, ◌≡◌, ℕ, ℤ, Bool, true, false, not, cond, List, [], ◌∷◌, map, Some, refl, sym, ap, ap₂, subst, ◌∙◌, Ordering, Less, Equal, Greater, is_eq}
 use Rattle.std.specs.Prelude.{bytes_eq}
 use Rattle.std.specs.Ordering.{ordering_reverse, ordering_then, match_ordering, int_cmp, nat_cmp}
 use Rattle.std.specs.Cmp.Lexicographic.{slice_cmp}
@@ -17,27 +17,14 @@ use Rattle.sqlite_trees.specs.Tree.{IsAscending}
 use Rattle.sqlite_trees.proofs.ListLemmas.{filter_all, all_weaker}
 use Rattle.adr_sql.specs.Keys.{key_order, has_key, with_row, rows_at, rows_without}
 use Rattle.adr_sql.specs.Codecs.{IsCodec, entry_at}
-use Rattle.sqlite_schema.specs.declared.schema.Table.{Table}
-use Rattle.sqlite_schema.specs.declared.schema.Schema.{Schema}
 use Rattle.sqlite_sql.specs.declared.ops.BinaryOp.TheVariants.{Compare}
 use Rattle.sqlite_sql.specs.declared.ops.CompareOp.TheVariants.{Eq}
 use Rattle.sqlite_sql.specs.Term.{Term, col, op2}
-use Rattle.sqlite_sql.specs.Aggregate.{count}
-use Rattle.sqlite_sql.specs.Query.{end}
 use Rattle.sqlite_schema.specs.Rules.{equal}
-use Rattle.std.proofs.lemmas.List.{length-map}
-use Rattle.adr_sql.proofs.Counts.{IsCountText, count_runs}
-use Rattle.sqlite.specs.State.{State, Executes, Shown}
-use Rattle.adr_sql.specs.Contents.{Contents, rows_of_table, with_table, Holds}
 use Rattle.sqlite_rules.specs.Lists.{Has}
 use Rattle.sqlite_rules.proofs.ListLemmas.{has_kept}
-use Rattle.adr_sql.proofs.Keys.{are_full, ties, and_true, equal_is, tie_turned}
-use Rattle.adr_sql.proofs.Places.{IsFound, stores_at}
-use Rattle.adr_sql.proofs.Values.{AreValues}
-use Rattle.adr_sql.proofs.References.{is_childless}
-use Rattle.adr_sql.proofs.Upserts.{IsKeyed, IsUpsertText, upsert_runs}
-use Rattle.adr_sql.proofs.Selections.{IsSelectText, whole_rows, equalities, passes, read_runs}
-use Rattle.adr_sql.proofs.Removals.{IsRemoveText, remove_at_runs}
+use Rattle.adr_sql.proofs.Keys.{ties, and_true, equal_is, tie_turned}
+use Rattle.adr_sql.proofs.Selections.{passes}
 use Rattle.adr_sql.proofs.Rows.{key_order_total}
 
 module _ {K V : Type 0} (n : ℕ) (cmp : K → K → Ordering) (row_of : K × V → Row) (key_of : K → Row) (codec : IsCodec n cmp row_of key_of) where
@@ -106,19 +93,26 @@ module _ {K V : Type 0} (n : ℕ) (cmp : K → K → Ordering) (row_of : K × V 
 
 -- ---- a set is a map to nothing
 
-pub put_key : {K : Type 0} (n : ℕ) (cmp : K → K → Ordering) (row_of : K → Row) → IsCodec {K = K} {V = Unit {0}} n cmp (λ e. row_of e.0) row_of → (k : K) (ks : List K) → with_row n (row_of k) (map row_of ks) ≡ map row_of (insert_key cmp ks k)
-put_key n cmp row_of codec k [] = refl
-put_key {K} n cmp row_of codec k (x ∷ xs) = rw (turned (cmp k x) refl) (by (cmp k x) refl (put_key n cmp row_of codec k xs))
-  where
-    turned : (o : Ordering) → cmp k x ≡ o → key_order n (row_of x) (row_of k) ≡ ordering_reverse o
-    turned o is = (key_order_total n).antisymm (row_of x) (row_of k) ∙ ap ordering_reverse (codec.keyed k tt (x, tt) ∙ is)
+abbrev pub keys_alone : {K : Type 0} → List K → List (K × Unit {0})
+keys_alone = map (λ k. (k, tt))
 
-    by : (o : Ordering) → cmp k x ≡ o → with_row n (row_of k) (map row_of xs) ≡ map row_of (insert_key cmp xs k)
-        → match_ordering (ordering_reverse o) (row_of x ∷ with_row n (row_of k) (map row_of xs)) (row_of k ∷ map row_of xs) (row_of k ∷ row_of x ∷ map row_of xs)
-        ≡ map row_of (match_ordering o (k ∷ x ∷ xs) (x ∷ xs) (x ∷ insert_key cmp xs k))
-    by Less is more = refl
-    by Equal is more = ap (λ r. r ∷ map row_of xs) (codec.same x k tt is)
-    by Greater is more = ap (λ l. row_of x ∷ l) more
+pub insert_key_is : {K : Type 0} (cmp : K → K → Ordering) (k : K) (ks : List K) → insert_entry cmp (keys_alone ks) k tt ≡ keys_alone (insert_key cmp ks k)
+insert_key_is cmp k [] = refl
+insert_key_is {K} cmp k (x ∷ xs) = by (cmp k x) (insert_key_is cmp k xs)
+  where
+    by : (o : Ordering) → insert_entry cmp (keys_alone xs) k tt ≡ keys_alone (insert_key cmp xs k)
+        → match_ordering o ((k, tt) ∷ keys_alone (x ∷ xs)) (keys_alone (x ∷ xs)) ((x, tt) ∷ insert_entry cmp (keys_alone xs) k tt) ≡ keys_alone (match_ordering o (k ∷ x ∷ xs) (x ∷ xs) (x ∷ insert_key cmp xs k))
+    by Less more = refl
+    by Equal more = refl
+    by Greater more = ap (λ l. (x, tt) ∷ l) more
+
+pub fold_keys : {K : Type 0} (cmp : K → K → Ordering) (before ks : List K) → fold (λ m e. insert_entry cmp m e.0 e.1) (keys_alone before) (keys_alone ks) ≡ keys_alone (fold (insert_key cmp) before ks)
+fold_keys cmp before [] = refl
+fold_keys {K} cmp before (k ∷ ks) = ap (λ (m : List (K × Unit {0})). fold (λ m e. insert_entry cmp m e.0 e.1) m (keys_alone ks)) (insert_key_is cmp k before) ∙ fold_keys cmp (insert_key cmp before k) ks
+
+pub keys_back : {K : Type 0} (ks : List K) → map (λ e. e.0) (keys_alone ks) ≡ ks
+keys_back [] = refl
+keys_back (k ∷ ks) = ap (λ l. k ∷ l) (keys_back ks)
 
 -- ---- keys
 
@@ -151,74 +145,3 @@ number_text_key j k s t a b = ap₂ ordering_then (value_cmp-Int j k) (then_none
 -- a text, and then a number
 pub text_number_key : (s t : List ℕ) (j k : ℤ) (a b : Row) → key_order 2 (Text s ∷ Int j ∷ a) (Text t ∷ Int k ∷ b) ≡ ordering_then (slice_cmp nat_cmp s t) (int_cmp j k)
 text_number_key s t j k a b = ap₂ ordering_then (value_cmp-Text s t) (then_none _ ∙ value_cmp-Int j k)
-
--- ---- statements on a table that stands for a map
-
--- every row begins with none of a key
-pub rows_at_none : (key : Row) (rows : List Row) → rows_at 0 key rows ≡ rows
-rows_at_none key [] = refl
-rows_at_none key (row ∷ rows) = ap (λ l. row ∷ l) (rows_at_none key rows)
-
-pub rows_without_none : (key : Row) (rows : List Row) → rows_without 0 key rows ≡ []
-rows_without_none key [] = refl
-rows_without_none key (row ∷ rows) = rows_without_none key rows
-
--- a row in its place is an entry inserted, and a key
-module _ (schema : Schema) (at : ℕ) (table : Table) where
-  entry_inserted : {K V : Type 0} (cmp : K → K → Ordering) (row_of : K × V → Row) (key_of : K → Row) → IsCodec (length table.primary) cmp row_of key_of → (k : K) (v : V) (es : List (K × V)) (new : State) (all : Contents) → rows_of_table all at ≡ map row_of es
-      → Holds schema (with_table all at (with_row (length table.primary) (row_of (k, v)) (rows_of_table all at))) new → Holds schema (with_table all at (map row_of (insert_entry cmp es k v))) new
-  entry_inserted cmp row_of key_of codec k v es new all is h =
-      subst (λ rows. Holds schema (with_table all at rows) new) (ap (with_row (length table.primary) (row_of (k, v))) is ∙ put_entry (length table.primary) cmp row_of key_of codec k v es) h
-
-  key_inserted : {K : Type 0} (cmp : K → K → Ordering) (row_of : K → Row) → IsCodec {K = K} {V = Unit {0}} (length table.primary) cmp (λ e. row_of e.0) row_of → (k : K) (ks : List K) (new : State) (all : Contents) → rows_of_table all at ≡ map row_of ks
-      → Holds schema (with_table all at (with_row (length table.primary) (row_of k) (rows_of_table all at))) new → Holds schema (with_table all at (map row_of (insert_key cmp ks k))) new
-  key_inserted cmp row_of codec k ks new all is h = subst (λ rows. Holds schema (with_table all at rows) new) (ap (with_row (length table.primary) (row_of k)) is ∙ put_key (length table.primary) cmp row_of codec k ks) h
-
--- what is read needs no more than the table's place
-module _ (schema : Schema) (at : ℕ) (table : Table) (it : IsFound schema at table) (sql : List ℕ) (params : Row) where
-  -- all rows are read
-  pub read_all_runs : (text : IsSelectText schema table (whole_rows 0 table) end sql) → (old new : State) (rows : List Row) (all : Contents) → Shown sql params old new rows → Holds schema all old → rows ≡ rows_of_table all at
-  read_all_runs text old new rows all h was = read_runs schema at 0 table it sql params text refl old new rows all h was ∙ rows_at_none params (rows_of_table all at)
-
-  -- all rows are counted
-  pub count_all_runs : {X : Type 0} (row_of : X → Row) (xs : List X) → IsCountText schema 0 table sql → (old new : State) (rows : List Row) (all : Contents) → rows_of_table all at ≡ map row_of xs
-      → Shown sql params old new rows → Holds schema all old → rows ≡ (count (length xs) ∷ []) ∷ []
-  count_all_runs row_of xs text old new rows all is h was =
-      count_runs schema at 0 table it sql params text refl old new rows all h was
-      ∙ ap (λ (rs : List Row). (count (length rs) ∷ []) ∷ []) (rows_at_none params (rows_of_table all at) ∙ is) ∙ ap (λ n. (count n ∷ []) ∷ []) (length-map xs row_of)
-
-  module _ {K V : Type 0} (cmp : K → K → Ordering) (row_of : K × V → Row) (key_of : K → Row) (codec : IsCodec (length table.primary) cmp row_of key_of) where
-    pub read_entry_runs : (k : K) (es : List (K × V)) → IsSelectText schema table (whole_rows (length table.primary) table) end sql → params ≡ key_of k → are_full 0 (length table.primary) params ≡ true → (old new : State) (rows : List Row) (all : Contents)
-        → rows_of_table all at ≡ map row_of es → Shown sql params old new rows → Holds schema all old → rows ≡ map row_of (entry_at k (lookup (is_at (cmp k)) es))
-    read_entry_runs k es text key full old new rows all is h was =
-        let held = stores_at schema.tables at table old.now.trees all it.found was.each in
-        let up = subst (IsAscending (λ a b. key_order (length table.primary) a b ≡ Less)) is held.rising in
-        read_runs schema at (length table.primary) table it sql params text full old new rows all h was
-        ∙ ap₂ (rows_at (length table.primary)) key is ∙ read_entry (length table.primary) cmp row_of key_of codec k es up
-
--- what goes, of a table to which no reference points
-module _ (schema : Schema) (at : ℕ) (table : Table) (it : IsFound schema at table) (childless : is_childless schema table.tree ≡ true) (sql : List ℕ) (params : Row) where
-  -- all rows go
-  pub clear_runs : (text : IsRemoveText schema at table end [] sql) → (old new : State) (count : ℕ) (all : Contents) → Executes sql params old new (Ok count) → Holds schema all old → Holds schema (with_table all at []) new
-  clear_runs text old new count all h was =
-      subst (λ rows. Holds schema (with_table all at rows) new) (rows_without_none params (rows_of_table all at)) (remove_at_runs schema at 0 table it childless sql params text refl old new count all h was)
-
-  module _ {K V : Type 0} (cmp : K → K → Ordering) (row_of : K × V → Row) (key_of : K → Row) (codec : IsCodec (length table.primary) cmp row_of key_of) where
-    pub remove_entry_runs : (k : K) (es : List (K × V)) → IsRemoveText schema at table end (equalities 0 (length table.primary)) sql → params ≡ key_of k → are_full 0 (length table.primary) params ≡ true → (old new : State) (count : ℕ) (all : Contents)
-        → rows_of_table all at ≡ map row_of es → Executes sql params old new (Ok count) → Holds schema all old → Holds schema (with_table all at (map row_of (remove_entry (is_at (cmp k)) es))) new
-    remove_entry_runs k es text key full old new count all is h was =
-        let held = stores_at schema.tables at table old.now.trees all it.found was.each in
-        let up = subst (IsAscending (λ a b. key_order (length table.primary) a b ≡ Less)) is held.rising in
-        subst (λ rows. Holds schema (with_table all at rows) new) (ap₂ (rows_without (length table.primary)) key is ∙ remove_entry_is (length table.primary) cmp row_of key_of codec k es up)
-        (remove_at_runs schema at (length table.primary) table it childless sql params text full old new count all h was)
-
--- a put that writes over the row of the key where it stands
-module _ (schema : Schema) (at : ℕ) (table : Table) (it : IsKeyed schema at table) (sql : List ℕ) (params : Row) where
-  pub upsert_entry_runs : {K V : Type 0} (cmp : K → K → Ordering) (row_of : K × V → Row) (key_of : K → Row) → IsCodec (length table.primary) cmp row_of key_of → (k : K) (v : V) (es : List (K × V)) → IsUpsertText schema at table sql params (row_of (k, v)) → AreValues table (row_of (k, v))
-      → (old new : State) (count : ℕ) (all : Contents) → rows_of_table all at ≡ map row_of es → Executes sql params old new (Ok count) → Holds schema all old → Holds schema (with_table all at (map row_of (insert_entry cmp es k v))) new
-  upsert_entry_runs cmp row_of key_of codec k v es text are old new count all is h was = entry_inserted schema at table cmp row_of key_of codec k v es new all is (upsert_runs schema at table it sql params (row_of (k, v)) text are old new count all h was)
-
-  -- a set
-  pub upsert_key_runs : {K : Type 0} (cmp : K → K → Ordering) (row_of : K → Row) → IsCodec {K = K} {V = Unit {0}} (length table.primary) cmp (λ e. row_of e.0) row_of → (k : K) (ks : List K) → IsUpsertText schema at table sql params (row_of k) → AreValues table (row_of k)
-      → (old new : State) (count : ℕ) (all : Contents) → rows_of_table all at ≡ map row_of ks → Executes sql params old new (Ok count) → Holds schema all old → Holds schema (with_table all at (map row_of (insert_key cmp ks k))) new
-  upsert_key_runs cmp row_of codec k ks text are old new count all is h was = key_inserted schema at table cmp row_of codec k ks new all is (upsert_runs schema at table it sql params (row_of k) text are old new count all h was)

@@ -1,18 +1,11 @@
 -- What rises by key is the map that it makes, put one after another.
-use Rattle.std.proofs.Common.{◌≡◌, ℕ, List, [], ◌∷◌, ◌++◌, map, length, fold, sym, ap, subst, refl, ◌∙◌, append_assoc, append-nil, Ordering, Less, Greater}
+use Rattle.std.proofs.Common.{◌≡◌, ℕ, List, [], ◌∷◌, ◌++◌, map, fold, sym, ap, subst, refl, ◌∙◌, append_assoc, append-nil, Ordering, Less, Greater}
 use Rattle.std.specs.Ordering.{ordering_reverse}
 use Rattle.std.specs.List.{AllByRecursion}
 use Rattle.std.specs.BTreeMap.{insert_entry}
-use Rattle.std.specs.BTreeSet.{insert_key}
 use Rattle.sqlite_value.specs.Order.{Row}
 use Rattle.sqlite_trees.specs.Tree.{IsAscending}
-use Rattle.sqlite_schema.specs.declared.schema.Table.{Table}
-use Rattle.sqlite_schema.specs.declared.schema.Schema.{Schema}
-use Rattle.sqlite.specs.State.{State}
 use Rattle.adr_sql.specs.Keys.{key_order}
-use Rattle.adr_sql.specs.Codecs.{IsCodec}
-use Rattle.adr_sql.specs.Contents.{Contents, rows_of_table, Holds}
-use Rattle.adr_sql.proofs.Places.{IsFound, stores_at}
 use Rattle.adr_sql.proofs.Rows.{key_order_total}
 
 -- where what lies above all that is there goes behind it, each of a list that rises goes behind the one before it
@@ -32,7 +25,7 @@ module _ {X : Type 0} (IsAbove : X → X → Type 0) (put : List X → X → Lis
       let same : (before ++ x ∷ []) ++ xs ≡ before ++ x ∷ xs = append_assoc before (x ∷ []) xs in
       ap (λ (l : List X). fold put l xs) here ∙ put_behind (before ++ x ∷ []) xs (subst (IsAscending (λ a b. IsAbove b a)) (sym same) up) ∙ same
 
--- ---- a map, and a set
+-- ---- a map
 
 module _ {K V : Type 0} (cmp : K → K → Ordering) where
   last_entry : (es : List (K × V)) (e : K × V) → AllByRecursion (λ b. cmp e.0 b.0 ≡ Greater) es → insert_entry cmp es e.0 e.1 ≡ es ++ e ∷ []
@@ -42,18 +35,10 @@ module _ {K V : Type 0} (cmp : K → K → Ordering) where
   pub map_again : (es : List (K × V)) → IsAscending (λ a b. cmp b.0 a.0 ≡ Greater) es → fold (λ m e. insert_entry cmp m e.0 e.1) [] es ≡ es
   map_again es up = put_behind (λ a b. cmp a.0 b.0 ≡ Greater) (λ m e. insert_entry cmp m e.0 e.1) last_entry [] es up
 
-module _ {K : Type 0} (cmp : K → K → Ordering) where
-  last_key : (ks : List K) (k : K) → AllByRecursion (λ b. cmp k b ≡ Greater) ks → insert_key cmp ks k ≡ ks ++ k ∷ []
-  last_key [] k above = refl
-  last_key (b ∷ ks) k above = rw above.0 (ap (λ l. b ∷ l) (last_key ks k above.1))
-
-  pub set_again : (ks : List K) → IsAscending (λ a b. cmp b a ≡ Greater) ks → fold (insert_key cmp) [] ks ≡ ks
-  set_again ks up = put_behind (λ a b. cmp a b ≡ Greater) (insert_key cmp) last_key [] ks up
-
 -- ---- a table
 
 -- what stands for rows that rise, rises
-rise : {X : Type 0} (n : ℕ) (cmp : X → X → Ordering) (row_of : X → Row) → ((x y : X) → key_order n (row_of x) (row_of y) ≡ cmp x y) → (xs : List X)
+pub rise : {X : Type 0} (n : ℕ) (cmp : X → X → Ordering) (row_of : X → Row) → ((x y : X) → key_order n (row_of x) (row_of y) ≡ cmp x y) → (xs : List X)
     → IsAscending (λ a b. key_order n a b ≡ Less) (map row_of xs) → IsAscending (λ a b. cmp b a ≡ Greater) xs
 rise n cmp row_of same [] up = tt
 rise {X} n cmp row_of same (x ∷ xs) up = (above xs up.0, rise n cmp row_of same xs up.1)
@@ -61,19 +46,3 @@ rise {X} n cmp row_of same (x ∷ xs) up = (above xs up.0, rise n cmp row_of sam
     above : (ys : List X) → AllByRecursion (λ r. key_order n (row_of x) r ≡ Less) (map row_of ys) → AllByRecursion (λ b. cmp b x ≡ Greater) ys
     above [] low = tt
     above (y ∷ ys) low = (sym (same y x) ∙ (key_order_total n).antisymm (row_of y) (row_of x) ∙ ap ordering_reverse low.0, above ys low.1)
-
-module _ (schema : Schema) (at : ℕ) (table : Table) (it : IsFound schema at table) (s : State) (all : Contents) (held : Holds schema all s) where
-  rows_rise : IsAscending (λ a b. key_order (length table.primary) a b ≡ Less) (rows_of_table all at)
-  rows_rise = (stores_at schema.tables at table s.now.trees all it.found held.each).rising
-
-  -- the entries that a table stands for are the map that they make
-  pub map_read : {K V : Type 0} (cmp : K → K → Ordering) (row_of : K × V → Row) (key_of : K → Row) → IsCodec (length table.primary) cmp row_of key_of → (es : List (K × V)) → rows_of_table all at ≡ map row_of es
-      → fold (λ m e. insert_entry cmp m e.0 e.1) [] es ≡ es
-  map_read {K} {V} cmp row_of key_of codec es is =
-      map_again cmp es (rise (length table.primary) (λ (a b : K × V). cmp a.0 b.0) row_of (λ a b. codec.keyed a.0 a.1 b) es (subst (IsAscending (λ a b. key_order (length table.primary) a b ≡ Less)) is rows_rise))
-
-  -- and so are the keys
-  pub set_read : {K : Type 0} (cmp : K → K → Ordering) (row_of : K → Row) → IsCodec {K = K} {V = Unit {0}} (length table.primary) cmp (λ e. row_of e.0) row_of → (ks : List K) → rows_of_table all at ≡ map row_of ks
-      → fold (insert_key cmp) [] ks ≡ ks
-  set_read cmp row_of codec ks is =
-      set_again cmp ks (rise (length table.primary) cmp row_of (λ a b. codec.keyed a tt (b, tt)) ks (subst (IsAscending (λ a b. key_order (length table.primary) a b ≡ Less)) is rows_rise))

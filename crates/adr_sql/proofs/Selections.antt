@@ -31,7 +31,7 @@ use Rattle.sqlite.specs.Listing.{understood, reads_listing}
 use Rattle.sqlite.specs.Given.{IsPlain as IsPlainText}
 use Rattle.sqlite.specs.Command.TheVariants.{Select}
 use Rattle.sqlite.proofs.Callers.{command_of, reads_as}
-use Rattle.adr_sql.specs.Keys.{key_order, has_key, rows_at}
+use Rattle.adr_sql.specs.Keys.{cells, key_order, has_key, rows_at}
 use Rattle.adr_sql.specs.Contents.{Contents, rows_of_table, Holds}
 use Rattle.adr_sql.proofs.Keys.{full_parts, then_eq, equal_is, column_drop, are_full}
 use Rattle.adr_sql.proofs.Places.{by_tree, is_tree, bare, seen, stored_is_seen, by_tree_is, stores_at, IsFound}
@@ -166,11 +166,6 @@ pub overlay_none : (db : Trees) (t : ℕ) → overlay db [] t ≡ db t
 overlay_none db t = elim (leb (2 ^ 31) t) as (λ b. unwrap_or (cond b (slice_get {X = List Row} [] (t - 2 ^ 31)) None) (db t) ≡ db t) [ true ↦ refl | false ↦ refl ]
 
 -- ---- the order of the key
-
--- n columns from one on
-abbrev pub cells : ℕ → ℕ → Row → Row
-cells at zero e = []
-cells at (suc n) e = column e at ∷ cells (suc at) n e
 
 -- the columns of slot 1, as what is shown and as an order
 abbrev pub columns_from : ℕ → ℕ → List Term

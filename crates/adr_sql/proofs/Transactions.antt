@@ -1,6 +1,5 @@
 -- What statements leave of a transaction, and how that adds up.
-use Rattle.std.proofs.Common.{◌≡◌, ◌⊎◌, inl, inr, ℕ, false, List, Ok, Err, Option, Some, None, Result, IfOk, IfErr, OnOk, IsTrue, arith, cond, refl, sym, ap, subst, ◌∙◌}
-use Rattle.std.proofs.lemmas.Bool.{cases_Bool}
+use Rattle.std.proofs.Common.{◌≡◌, ◌⊎◌, inl, inr, ℕ, List, Ok, Err, Option, Some, None, Result, IfOk, IfErr, OnOk, IsTrue, arith, cond, refl, sym, ap, subst, ◌∙◌}
 use Rattle.sqlite_schema.specs.declared.command.Returning.{Returning}
 use Rattle.sqlite_resolve.specs.declared.compiled.Compiled.{Compiled}
 use Rattle.sqlite.specs.Order.{Row}
@@ -10,7 +9,7 @@ use Rattle.sqlite.specs.Held.{Held, state}
 use Rattle.sqlite.specs.Effect.{Database}
 use Rattle.sqlite.specs.Given.{IsPlain}
 use Rattle.sqlite.specs.Listing.{understood}
-use Rattle.sqlite.specs.State.{State, HasCleanDisk, IsUnchanged, IsRolledBack, KeepsCommit, Survives, ExecutesInside, Executes, Shows, ShowsRows, FailsToShow, FailsToQuery, IsNotRun, IsTooLate, Shown}
+use Rattle.sqlite.specs.State.{State, HasCleanDisk, IsUnchanged, IsRolledBack, KeepsCommit, Survives, Shows, ShowsRows, FailsToShow, FailsToQuery, IsNotRun, IsTooLate, Shown}
 use Rattle.sqlite.specs.declared.error.Error.{Error}
 use Rattle.sqlite.proofs.StateLemmas.{survives_then}
 use Rattle.adr_sql.specs.Contents.{Contents, Holds, StoresEach}
@@ -32,38 +31,6 @@ keeps_itself s = record { was_open = λ h. h; committed = λ _. refl }
 
 keeps_then : (a b c : State) → KeepsCommit a b → KeepsCommit b c → KeepsCommit a c
 keeps_then a b c p q = record { was_open = λ h. p.was_open (q.was_open h); committed = λ h. q.committed h ∙ p.committed (q.was_open h) }
-
-failed_keeps : (sql : List ℕ) (params : Row) (old new : State) (e : Error) → ExecutesInside 0 sql params old new (Err e) → KeepsCommit old new
-failed_keeps sql params old new e (inl ran) = elim ran.1 [ inl same ↦ unchanged_keeps old new same | inr undone ↦ undone_keeps old new undone ]
-failed_keeps sql params old new e (inr ended) = unchanged_keeps old new ended.2
-
--- ---- a statement that writes
-
-module _ {S : Type 0} (g : Ghosts S) (sql : List ℕ) (params : Row) (old new : Held S) {T E : Type 0} where
-  pub ran_stays : (count : ℕ) (x : T) → (HasCleanDisk (state g new) → IsTrue (state g old).in_transaction → ExecutesInside 0 sql params (state g old) (state g new) (Ok count))
-      → Survives (state g old) (state g new) (λ _. ⊥) → Stays g old new {T = T} {E = E} (Ok x)
-  ran_stays count x runs survives = record {
-    crash = survives;
-    commit = λ clean inside. let h = runs clean inside in shows_keeps (state g old) (state g new) _ _ h.1;
-    inside = λ clean inside. let h = runs clean inside in h.1.mode;
-  }
-
-  pub failed_stays : (e : Error) (f : E) → (HasCleanDisk (state g new) → IsTrue (state g old).in_transaction → ExecutesInside 0 sql params (state g old) (state g new) (Err e))
-      → Survives (state g old) (state g new) (λ _. ⊥) → Stays g old new {T = T} {E = E} (Err f)
-  failed_stays e f runs survives = record {
-    crash = survives;
-    commit = λ clean inside. failed_keeps sql params (state g old) (state g new) e (runs clean inside);
-    inside = λ clean inside. tt;
-  }
-
-module _ {S : Type 0} (g : Ghosts S) (sql : List ℕ) (params : Row) (old new : Held S) where
-  -- it ran, if it says so
-  pub did_run : (count : ℕ) (r : Result ℕ Error) (e : Error) → ((state g old).in_transaction ≡ false → (r ≡ Err e) × (new ≡ old))
-      → (IsTrue (state g old).in_transaction → ExecutesInside 0 sql params (state g old) (state g new) r) → r ≡ Ok count → Executes sql params (state g old) (state g new) (Ok count)
-  did_run count r e ended runs is = elim (cases_Bool (state g old).in_transaction) [
-    | inl inside ↦ (subst (ExecutesInside 0 sql params (state g old) (state g new)) is (runs inside)).0
-    | inr outside ↦ absurd (let e = sym is ∙ (ended outside).0 in cc)
-  ]
 
 -- ---- a statement that reads
 
@@ -143,10 +110,3 @@ module _ {S : Type 0} (g : Ghosts S) {T E : Type 0} where
     commit = λ clean inside. let early : HasCleanDisk (state g b) = omega (arith, q.crash.clean) in keeps_then (state g a) (state g b) (state g c) (p.commit early inside) (q.commit clean (p.inside early inside));
     inside = λ clean inside. let early : HasCleanDisk (state g b) = omega (arith, q.crash.clean) in q.inside clean (p.inside early inside);
   }
-
-  -- what happens behind the last call changes nothing
-  pub stays_after : {A F : Type 0} (a b : Held S) (x : A) (r : Result T E) → Stays g a b {T = A} {E = F} (Ok x) → Stays g a b r
-  stays_after a b x r p = stays_then a b b x r p (stays_itself b r)
-
-  pub stays_failed : {A F : Type 0} (a b : Held S) (q : Result A F) (e : E) → Stays g a b q → Stays g a b {T = T} {E = E} (Err e)
-  stays_failed a b q e p = record { crash = p.crash; commit = p.commit; inside = λ clean inside. tt }

@@ -1,10 +1,15 @@
 -- The key of a row is its first columns. Keys are compared as SQL compares values, one column after another.
-use Rattle.std.specs.Prelude.{ℕ, Bool, not, List, [], ◌∷◌, filter}
+use Rattle.std.specs.Prelude.{ℕ, zero, suc, Bool, not, List, [], ◌∷◌, filter}
 use Rattle.std.specs.declared.cmp.Ordering.{Ordering}
 use Rattle.std.specs.Ordering.{is_eq, match_ordering}
-use Rattle.sqlite.specs.Order.{Row}
+use Rattle.sqlite.specs.Order.{Row, column}
 use Rattle.sqlite.specs.Query.{key_cmp}
 use Rattle.sqlite_value.specs.Keys.{rising}
+
+-- n columns of a row, from one on
+abbrev pub cells : ℕ → ℕ → Row → Row
+cells at zero e = []
+cells at (suc n) e = column e at ∷ cells (suc at) n e
 
 -- the order of rows by their first n columns
 abbrev pub key_order : ℕ → Row → Row → Ordering

@@ -2,9 +2,9 @@
 use Rattle.std.proofs.Common.{◌≡◌, refl, ap}
 use Rattle.std.specs.declared.cmp.Ordering.{Ordering}
 use Rattle.std.specs.Ordering.{ordering_then}
-use Rattle.adr_schema.specs.declared.kind.Kind.{Kind}
-use Rattle.adr_schema.specs.declared.kind.Kind.TheVariants.{Program, Event}
-use Rattle.adr_schema.specs.contracts.kind.KindOrd.TheImpl as kind
+use Rattle.adr_objects.specs.declared.kind.Kind.{Kind}
+use Rattle.adr_objects.specs.declared.kind.Kind.TheVariants.{Program, Event}
+use Rattle.adr_objects.specs.contracts.kind.KindOrd.TheImpl as kind
 use Rattle.adr_state.specs.contracts.keys.MirrorKeyOrd.TheImpl as key
 use Rattle.adr_state.specs.declared.keys.MirrorKey.{MirrorKey}
 use Rattle.adr_state.specs.contracts.keys.ViewKeyOrd.TheImpl as view

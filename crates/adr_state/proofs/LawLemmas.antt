@@ -19,12 +19,12 @@ use Rattle.std.proofs.lemmas.Map.Text.{is_eq-slice_cmp}
 use Rattle.adr_split.specs.FairSplit.{sum_of_parts}
 use Rattle.adr_split.specs.Laws.{AreWeights}
 use Rattle.adr_split.proofs.FairLemmas.{fair_split_is_fair}
-use Rattle.adr_schema.specs.Canonical.{canonical_text}
-use Rattle.adr_schema.specs.declared.kind.Kind.{Kind}
-use Rattle.adr_schema.specs.declared.kind.Kind.TheVariants as kind
-use Rattle.adr_schema.specs.declared.interval.Period.{Period}
-use Rattle.adr_schema.specs.declared.shown.ShownInterval.{ShownInterval}
-use Rattle.adr_schema.specs.declared.shown.ShownEvent.{ShownEvent}
+use Rattle.adr_objects.specs.Canonical.{canonical_text}
+use Rattle.adr_objects.specs.declared.kind.Kind.{Kind}
+use Rattle.adr_objects.specs.declared.kind.Kind.TheVariants as kind
+use Rattle.adr_objects.specs.declared.interval.Period.{Period}
+use Rattle.adr_objects.specs.declared.shown.ShownInterval.{ShownInterval}
+use Rattle.adr_objects.specs.declared.shown.ShownEvent.{ShownEvent}
 use Rattle.adr_state.specs.declared.base.Mark.{Mark}
 use Rattle.adr_state.specs.declared.base.Mark.TheVariants.{Live, Dead}
 use Rattle.adr_state.specs.declared.keys.MirrorKey.{MirrorKey}

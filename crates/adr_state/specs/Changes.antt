@@ -4,10 +4,10 @@ use Rattle.std.specs.Ordering.{int_eq}
 use Rattle.std.specs.List.{filter_map}
 use Rattle.std.specs.BTreeSet.{insert_key}
 use Rattle.std.specs.Str.{bytes_eq}
-use Rattle.adr_schema.specs.declared.interval.Period.{Period}
-use Rattle.adr_schema.specs.declared.shown.Stamps.{Stamps}
-use Rattle.adr_schema.specs.declared.shown.ShownInterval.{ShownInterval}
-use Rattle.adr_schema.specs.declared.shown.ShownEvent.{ShownEvent}
+use Rattle.adr_objects.specs.declared.interval.Period.{Period}
+use Rattle.adr_objects.specs.declared.shown.Stamps.{Stamps}
+use Rattle.adr_objects.specs.declared.shown.ShownInterval.{ShownInterval}
+use Rattle.adr_objects.specs.declared.shown.ShownEvent.{ShownEvent}
 use Rattle.adr_state.specs.Same.{is_same_option, is_same_list}
 use Rattle.adr_state.specs.declared.keys.ViewKey.{ViewKey}
 use Rattle.adr_state.specs.declared.view.Content.{Content}

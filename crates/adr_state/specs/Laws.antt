@@ -2,9 +2,9 @@
 use Rattle.std.specs.Prelude.{◌≡◌, ◌⊎◌, ℕ, ℤ, true, false, List, Option, None, Some, IsSomeAnd}
 use Rattle.std.specs.Bool.{Decides}
 use Rattle.std.specs.List.{Contains}
-use Rattle.adr_schema.specs.Canonical.{canonical_text}
-use Rattle.adr_schema.specs.declared.body.Body.{Body}
-use Rattle.adr_schema.specs.declared.interval.Interval.{Interval}
+use Rattle.adr_objects.specs.Canonical.{canonical_text}
+use Rattle.adr_objects.specs.declared.body.Body.{Body}
+use Rattle.adr_objects.specs.declared.interval.Interval.{Interval}
 use Rattle.adr_split.specs.FairSplit.{sum_of_parts}
 use Rattle.adr_split.specs.Laws.{AreWeights}
 use Rattle.adr_state.specs.declared.base.Mark.{Mark}

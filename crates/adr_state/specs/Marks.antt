@@ -2,8 +2,8 @@
 use Rattle.std.specs.Prelude.{ℕ, nat_lt, ◌==◌, Bool, true, false, ◌||◌, ◌&&◌, List, Option, None, Some}
 use Rattle.std.specs.Ordering.{nat_cmp, is_lt}
 use Rattle.std.specs.Cmp.Lexicographic.{slice_cmp}
-use Rattle.adr_schema.specs.Canonical.{canonical_text}
-use Rattle.adr_schema.specs.declared.body.Body.{Body}
+use Rattle.adr_objects.specs.Canonical.{canonical_text}
+use Rattle.adr_objects.specs.declared.body.Body.{Body}
 use Rattle.adr_state.specs.declared.base.Mark.{Mark}
 use Rattle.adr_state.specs.declared.base.Mark.TheVariants.{Live, Dead}
 

@@ -1,7 +1,7 @@
 -- Evidence, and its join into the mirror.
 use Rattle.std.specs.Prelude.{List, map, fold, if◌then◌else◌}
 use Rattle.std.specs.BTreeMap.{insert_entry}
-use Rattle.adr_schema.specs.declared.body.Found.{Found}
+use Rattle.adr_objects.specs.declared.body.Found.{Found}
 use Rattle.adr_state.specs.declared.base.Mark.{Mark}
 use Rattle.adr_state.specs.declared.base.Mark.TheVariants.{Live}
 use Rattle.adr_state.specs.declared.keys.MirrorKey.{MirrorKey}

@@ -2,10 +2,10 @@
 use Rattle.std.specs.Prelude.{ℕ, Bool, true, List, Option, None, Some, option_map, option_and_then, if◌then◌else◌}
 use Rattle.std.specs.List.{filter_map}
 use Rattle.std.specs.Ordering.{nat_cmp}
-use Rattle.adr_schema.specs.NameSets.{has_name}
-use Rattle.adr_schema.specs.declared.body.EventBody.{EventBody}
-use Rattle.adr_state.specs.declared.base.Base.{Base}
-use Rattle.adr_state.specs.declared.base.Resource.{Resource}
+use Rattle.adr_objects.specs.NameSets.{has_name}
+use Rattle.adr_objects.specs.declared.body.EventBody.{EventBody}
+use Rattle.adr_state.specs.declared.portfolio.Portfolio.{Portfolio}
+use Rattle.adr_state.specs.declared.portfolio.Resource.{Resource}
 use Rattle.adr_state.specs.declared.participants.Participant.{Participant}
 use Rattle.adr_state.specs.Keys.{share_cmp, at}
 
@@ -14,15 +14,15 @@ abbrev pub is_for : Option (List (List ℕ)) → List ℕ → Bool
 is_for None name = true
 is_for (Some names) name = has_name names name
 
--- a resource with its share, where it has one, and its ven's name
-abbrev pub sharing : Base → List ℕ → ℕ × Resource → Option Participant
-sharing base program r =
-    option_and_then (λ weight. option_map (λ ven. record { resource = r.0; weight = weight; name = r.1.name; ven_name = ven.name }) (at nat_cmp r.1.ven base.vens))
-    (at share_cmp (record { program = program; resource = r.0 }) base.shares)
+-- a resource with its weight in a program, where it has one, and its ven's name
+abbrev pub as_participant : Portfolio → List ℕ → ℕ × Resource → Option Participant
+as_participant portfolio program r =
+    option_and_then (λ weight. option_map (λ ven. record { resource = r.0; weight = weight; name = r.1.name; ven_name = ven.name }) (at nat_cmp r.1.ven portfolio.vens))
+    (at share_cmp (record { program = program; resource = r.0 }) portfolio.shares)
 
-abbrev pub participant_of : Base → EventBody → ℕ × Resource → Option Participant
-participant_of base event r = if is_for event.resource_names r.1.name then sharing base event.program r else None
+abbrev pub participant_of : Portfolio → EventBody → ℕ × Resource → Option Participant
+participant_of portfolio event r = if is_for event.resource_names r.1.name then as_participant portfolio event.program r else None
 
 -- the participants, in the order of their numbers
-abbrev pub participants : Base → EventBody → List Participant
-participants base event = filter_map (participant_of base event) base.resources
+abbrev pub participants : Portfolio → EventBody → List Participant
+participants portfolio event = filter_map (participant_of portfolio event) portfolio.resources

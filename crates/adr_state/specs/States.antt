@@ -1,6 +1,7 @@
 -- The state at first.
 use Rattle.std.specs.Prelude.{[], None}
+use Rattle.adr_state.specs.Portfolios.{nobody}
 use Rattle.adr_state.specs.declared.state.State.{State}
 
 abbrev pub empty : State
-empty = record { base = record { mirror = []; scan = None; vens = []; resources = []; shares = []; serial = 0 }; stamps = [] }
+empty = record { base = record { mirror = []; scan = None; portfolio = nobody; serial = 0 }; stamps = [] }

@@ -2,13 +2,13 @@
 use Rattle.std.specs.Prelude.{ℕ, Bool, List, [], ◌∷◌, map, is_some, option_map, option_and_then, slice_get, if◌then◌else◌}
 use Rattle.std.specs.List.{list_any, flat_map, enumerate_from}
 use Rattle.adr_split.specs.Parts.{fair_split}
-use Rattle.adr_schema.specs.declared.kind.Kind.{Kind}
-use Rattle.adr_schema.specs.declared.kind.Kind.TheVariants as kind
-use Rattle.adr_schema.specs.declared.interval.Interval.{Interval}
-use Rattle.adr_schema.specs.declared.body.EventBody.{EventBody}
-use Rattle.adr_schema.specs.declared.body.Body.{Body}
-use Rattle.adr_schema.specs.declared.body.Body.TheVariants as body
-use Rattle.adr_schema.specs.declared.shown.ShownInterval.{ShownInterval}
+use Rattle.adr_objects.specs.declared.kind.Kind.{Kind}
+use Rattle.adr_objects.specs.declared.kind.Kind.TheVariants as kind
+use Rattle.adr_objects.specs.declared.interval.Interval.{Interval}
+use Rattle.adr_objects.specs.declared.body.EventBody.{EventBody}
+use Rattle.adr_objects.specs.declared.body.Body.{Body}
+use Rattle.adr_objects.specs.declared.body.Body.TheVariants as body
+use Rattle.adr_objects.specs.declared.shown.ShownInterval.{ShownInterval}
 use Rattle.adr_state.specs.declared.base.Base.{Base}
 use Rattle.adr_state.specs.declared.base.Mark.{Mark}
 use Rattle.adr_state.specs.declared.base.Mark.TheVariants.{Live, Dead}
@@ -57,7 +57,7 @@ abbrev pub carries : EventBody → Bool
 carries event = list_any (λ i. is_some i.setpoint) event.intervals
 
 abbrev pub event_rows : Base → List ℕ → EventBody → List (ViewKey × Content)
-event_rows base id event = if carries event then rows_for id event (participants base event) else []
+event_rows base id event = if carries event then rows_for id event (participants base.portfolio event) else []
 
 -- what is shown of a program
 abbrev pub program_rows : List ℕ → List ℕ → List (ViewKey × Content)

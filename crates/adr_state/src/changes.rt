@@ -9,7 +9,7 @@ use crate::keys::ViewKey;
 use crate::lists::push_some;
 use crate::view::{Content, View};
 use crate::view_map::{add_key, put_row, row_at};
-use adr_schema::{ShownEvent, ShownInterval, Stamps};
+use adr_objects::{ShownEvent, ShownInterval, Stamps};
 use adr_text::{Moment, Table};
 use std::alloc::{AllocError, Global};
 use std::collections::BTreeSet;

@@ -1,5 +1,5 @@
 //! The keys of the maps, in the order of their fields.
-use adr_schema::{Kind, Number};
+use adr_objects::{Kind, Number};
 use adr_text::ObjectId;
 
 /// The key of an upstream object.

@@ -4,7 +4,7 @@ ghost use Rattle.std.specs.Option.{option_copied};
 ghost use Rattle.adr_state.specs.Marks.{is_below, is_version_below};
 
 use crate::base::Mark;
-use adr_schema::{Body, canonical};
+use adr_objects::{Body, canonical};
 use adr_text::Moment;
 use std::alloc::{AllocError, Global};
 

@@ -9,7 +9,7 @@ ghost use Rattle.adr_state.specs.Mirror.{key_of, mark_of, raised, joined, eviden
 use crate::base::Mark;
 use crate::keys::MirrorKey;
 use crate::marks::is_below;
-use adr_schema::Found;
+use adr_objects::Found;
 use adr_text::Table;
 use std::alloc::{AllocError, Global};
 

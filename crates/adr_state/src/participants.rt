@@ -1,12 +1,12 @@
 //! Who takes part in an event.
 ghost use Rattle.std.specs.Prelude.{◌≡◌, ◌≤◌, length, IfOk};
 ghost use Rattle.adr_state.specs.Weights.{most_resources};
-ghost use Rattle.adr_state.specs.Participants.{is_for, sharing, participant_of, participants};
+ghost use Rattle.adr_state.specs.Participants.{is_for, as_participant, participant_of, participants};
 
-use crate::base::{Base, Resource, Weight};
 use crate::keys::ShareKey;
 use crate::lists::push_some;
-use adr_schema::{EventBody, NameSet, Number};
+use crate::portfolio::{Portfolio, Resource, Weight};
+use adr_objects::{EventBody, NameSet, Number};
 use adr_text::{Name, ObjectId};
 use std::alloc::{AllocError, Global};
 
@@ -29,23 +29,23 @@ pub fn is_for(names: &Option<NameSet>, name: &Name) -> bool
     }
 }
 
-/// The resource with its share, where it has one.
-fn sharing(
-    base: &Base,
+/// The resource with its weight in the program, where it has one.
+fn as_participant(
+    portfolio: &Portfolio,
     program: &ObjectId,
     number: Number,
     resource: &Resource,
 ) -> Result<Option<Participant>, AllocError>
-    ensures { IfOk result (λ p. p ≡ sharing base.now program.now (number, resource.now)) }
+    ensures { IfOk result (λ p. p ≡ as_participant portfolio.now program.now (number, resource.now)) }
 {
     let key = ShareKey {
         program: program.clone()?,
         resource: number,
     };
-    let Some(weight) = base.shares.get(&key) else {
+    let Some(weight) = portfolio.shares.get(&key) else {
         return Ok(None);
     };
-    let Some(ven) = base.vens.get(&resource.ven) else {
+    let Some(ven) = portfolio.vens.get(&resource.ven) else {
         return Ok(None);
     };
     Ok(Some(Participant {
@@ -57,31 +57,34 @@ fn sharing(
 }
 
 fn participant_of(
-    base: &Base,
+    portfolio: &Portfolio,
     event: &EventBody,
     number: Number,
     resource: &Resource,
 ) -> Result<Option<Participant>, AllocError>
-    ensures { IfOk result (λ p. p ≡ participant_of base.now event.now (number, resource.now)) }
+    ensures { IfOk result (λ p. p ≡ participant_of portfolio.now event.now (number, resource.now)) }
 {
     if !is_for(&event.resource_names, resource.name.as_name()) {
         return Ok(None);
     }
-    sharing(base, &event.program, number, resource)
+    as_participant(portfolio, &event.program, number, resource)
 }
 
 /// The participants of an event, in the order of their numbers.
 pub(crate) fn participants(
     alloc: Global,
-    base: &Base,
+    portfolio: &Portfolio,
     event: &EventBody,
 ) -> Result<Vec<Participant>, AllocError>
-    ensures value { IfOk result (λ all. all.items ≡ participants base.now event.now) }
+    ensures value { IfOk result (λ all. all.items ≡ participants portfolio.now event.now) }
     ensures few { IfOk result (λ all. length all.items ≤ most_resources) }
 {
     let mut all = Vec::new(alloc);
-    for (number, resource) in base.resources.iter() {
-        push_some(&mut all, participant_of(base, event, *number, resource)?)?;
+    for (number, resource) in portfolio.resources.iter() {
+        push_some(
+            &mut all,
+            participant_of(portfolio, event, *number, resource)?,
+        )?;
     }
     Ok(all)
 }

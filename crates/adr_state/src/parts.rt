@@ -5,7 +5,7 @@ ghost use Rattle.adr_split.specs.Parts.{fair_split};
 ghost use Rattle.adr_state.specs.Views.{weights_of, split_interval};
 
 use crate::participants::Participant;
-use adr_schema::{Interval, Period, Setpoint};
+use adr_objects::{Interval, Period, Setpoint};
 use adr_split::split;
 use adr_text::Rows;
 use std::alloc::{AllocError, Global};

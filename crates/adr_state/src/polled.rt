@@ -8,7 +8,7 @@ ghost use Rattle.adr_state.specs.Scans.{has_key, polled_with, is_live, is_probe,
 use crate::base::Mark;
 use crate::keys::MirrorKey;
 use crate::mirror::key_of;
-use adr_schema::Found;
+use adr_objects::Found;
 use adr_text::{Rows, Table};
 use std::alloc::{AllocError, Global};
 use std::collections::BTreeSet;

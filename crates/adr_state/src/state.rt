@@ -1,10 +1,12 @@
 //! The whole state.
 ghost use Rattle.std.specs.Prelude.{◌≡◌, IfOk};
 
-use crate::base::{Base, Mark, Resources};
+use crate::base::{Base, Mark};
 use crate::keys::ViewKey;
 use crate::polled::same_scan;
-use adr_schema::Stamps;
+use crate::portfolio::Portfolio;
+use crate::serial::Serial;
+use adr_objects::Stamps;
 use adr_text::Table;
 use std::alloc::{AllocError, Global};
 
@@ -37,9 +39,7 @@ impl Base {
         Ok(Base {
             mirror: self.mirror.clone()?,
             scan: same_scan(&self.scan)?,
-            vens: self.vens.clone()?,
-            resources: self.resources.clone()?,
-            shares: self.shares.clone()?,
+            portfolio: self.portfolio.clone()?,
             serial: self.serial,
         })
     }
@@ -56,10 +56,8 @@ impl State {
             base: Base {
                 mirror: Table::new(alloc),
                 scan: None,
-                vens: Table::new(alloc),
-                resources: Resources::new(alloc),
-                shares: Table::new(alloc),
-                serial: 0,
+                portfolio: Portfolio::new(alloc),
+                serial: Serial::new(),
             },
             stamps: Table::new(alloc),
         }

@@ -10,7 +10,7 @@ use crate::keys::{MirrorKey, ViewKey};
 use crate::participants::{Participant, participants};
 use crate::parts::{SplitInterval, split_intervals, weights_of};
 use crate::view_map::put_row;
-use adr_schema::{Body, EventBody, Kind, ShownEvent, ShownInterval};
+use adr_objects::{Body, EventBody, Kind, ShownEvent, ShownInterval};
 use adr_text::{Name, ObjectId, Rows, Table};
 use std::alloc::{AllocError, Global};
 
@@ -163,7 +163,7 @@ fn put_event(
     if !carries(event) {
         return Ok(());
     }
-    let ps = participants(alloc, base, event)?;
+    let ps = participants(alloc, &base.portfolio, event)?;
     put_rows(alloc, view, id, event, &ps)
 }
 

@@ -86,6 +86,12 @@ abbrev pub or_else : {A E : Type 0} → E → Option A → Result A E
 or_else e (Some x) = Ok x
 or_else e None = Err e
 
+-- a refusal that may stand in place of a result: want of memory and the store's in place of any
+abbrev pub IsRefusalOf : {A : Type 0} → Refusal → Result A Refusal → Type 0
+IsRefusalOf OutOfMemory r = Unit {0}
+IsRefusalOf Store r = Unit {0}
+IsRefusalOf refusal r = r ≡ Err refusal
+
 -- the refusal is what reading gives, or memory ran out
 abbrev pub Fails : {Y : Type 0} → Refusal → Result Y Refusal → Type 0
 Fails OutOfMemory reading = Unit {0}

@@ -1,7 +1,7 @@
 //! The participants of events, read from tables in memory: what no row reaches yet.
 use adr_db::{create, put_resource, put_share, put_ven, read_sharers};
+use adr_objects::{EventBody, Intervals, NameSet, Number, ResourceName, Stamps};
 use adr_portfolio::participants;
-use adr_schema::{EventBody, Intervals, NameSet, Number, ResourceName, Stamps};
 use adr_state::{Participant, Resource, ShareKey, Ven, Weight};
 use adr_text::{Moment, Name, ObjectId, Refusal};
 use sqlite::{Alter, Connection, Transaction};

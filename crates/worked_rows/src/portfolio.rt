@@ -1,6 +1,6 @@
 //! Whether two bases hold the same vens, resources and shares, and two answers the same object.
 use adr_machine::Object;
-use adr_schema::{Number, ResourceObject, ShareObject, VenObject};
+use adr_objects::Number;
 use adr_state::{Base, Resource, Resources, ShareKey, Ven, Weight};
 use adr_text::Table;
 
@@ -22,7 +22,7 @@ fn has_resource(resources: &Resources, number: Number, resource: &Resource) -> b
     match resources.get(number) {
         Some(other) => {
             resource.ven == other.ven
-                && resource.name.as_name() == other.name.as_name()
+                && resource.name == other.name
                 && resource.stamps == other.stamps
         }
         None => false,
@@ -44,32 +44,16 @@ fn are_same_shares(shares: &Table<ShareKey, Weight>, others: &Table<ShareKey, We
 /// Whether both hold the same vens, resources and shares, and drew as many numbers.
 pub fn is_same_portfolio(base: &Base, other: &Base) -> bool {
     base.serial == other.serial
-        && are_same_vens(&base.vens, &other.vens)
-        && are_same_resources(&base.resources, &other.resources)
-        && are_same_shares(&base.shares, &other.shares)
-}
-
-fn is_same_ven(ven: &VenObject, other: &VenObject) -> bool {
-    ven.number == other.number && ven.name == other.name && ven.stamps == other.stamps
-}
-
-fn is_same_resource(resource: &ResourceObject, other: &ResourceObject) -> bool {
-    resource.number == other.number
-        && resource.ven == other.ven
-        && resource.name == other.name
-        && resource.stamps == other.stamps
-}
-
-/// Whether both are the same share.
-pub fn is_same_share(share: &ShareObject, other: &ShareObject) -> bool {
-    share.program == other.program && share.resource == other.resource && share.share == other.share
+        && are_same_vens(&base.portfolio.vens, &other.portfolio.vens)
+        && are_same_resources(&base.portfolio.resources, &other.portfolio.resources)
+        && are_same_shares(&base.portfolio.shares, &other.portfolio.shares)
 }
 
 /// Whether both are the same ven or the same resource.
 pub fn is_same_object(object: &Object, other: &Object) -> bool {
     match (object, other) {
-        (Object::Ven(ven), Object::Ven(other)) => is_same_ven(ven, other),
-        (Object::Resource(resource), Object::Resource(other)) => is_same_resource(resource, other),
+        (Object::Ven(ven), Object::Ven(other)) => ven == other,
+        (Object::Resource(resource), Object::Resource(other)) => resource == other,
         _ => false,
     }
 }

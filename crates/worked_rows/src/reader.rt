@@ -1,8 +1,6 @@
 //! The readers of texts, and what each makes of one, as a line.
-use adr_schema::{
-    Found, Kind, NoticeIn, canonical, read_canonical, read_notice, read_one, read_page,
-    read_resource, read_share, read_ven,
-};
+use adr_objects::{Found, Kind, canonical, read_canonical};
+use adr_schema::{NoticeIn, read_notice, read_one, read_page, read_resource, read_share, read_ven};
 use adr_text::{Fault, Moment, Name, ObjectId, Refusal, Whole, read_value, whole};
 use std::alloc::{AllocError, Global};
 use std::str::from_utf8;

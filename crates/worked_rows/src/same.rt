@@ -1,6 +1,6 @@
 //! Whether two images hold the same base.
 use crate::portfolio::is_same_portfolio;
-use adr_schema::{Body, canonical};
+use adr_objects::{Body, canonical};
 use adr_state::{Image, Mark, MirrorKey, Polled};
 use adr_text::Table;
 use std::alloc::{AllocError, Global};

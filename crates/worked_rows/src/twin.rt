@@ -1,5 +1,5 @@
 //! A plain desk, and a desk over SQL that is told the same commands.
-use crate::portfolio::{is_same_object, is_same_share};
+use crate::portfolio::is_same_object;
 use crate::same::is_same;
 use adr_desk::{Edit, MemoryDesk};
 use adr_machine::{Answer, Command, Desk, PlainDesk, Query};
@@ -40,7 +40,7 @@ fn agrees(said: &Result<Answer, Refusal>, edit: &Result<Option<Edit>, Refusal>) 
         (Ok(Answer::Object(object)), Ok(Some(Edit::Object(other)))) => {
             is_same_object(object, other)
         }
-        (Ok(Answer::Share(share)), Ok(Some(Edit::Share(other)))) => is_same_share(share, other),
+        (Ok(Answer::Share(share)), Ok(Some(Edit::Share(other)))) => share == other,
         (Err(refusal), Err(other)) => refusal == other,
         _ => false,
     }

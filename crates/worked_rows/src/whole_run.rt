@@ -2,7 +2,8 @@
 use crate::same::is_same;
 use adr_desk::{Edit, MemoryDesk, edit_each};
 use adr_machine::{Answer, Command, Desk, PlainDesk, Role, run};
-use adr_schema::{Kind, read_page, read_resource, read_ven};
+use adr_objects::Kind;
+use adr_schema::{read_page, read_resource, read_ven};
 use adr_state::Settings;
 use adr_text::{Moment, ObjectId, Refusal};
 use std::alloc::Global;

@@ -1,6 +1,6 @@
 use Rattle.sqlite.specs.Held.{state}
 use Rattle.adr_db.specs.Kept.{contents_of}
-use Rattle.adr_db.proofs.Calls.{on_then}
+use Rattle.adr_db.proofs.Results.{on_then}
 use Rattle.adr_db.proofs.MetaStatements.{keeps_meta}
 use Rattle.adr_db.proofs.meta.put_meta.Goals as goal
 

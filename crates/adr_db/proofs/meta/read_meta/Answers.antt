@@ -1,11 +1,20 @@
-use Rattle.std.proofs.Common.{[], ap, ◌∙◌}
-use Rattle.adr_db.specs.Rows.{meta_cells}
-use Rattle.adr_db.proofs.Calls.{rows_find, ok_then, first_is}
+use Rattle.std.proofs.Common.{◌≡◌, List, [], ◌∷◌, take, Ok, subst}
+use Rattle.std.specs.List.{AllZip}
+use Rattle.sqlite_value.specs.Order.{Row}
+use Rattle.adr_text.specs.declared.refusal.Refusal.{Refusal}
+use Rattle.adr_sql.specs.Keys.{cells}
+use Rattle.adr_db.specs.declared.meta.Meta.{Meta}
+use Rattle.adr_db.specs.Rows.{meta_row}
 use Rattle.adr_db.proofs.Rows.{meta_kept}
-use Rattle.adr_db.proofs.MetaStatements.{read_text, read_is_plain, meta_read}
+use Rattle.adr_db.proofs.Calls.{shows, shown_finds}
+use Rattle.adr_db.proofs.MetaStatements.{reads, meta_read}
 use Rattle.adr_db.proofs.meta.read_meta.Goals as goal
 
 pub returns-in-Some-clause-finds : goal.returns-in-Some-clause-finds
 returns-in-Some-clause-finds g c =
-    rows_find g.S.Store c.args.tx.now.conn.now c.rows_of.new.tx.conn.now read_text [] _ c.meta_in.result c.in_ok-rows.rows.items read_is_plain c.in_ok-rows.ensures.answers
-    (ok_then c.meta_in.result (λ meta is kept shown was. meta_kept meta kept.meta (is ∙ ap meta_cells (first_is _ _ _ _ c.in-Some.ensures.value (c.deref.ensures.value ∙ meta_read _ _ _ kept shown was)))) c.meta_in.ensures.meta)
+    let old = c.args.tx.now.conn.now in
+    let new = c.rows_of.new.tx.conn.now in
+    let IsFirst : List Row → Meta → Type 0 = λ rows meta. AllZip (λ row meta. meta_row meta ≡ cells 0 9 row) (take 1 rows) (meta ∷ []) in
+    shown_finds g.S.Store old new _ [] {T = Meta} {E = Refusal} IsFirst (λ kept meta. meta ≡ kept.meta) (Ok c.in-Some.meta) reads.alone
+    (λ meta rows kept shown was first. meta_kept meta kept.meta (subst (λ rows. IsFirst rows meta) (meta_read _ _ rows kept shown was) first).0)
+    (shows g.S.Store old new _ [] {T = Meta} {E = Refusal} IsFirst (Ok c.in-Some.meta) _ c.in_ok-rows.ensures.answers (rw (c.deref.ensures.value, c.in-Some.is) at c.in_ok-meta.ensures.read))

@@ -1,11 +1,22 @@
-use Rattle.std.proofs.Common.{[], ap, map, ◌∙◌}
-use Rattle.adr_db.specs.Rows.{mirror_cells}
-use Rattle.adr_db.proofs.Calls.{rows_find, ok_then}
-use Rattle.adr_db.proofs.Rows.{mirror_cells_are}
-use Rattle.adr_db.proofs.MirrorStatements.{read_all_text, read_all_is_plain, marks_read}
+use Rattle.std.proofs.Common.{◌≡◌, List, [], ◌∷◌, map, refl, ap₂, ◌∙◌}
+use Rattle.std.specs.List.{AllZip}
+use Rattle.adr_state.specs.declared.base.Mark.{Mark}
+use Rattle.adr_state.specs.declared.keys.MirrorKey.{MirrorKey}
+use Rattle.adr_sql.specs.Keys.{cells}
+use Rattle.adr_db.specs.declared.mirror.MirrorRow.{MirrorRow}
+use Rattle.adr_db.specs.Rows.{mark_row, mirror_row}
+use Rattle.adr_db.proofs.Rows.{cells_are}
+use Rattle.adr_db.proofs.KeptMaps.{all_find}
+use Rattle.adr_db.proofs.Maps.{mirror_map}
+use Rattle.adr_db.proofs.MirrorStatements.{reads_all}
 use Rattle.adr_db.proofs.mirror.read_marks.Goals as goal
 
 pub returns-clause-finds : goal.returns-clause-finds
 returns-clause-finds g c =
-    rows_find g.S.Store c.args.tx.now.conn.now c.rows_of.new.tx.conn.now read_all_text [] _ c.rows_in.result c.in_ok-rows.rows.items read_all_is_plain c.in_ok-rows.ensures.answers
-    (ok_then c.rows_in.result (λ all is kept shown was. is ∙ ap (map mirror_cells) (c.deref.ensures.value ∙ marks_read _ _ _ kept shown was) ∙ mirror_cells_are kept.mirror) c.rows_in.ensures.rows)
+    all_find mirror_map g.S.Store c.args.tx.now.conn.now c.all_of.new.tx.conn.now _ (λ row it. mirror_row it ≡ cells 0 5 row) (λ kept rows. map mirror_row rows ≡ map mark_row kept.mirror) _ reads_all (λ rows kept are. look_alike rows kept.mirror) c.all_of.ensures.shows
+  where
+    look_alike : (rows : List MirrorRow) (es : List (MirrorKey × Mark)) → AllZip (λ row it. mirror_row it ≡ cells 0 5 row) (map mark_row es) rows → map mirror_row rows ≡ map mark_row es
+    look_alike [] [] h = refl
+    look_alike [] (e ∷ es) h = absurd h
+    look_alike (r ∷ rows) [] h = absurd h
+    look_alike (r ∷ rows) (e ∷ es) h = ap₂ ◌∷◌ (h.0 ∙ cells_are e.0 e.1) (look_alike rows es h.1)

@@ -1,11 +1,16 @@
-use Rattle.std.proofs.Common.{[], ap, map, ◌∙◌}
-use Rattle.adr_db.specs.Rows.{key_cells}
-use Rattle.adr_db.proofs.Calls.{rows_find, ok_then}
-use Rattle.adr_db.proofs.Rows.{keys_kept, key_cells_are}
-use Rattle.adr_db.proofs.PolledStatements.{read_text, read_is_plain, polled_read}
+use Rattle.std.proofs.Common.{◌≡◌, subst}
+use Rattle.std.specs.List.{AllZip}
+use Rattle.sqlite_trees.proofs.ListLemmas.{map-map}
+use Rattle.adr_state.specs.declared.keys.MirrorKey.{MirrorKey}
+use Rattle.adr_sql.specs.Keys.{cells}
+use Rattle.adr_db.specs.Rows.{key_row}
+use Rattle.adr_db.proofs.Rows.{key_kept}
+use Rattle.adr_db.proofs.KeptMaps.{read_back, all_find}
+use Rattle.adr_db.proofs.Maps.{polled_map}
+use Rattle.adr_db.proofs.PolledStatements.{reads}
 use Rattle.adr_db.proofs.polled.read_polled.Goals as goal
 
 pub returns-clause-finds : goal.returns-clause-finds
 returns-clause-finds g c =
-    rows_find g.S.Store c.args.tx.now.conn.now c.rows_of.new.tx.conn.now read_text [] _ c.keys_in.result c.in_ok-rows.rows.items read_is_plain c.in_ok-rows.ensures.answers
-    (ok_then c.keys_in.result (λ keys is kept shown was. keys_kept keys kept.polled (is ∙ ap (map key_cells) (c.deref.ensures.value ∙ polled_read _ _ _ kept shown was) ∙ key_cells_are kept.polled)) c.keys_in.ensures.keys)
+    all_find polled_map g.S.Store c.args.tx.now.conn.now c.all_of.new.tx.conn.now _ (λ row key. key_row key ≡ cells 0 2 row) (λ kept keys. keys ≡ kept.polled) _ reads (λ keys kept are read.
+    read_back (λ row key. key_row key ≡ cells 0 2 row) key_row keys kept.polled (λ j k has same. key_kept j k same) (subst (λ rows. AllZip (λ row key. key_row key ≡ cells 0 2 row) rows keys) (map-map (λ (e : MirrorKey × Unit {0}). key_row e.0) (λ k. (k, tt)) kept.polled) read)) c.all_of.ensures.shows

@@ -1,14 +1,9 @@
-use Rattle.std.proofs.Common.{[], ◌∷◌, refl, ap, map, ◌∙◌}
-use Rattle.sqlite.specs.declared.types.Value.TheVariants.{Text}
-use Rattle.adr_db.specs.Rows.{number_row, number_cells}
-use Rattle.adr_db.specs.Kept.{resources_named}
-use Rattle.adr_db.proofs.Calls.{rows_find, ok_then}
-use Rattle.adr_db.proofs.Rows.{number_row_kept, all_kept, all_cells}
-use Rattle.adr_db.proofs.ResourceStatements.{named_text, named_is_plain, named_read}
+use Rattle.std.proofs.Common.{refl}
+use Rattle.adr_state.specs.Names.{resource_name}
+use Rattle.adr_db.proofs.Named.{named_find}
+use Rattle.adr_db.proofs.Maps.{resource_map}
+use Rattle.adr_db.proofs.ResourceStatements.{reads_named}
 use Rattle.adr_db.proofs.resource.read_resources_named.Goals as goal
 
 pub returns-clause-finds : goal.returns-clause-finds
-returns-clause-finds g c =
-    let name = c.args.name.now in
-    rows_find g.S.Store c.args.tx.now.conn.now c.rows_of.new.tx.conn.now named_text (Text name ∷ []) _ c.numbers_in.result c.in_ok-rows.rows.items named_is_plain (rw (c.to_sql.ensures, c.as_str.ensures.text, c.as_name.ensures.value) at c.in_ok-rows.ensures.answers)
-    (ok_then c.numbers_in.result (λ numbers is kept shown was. all_kept number_row number_row_kept numbers (resources_named name kept.resources) (is ∙ ap (map number_cells) (c.deref.ensures.value ∙ named_read name _ _ _ kept shown was) ∙ all_cells number_row number_cells (λ n. refl) (resources_named name kept.resources))) c.numbers_in.ensures.numbers)
+returns-clause-finds g c = named_find resource_map resource_name 2 (λ e. refl) (λ e. refl) g.S.Store c.args.tx.now.conn.now c.all_of.new.tx.conn.now _ c.args.name.now _ reads_named (rw (c.to_sql.ensures, c.as_str.ensures.text, c.as_name.ensures.value) at c.all_of.ensures.shows)

@@ -1,14 +1,13 @@
 use Rattle.sqlite.specs.Held.{state}
+use Rattle.adr_state.specs.Portfolios.{without_resource}
 use Rattle.adr_db.specs.Rows.{number_row}
-use Rattle.adr_db.specs.Kept.{without_resource}
+use Rattle.adr_db.specs.Kept.{with_portfolio}
 use Rattle.adr_db.proofs.Calls.{run_leaves}
-use Rattle.adr_db.proofs.ResourceStatements.{remove_text}
-use Rattle.adr_db.proofs.Portfolio.{resource_removed}
+use Rattle.adr_db.proofs.Cascades.{resource_removed}
 use Rattle.adr_db.proofs.resource.remove_resource.Goals as goal
 
 pub returns-clause-leaves : goal.returns-clause-leaves
 returns-clause-leaves g c =
     let old = c.args.tx.now.conn.now in
     let new = c.run.new.tx.conn.now in
-    run_leaves g.S.Store old new remove_text (number_row c.args.id) (without_resource c.args.id) c.run.result (resource_removed c.args.id (state g.S.Store old) (state g.S.Store new))
-    (rw (c.in_ok-number_of_resource.ensures.value, c.get.ensures) at c.run.ensures.runs)
+    run_leaves g.S.Store old new _ (number_row c.args.id) (with_portfolio (without_resource c.args.id)) _ (resource_removed c.args.id (state g.S.Store old) (state g.S.Store new)) (rw (c.in_ok-number_of_resource.ensures.value, c.get.ensures) at c.run.ensures.runs)

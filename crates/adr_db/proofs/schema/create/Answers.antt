@@ -3,7 +3,7 @@ use Rattle.sqlite.specs.Held.{state}
 use Rattle.sqlite.specs.State.{HasCleanDisk}
 use Rattle.adr_db.specs.declared.meta.Meta.{Meta}
 use Rattle.adr_db.specs.Kept.{Keeps, nothing_kept, with_meta}
-use Rattle.adr_db.proofs.Calls.{on_then}
+use Rattle.adr_db.proofs.Results.{on_then}
 use Rattle.adr_db.proofs.schema.create.Goals as goal
 
 pub returns-clause-made : goal.returns-clause-made

@@ -1,9 +1,7 @@
-use Rattle.std.proofs.Common.{[], length, ◌∙◌}
-use Rattle.adr_db.proofs.Calls.{rows_find, ok_then}
-use Rattle.adr_db.proofs.ShareStatements.{count_text, count_is_plain, shares_counted}
+use Rattle.adr_db.proofs.KeptMaps.{count_finds}
+use Rattle.adr_db.proofs.Maps.{share_map}
+use Rattle.adr_db.proofs.ShareStatements.{counts}
 use Rattle.adr_db.proofs.share.count_shares.Goals as goal
 
 pub returns-clause-finds : goal.returns-clause-finds
-returns-clause-finds g c =
-    rows_find g.S.Store c.args.tx.now.conn.now c.rows_of.new.tx.conn.now count_text [] _ c.count_in.result c.in_ok-rows.rows.items count_is_plain c.in_ok-rows.ensures.answers
-    (ok_then c.count_in.result (λ n is kept shown was. is (length kept.shares) (c.deref.ensures.value ∙ shares_counted _ _ _ kept shown was)) c.count_in.ensures.counted)
+returns-clause-finds g c = count_finds share_map g.S.Store c.args.tx.now.conn.now c.count_of.new.tx.conn.now _ _ counts c.count_of.ensures.shows

@@ -1,14 +1,15 @@
-use Rattle.std.proofs.Common.{[], refl, ap, map, ◌∙◌}
-use Rattle.adr_state.specs.Keys.{share_cmp}
-use Rattle.adr_db.proofs.Rows.{share_kept, all_kept, all_cells}
-use Rattle.adr_state.specs.Keys.{map_of}
-use Rattle.adr_db.specs.Rows.{share_row, share_cells}
-use Rattle.adr_db.proofs.Calls.{rows_find, ok_then}
-use Rattle.adr_db.proofs.MapLemmas.{shares_again}
-use Rattle.adr_db.proofs.ShareStatements.{read_all_text, read_all_is_plain, shares_read}
+use Rattle.std.proofs.Common.{◌≡◌, ℕ, ap₂}
+use Rattle.adr_state.specs.declared.keys.ShareKey.{ShareKey}
+use Rattle.sqlite_value.specs.Order.{column}
+use Rattle.adr_sql.specs.Keys.{cells}
+use Rattle.adr_db.specs.Rows.{number, share_key_row}
+use Rattle.adr_db.proofs.Rows.{number_kept, share_key_kept}
+use Rattle.adr_db.proofs.KeptMaps.{map_finds}
+use Rattle.adr_db.proofs.Maps.{share_map}
+use Rattle.adr_db.proofs.ShareStatements.{reads_all}
 use Rattle.adr_db.proofs.share.read_shares.Goals as goal
 
 pub returns-clause-finds : goal.returns-clause-finds
 returns-clause-finds g c =
-    rows_find g.S.Store c.args.tx.now.conn.now c.rows_of.new.tx.conn.now read_all_text [] _ c.table_of.result c.in_ok-rows.rows.items read_all_is_plain c.in_ok-rows.ensures.answers
-    (ok_then c.table_of.result (λ all is kept shown was. is ∙ ap (map_of share_cmp) (all_kept share_row share_kept _ kept.shares (c.in_ok-entries.ensures.entries ∙ ap (map share_cells) (c.deref.ensures.value ∙ shares_read _ _ _ kept shown was) ∙ all_cells share_row share_cells (λ e. refl) kept.shares)) ∙ shares_again kept _ was) c.table_of.ensures.map)
+    map_finds share_map g.S.Store c.args.tx.now.conn.now c.all_of.new.tx.conn.now _ (λ row e. (share_key_row e.0 ≡ cells 0 2 row) × (number e.1 ≡ column row 2)) _ _ reads_all
+    (λ kept are d e has read. ap₂ (λ (k : ShareKey) (v : ℕ). (k, v)) (share_key_kept d.0 e.0 read.0) (number_kept d.1 e.1 read.1)) c.in_ok-entries.ensures.shows c.table_of.ensures.map

@@ -1,9 +1,7 @@
-use Rattle.std.proofs.Common.{[], length, ◌∙◌}
-use Rattle.adr_db.proofs.Calls.{rows_find, ok_then}
-use Rattle.adr_db.proofs.VenStatements.{count_text, count_is_plain, vens_counted}
+use Rattle.adr_db.proofs.KeptMaps.{count_finds}
+use Rattle.adr_db.proofs.Maps.{ven_map}
+use Rattle.adr_db.proofs.VenStatements.{counts}
 use Rattle.adr_db.proofs.ven.count_vens.Goals as goal
 
 pub returns-clause-finds : goal.returns-clause-finds
-returns-clause-finds g c =
-    rows_find g.S.Store c.args.tx.now.conn.now c.rows_of.new.tx.conn.now count_text [] _ c.count_in.result c.in_ok-rows.rows.items count_is_plain c.in_ok-rows.ensures.answers
-    (ok_then c.count_in.result (λ n is kept shown was. is (length kept.vens) (c.deref.ensures.value ∙ vens_counted _ _ _ kept shown was)) c.count_in.ensures.counted)
+returns-clause-finds g c = count_finds ven_map g.S.Store c.args.tx.now.conn.now c.count_of.new.tx.conn.now _ _ counts c.count_of.ensures.shows

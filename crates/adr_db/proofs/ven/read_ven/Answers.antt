@@ -1,31 +1,13 @@
-use Rattle.std.proofs.Common.{Some, sym, ap, ◌∙◌}
-use Rattle.std.specs.Ordering.{nat_cmp}
-use Rattle.sqlite.specs.State.{Shown}
-use Rattle.sqlite.specs.Held.{state}
-use Rattle.adr_state.specs.Keys.{at}
-use Rattle.adr_db.specs.Rows.{number_row, ven_row, ven_columns_cells}
-use Rattle.adr_db.proofs.Calls.{keeps_still}
-use Rattle.adr_db.proofs.Rows.{ven_kept, value_found, value_absent}
-use Rattle.adr_db.proofs.VenStatements.{read_one_text, read_one_is_plain, ven_read}
+use Rattle.std.proofs.Common.{◌≡◌, Option, Some, refl, ap}
+use Rattle.adr_state.specs.declared.portfolio.Ven.{Ven}
+use Rattle.adr_sql.specs.Keys.{cells}
+use Rattle.adr_db.specs.Rows.{ven_columns}
+use Rattle.adr_db.proofs.Rows.{ven_kept}
+use Rattle.adr_db.proofs.KeptMaps.{one_finds}
+use Rattle.adr_db.proofs.Maps.{ven_map}
+use Rattle.adr_db.proofs.VenStatements.{reads_one}
 use Rattle.adr_db.proofs.ven.read_ven.Goals as goal
 
-pub returns-in-Some-clause-finds : goal.returns-in-Some-clause-finds
-returns-in-Some-clause-finds g c clean kept was =
-    let old = state g.S.Store c.args.tx.now.conn.now in
-    let new = state g.S.Store c.rows_of.new.tx.conn.now in
-    let id = c.args.id in
-    let rows = c.in_ok-rows.rows.items in
-    let shown : Shown read_one_text (number_row id) old new rows = (rw (c.in_ok-number_of_ven.ensures.value, c.get.ensures) at c.in_ok-rows.ensures.answers) clean in
-    let is = c.deref.ensures.value ∙ ven_read id old new rows kept shown was in
-    let found = value_found ven_row id (at nat_cmp id kept.vens) c.in-Some.row.now c.deref.result.now c.in-Some.ensures.value is in
-    (ap Some (ven_kept _ _ (c.in_ok-ven_in-in-Some.ensures.ven ∙ ap ven_columns_cells found.2)) ∙ sym found.1, keeps_still read_one_text (number_row id) old new rows kept read_one_is_plain shown was)
-
 pub returns-clause-finds : goal.returns-clause-finds
-returns-clause-finds g c clean kept was =
-    let old = state g.S.Store c.args.tx.now.conn.now in
-    let new = state g.S.Store c.rows_of.new.tx.conn.now in
-    let id = c.args.id in
-    let rows = c.in_ok-rows.rows.items in
-    let shown : Shown read_one_text (number_row id) old new rows = (rw (c.in_ok-number_of_ven.ensures.value, c.get.ensures) at c.in_ok-rows.ensures.answers) clean in
-    let is = c.deref.ensures.value ∙ ven_read id old new rows kept shown was in
-    (value_absent ven_row id (at nat_cmp id kept.vens) c.deref.result.now c.in-None.ensures.value is, keeps_still read_one_text (number_row id) old new rows kept read_one_is_plain shown was)
+returns-clause-finds g c =
+    one_finds ven_map g.S.Store c.args.tx.now.conn.now c.first_of.new.tx.conn.now _ (λ row ven. ven_columns ven ≡ cells 1 3 row) (λ (found there : Option Ven). found ≡ there) c.args.id _ refl reads_one refl (λ a b same. ap Some (ven_kept a b same)) (rw (c.in_ok-number_of_ven.ensures.value, c.get.ensures) at c.first_of.ensures.shows)

@@ -1,15 +1,15 @@
-use Rattle.std.proofs.Common.{[], refl, ap, map, ◌∙◌}
-use Rattle.std.specs.Ordering.{nat_cmp}
-use Rattle.adr_db.specs.Rows.{ven_columns}
-use Rattle.adr_db.proofs.Rows.{ven_kept, entry_kept, all_kept, all_cells}
-use Rattle.adr_state.specs.Keys.{map_of}
-use Rattle.adr_db.specs.Rows.{ven_row, ven_cells}
-use Rattle.adr_db.proofs.Calls.{rows_find, ok_then}
-use Rattle.adr_db.proofs.MapLemmas.{vens_again}
-use Rattle.adr_db.proofs.VenStatements.{read_all_text, read_all_is_plain, vens_read}
+use Rattle.std.proofs.Common.{◌≡◌, ℕ, ap₂}
+use Rattle.adr_state.specs.declared.portfolio.Ven.{Ven}
+use Rattle.sqlite_value.specs.Order.{column}
+use Rattle.adr_sql.specs.Keys.{cells}
+use Rattle.adr_db.specs.Rows.{number, ven_columns}
+use Rattle.adr_db.proofs.Rows.{number_kept, ven_kept}
+use Rattle.adr_db.proofs.KeptMaps.{map_finds}
+use Rattle.adr_db.proofs.Maps.{ven_map}
+use Rattle.adr_db.proofs.VenStatements.{reads_all}
 use Rattle.adr_db.proofs.ven.read_vens.Goals as goal
 
 pub returns-clause-finds : goal.returns-clause-finds
 returns-clause-finds g c =
-    rows_find g.S.Store c.args.tx.now.conn.now c.rows_of.new.tx.conn.now read_all_text [] _ c.table_of.result c.in_ok-rows.rows.items read_all_is_plain c.in_ok-rows.ensures.answers
-    (ok_then c.table_of.result (λ all is kept shown was. is ∙ ap (map_of nat_cmp) (all_kept ven_row (entry_kept ven_columns ven_kept) _ kept.vens (c.in_ok-entries.ensures.entries ∙ ap (map ven_cells) (c.deref.ensures.value ∙ vens_read _ _ _ kept shown was) ∙ all_cells ven_row ven_cells (λ e. refl) kept.vens)) ∙ vens_again kept _ was) c.table_of.ensures.map)
+    map_finds ven_map g.S.Store c.args.tx.now.conn.now c.all_of.new.tx.conn.now _ (λ row e. (number e.0 ≡ column row 0) × (ven_columns e.1 ≡ cells 1 3 row)) _ _ reads_all
+    (λ kept are d e has read. ap₂ (λ (k : ℕ) (v : Ven). (k, v)) (number_kept d.0 e.0 read.0) (ven_kept d.1 e.1 read.1)) c.in_ok-entries.ensures.shows c.table_of.ensures.map

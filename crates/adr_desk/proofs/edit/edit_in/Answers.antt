@@ -4,10 +4,7 @@ use Rattle.adr_state.specs.declared.base.Base.{Base}
 use Rattle.adr_sql.specs.Calls.{Commits}
 use Rattle.adr_db.specs.Bases.{HoldsBase}
 use Rattle.adr_text.specs.declared.refusal.Refusal.{Refusal}
-use Rattle.adr_machine.specs.declared.answer.Answer.{Answer}
-use Rattle.adr_machine.specs.Edits.{edit}
-use Rattle.adr_db.specs.BaseCalls.{Makes}
-use Rattle.adr_desk.specs.Edits.{IsAnswer, HoldsEdited, LeftEdited}
+use Rattle.adr_desk.specs.Edits.{edit_by, EditsTables, HoldsEdited, LeftEdited}
 use Rattle.adr_desk.proofs.Edited.{moved, edited_whole, edited_makes}
 use Rattle.adr_desk.proofs.edit.edit_in.Goals as goal
 
@@ -15,13 +12,13 @@ use Rattle.adr_desk.proofs.edit.edit_in.Goals as goal
 pub returns-clause-whole : goal.returns-clause-whole
 returns-clause-whole g c =
     let old = c.args.conn.now in
-    let by : Base → Result (Option Answer × Base) Refusal = λ base. edit c.args.limits.now c.args.now base c.args.command.now in
+    let by = edit_by c.args.limits.now c.args.now c.args.command.now in
     moved (λ end. Commits g.S.Store old end (λ s. (base : Base) → HoldsBase base (state g.S.Store old) → HoldsEdited by base s) (λ trees. (base : Base) → HoldsBase base (state g.S.Store old) → LeftEdited by base trees) c.told.result) c.commit-ended.new.tx.0 _ (search rules)
     (edited_whole g.S.Store old c.begin-tx.result.conn.now c.edited.new.tx.conn.now c.commit-ended.new.tx.0 c.args.limits.now c.args.now c.args.command.now c.in_ok-edit.edit c.commit-ended.result c.told.result
     c.begin-tx.ensures.begun c.in_ok-edit.ensures.stays c.in_ok-edit.ensures.makes c.commit-ended.ensures.ends c.told.ensures)
 
 pub returns-clause-makes : goal.returns-clause-makes
 returns-clause-makes g c =
-    moved (λ end. Makes g.S.Store c.args.conn.now end (λ base. edit c.args.limits.now c.args.now base c.args.command.now) IsAnswer c.told.result) c.commit-ended.new.tx.0 c.conn-2-1.given.0 (search rules)
+    moved (λ end. EditsTables (edit_by c.args.limits.now c.args.now c.args.command.now) (state g.S.Store c.args.conn.now) (state g.S.Store end) c.told.result) c.commit-ended.new.tx.0 c.conn-2-1.given.0 (search rules)
     (edited_makes g.S.Store c.args.conn.now c.begin-tx.result.conn.now c.edited.new.tx.conn.now c.commit-ended.new.tx.0 c.args.limits.now c.args.now c.args.command.now c.in_ok-edit.edit c.commit-ended.result c.told.result
     c.begin-tx.ensures.begun c.in_ok-edit.ensures.makes c.commit-ended.ensures.ends c.told.ensures)

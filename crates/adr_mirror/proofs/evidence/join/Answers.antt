@@ -7,7 +7,7 @@ use Rattle.adr_sql.proofs.Transactions.{stays_itself, stays_then}
 use Rattle.adr_db.specs.Kept.{Keeps}
 use Rattle.adr_mirror.specs.Raises.{HasRisen, with_joined}
 use Rattle.adr_mirror.proofs.Rising.{none_risen, risen_more, joined_raises, joined_more}
-use Rattle.adr_mirror.proofs.Keeping.{mirror_rises}
+use Rattle.adr_db.proofs.Rises.{mirror_rises}
 use Rattle.adr_mirror.proofs.evidence.join.Goals as goal
 
 pub founds-init : goal.founds-init

@@ -1,8 +1,16 @@
-use Rattle.std.proofs.Common.{[], Some, refl}
-use Rattle.adr_db.specs.Bases.{kept_of}
-use Rattle.adr_machine.specs.declared.answer.Answer.TheVariants as answer
+use Rattle.std.proofs.Common.{[], Some, true, refl, ap, ◌∙◌}
+use Rattle.adr_state.specs.BaseChanges.{SetScan}
+use Rattle.adr_db.specs.declared.meta.Meta.{Meta}
+use Rattle.adr_db.specs.Bases.{kept_beside}
 use Rattle.adr_db.proofs.Results.{ok_from}
 use Rattle.adr_mirror.proofs.scan.scan_begin.Goals as goal
 
 pub returns-clause-makes : goal.returns-clause-makes
-returns-clause-makes g c clean = ok_from c.put_scan.result (λ x leaves base was. (Some answer.Done, record base { scan = Some [] }, refl, leaves (kept_of base) was, tt)) (c.put_scan.ensures.leaves clean)
+returns-clause-makes g c clean =
+    ok_from c.set_scan.result (λ x leaves row base was same. record {
+      change = SetScan (Some []);
+      decided = refl;
+      holds = leaves (kept_beside row base) was;
+      counted = c.set_scan.ensures.noted ∙ ap (λ (m : Meta). let after : Meta = record m { scan = true } in after) same;
+      right = tt;
+    }) (c.set_scan.ensures.leaves clean)

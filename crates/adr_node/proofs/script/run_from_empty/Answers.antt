@@ -10,9 +10,9 @@ use Rattle.adr_state.specs.declared.state.State.{State}
 use Rattle.adr_state.specs.declared.limits.Limits.{Limits}
 use Rattle.adr_state.specs.declared.limits.Settings.{Settings}
 use Rattle.adr_script.specs.Lines.{lines_of}
-use Rattle.adr_script.specs.Scripts.{Runs, Stops}
-use Rattle.adr_script.proofs.ScriptLemmas.{Stops-at_once}
-use Rattle.adr_script.proofs.TextLemmas.{whatever_follows}
+use Rattle.adr_script.specs.Scripts.{RunsScript, StopsScript}
+use Rattle.adr_script.proofs.Scripts.{Stops-at_once}
+use Rattle.adr_script.proofs.Readings.{whatever_follows}
 use Rattle.adr_node.specs.Script.{settings_of, RunsFromEmpty, StopsFromEmpty}
 use Rattle.adr_node.proofs.script.run_from_empty.Goals as goal
 
@@ -27,21 +27,21 @@ settings_are limits client settings named is =
     is ∙ ap (λ (c : List ℕ). set_as c limits) same
 
 module _ (limits : Limits) (settings : Settings) (s : State) (are : settings ≡ settings_of limits) (at : s ≡ empty) (text : List ℕ) (t : State) (old new : Option (List ℕ)) where
-  runs : (n : ℕ) → Runs settings s (lines_of text) t old new 0 n → RunsFromEmpty limits text old new n
+  runs : (n : ℕ) → RunsScript settings s (lines_of text) t old new 0 n → RunsFromEmpty limits text old new n
   runs n h =
-      let from : Runs settings empty (lines_of text) t old new 0 n = subst (λ (u : State). Runs settings u (lines_of text) t old new 0 n) at h in
-      (t, subst (λ (x : Settings). Runs x empty (lines_of text) t old new 0 n) are from)
+      let from : RunsScript settings empty (lines_of text) t old new 0 n = subst (λ (u : State). RunsScript settings u (lines_of text) t old new 0 n) at h in
+      (t, subst (λ (x : Settings). RunsScript x empty (lines_of text) t old new 0 n) are from)
 
-  stops : Stops settings s (lines_of text) t old new → StopsFromEmpty limits text old new
+  stops : StopsScript settings s (lines_of text) t old new → StopsFromEmpty limits text old new
   stops h =
-      let from : Stops settings empty (lines_of text) t old new = subst (λ (u : State). Stops settings u (lines_of text) t old new) at h in
-      (t, subst (λ (x : Settings). Stops x empty (lines_of text) t old new) are from)
+      let from : StopsScript settings empty (lines_of text) t old new = subst (λ (u : State). StopsScript settings u (lines_of text) t old new) at h in
+      (t, subst (λ (x : Settings). StopsScript x empty (lines_of text) t old new) are from)
 
 -- no memory for the client's name: no line was taken
 pub returns-in_default-clause-some : goal.returns-in_default-clause-some
 returns-in_default-clause-some g c =
     let left = g.S.Source.left c.args.source.now in
-    whatever_follows left left [] _ (Consumes-nil left) (λ text. (empty, Stops-at_once (settings_of c.args.limits) empty empty (lines_of text) (g.W.Sink.written c.args.sink.now) refl))
+    whatever_follows left left left [] [] _ (Consumes-nil left) (Consumes-nil left) (λ text. (empty, Stops-at_once))
 
 pub returns-clause-all : goal.returns-clause-all
 returns-clause-all g c =

@@ -1,6 +1,6 @@
 use Rattle.std.proofs.Common.{◌≡◌, false, arith, ◌∙◌, sym, ap}
 use Rattle.std.proofs.lemmas.Grind.{common_steps}
-use Rattle.adr_schema.specs.Intervals.{has_id}
+use Rattle.adr_objects.specs.Intervals.{has_id}
 use Rattle.adr_schema.proofs.Reading.{differ-push}
 use Rattle.adr_schema.proofs.read_intervals.each_interval.Goals as goal
 

@@ -1,8 +1,8 @@
 use Rattle.std.proofs.Common.{◌≡◌, IsTrue, [], map, drop, vec_len}
 use Rattle.serde_json.specs.View.{view}
-use Rattle.adr_schema.specs.Intervals.{differ}
+use Rattle.adr_objects.specs.Intervals.{differ}
 use Rattle.adr_schema.specs.Events.{intervals_from}
-use Rattle.adr_schema.proofs.Reading.{with_front}
+use Rattle.adr_text.proofs.Each.{with_front}
 use Rattle.adr_schema.proofs.read_intervals.each_interval.Given as goal
 
 -- the intervals so far and those that are left, after those, are all of them

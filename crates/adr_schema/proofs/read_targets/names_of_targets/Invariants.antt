@@ -2,7 +2,7 @@ use Rattle.std.proofs.Common.{◌≡◌, map, drop}
 use Rattle.std.specs.List.{filter}
 use Rattle.serde_json.specs.View.{view}
 use Rattle.adr_schema.specs.Events.{resource_target, all_names}
-use Rattle.adr_schema.proofs.Reading.{with_front}
+use Rattle.adr_text.proofs.Each.{with_front}
 use Rattle.adr_schema.proofs.read_targets.names_of_targets.Given as goal
 
 -- the names so far and those of the targets that are left are all of them

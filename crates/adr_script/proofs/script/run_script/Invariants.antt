@@ -1,9 +1,9 @@
-use Rattle.std.proofs.Common.{◌≡◌, ◌+◌}
-use Rattle.adr_script.specs.Scripts.{Runs}
-use Rattle.adr_script.proofs.TextLemmas.{HasTaken}
+use Rattle.std.proofs.Common.{◌≡◌, ◌+◌, List, ℕ}
+use Rattle.std.specs.Io.KnownBytes.{Consumes}
+use Rattle.adr_script.specs.Readings.{HasRead}
 use Rattle.adr_script.proofs.script.run_script.Given as goal
 
--- what was read so far is taken
+-- what the source lost is read
 abbrev pub invariant-loop : goal.invariant-loop
 invariant-loop g l =
     let desk = g.D.Desk in
@@ -13,9 +13,9 @@ invariant-loop g l =
       calls : source.calls l.source ≡ source.calls l.fn.source + l.counter;
       failed : source.failed l.source ≡ source.failed l.fn.source;
       write_failed : sink.failed l.sink ≡ sink.failed l.fn.sink;
-      taken : HasTaken (source.left l.fn.source) (source.left l.source) l.progress.line.items
-          l.progress.seen
-          (λ lines. desk.is_sound l.desk → Runs (desk.settings l.fn.desk) (desk.state l.fn.desk) lines (desk.state l.desk) (sink.written l.fn.sink) (sink.written l.sink) 0 l.progress.printed);
+      bytes : List ℕ;
+      consumed : Consumes (source.left l.fn.source) (source.left l.source) bytes;
+      read : HasRead (desk.is_sound l.desk) (desk.settings l.fn.desk) (desk.state l.fn.desk) (desk.state l.desk) (sink.written l.fn.sink) (sink.written l.sink) l.initial.progress l.progress bytes;
       was_sound : desk.is_sound l.desk → desk.is_sound l.fn.desk;
       settings : desk.settings l.desk ≡ desk.settings l.fn.desk;
     }

@@ -1,6 +1,6 @@
 use Rattle.std.proofs.Common.{◌≡◌, ◌∙◌, rules}
-use Rattle.adr_schema.specs.declared.shown.ShownInterval.{ShownInterval}
-use Rattle.adr_schema.specs.contracts.shown.ShownIntervalPartialEq.TheImpl as interval
+use Rattle.adr_objects.specs.declared.shown.ShownInterval.{ShownInterval}
+use Rattle.adr_objects.specs.contracts.shown.ShownIntervalPartialEq.TheImpl as interval
 use Rattle.adr_state.specs.Changes.{is_same_interval}
 use Rattle.adr_state.proofs.SameLemmas.{pointwise_same}
 use Rattle.adr_state.proofs.changes.is_same_intervals.Goals as goal

@@ -1,6 +1,6 @@
 use Rattle.std.proofs.Common.{◌∙◌}
 use Rattle.adr_db.specs.Bases.{kept_of}
-use Rattle.adr_db.proofs.Calls.{ok_then}
+use Rattle.adr_db.proofs.Results.{ok_then}
 use Rattle.adr_desk.proofs.Kept.{image_again}
 use Rattle.adr_desk.proofs.desk.SqlDesk.image.Goals as goal
 

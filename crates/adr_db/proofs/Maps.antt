@@ -1,0 +1,63 @@
+-- The tables that are maps.
+use Rattle.std.proofs.Common.{ℕ, map, refl, sym}
+use Rattle.std.specs.Ordering.{nat_cmp}
+use Rattle.sqlite_trees.proofs.ListLemmas.{map-map}
+use Rattle.adr_state.specs.declared.base.Mark.{Mark}
+use Rattle.adr_state.specs.declared.portfolio.Ven.{Ven}
+use Rattle.adr_state.specs.declared.portfolio.Resource.{Resource}
+use Rattle.adr_state.specs.declared.keys.MirrorKey.{MirrorKey}
+use Rattle.adr_state.specs.declared.keys.ShareKey.{ShareKey}
+use Rattle.adr_state.specs.Keys.{mirror_cmp, share_cmp}
+use Rattle.adr_sql.specs.Contents.{with_table}
+use Rattle.adr_sql.proofs.Maps.{keys_alone}
+use Rattle.adr_db.specs.Rows.{mark_row, key_row, number_row, ven_row, ven_columns, resource_row, resource_columns, share_row, share_key_row}
+use Rattle.adr_db.specs.Kept.{contents_of}
+use Rattle.adr_db.proofs.Rows.{mirror_codec, polled_codec, number_codec, share_codec}
+use Rattle.adr_db.proofs.Tables.{mirror, mirror_keyed, polled, polled_keyed, ven, ven_keyed, resource, resource_keyed, share, share_keyed}
+use Rattle.adr_db.proofs.KeptMaps.{KeptMap}
+
+abbrev pub mirror_map : KeptMap MirrorKey Mark
+mirror_map = record {
+  rows = record { at = 1; table = mirror; keyed = mirror_keyed; cmp = mirror_cmp; row_of = mark_row; key_of = key_row; codec = mirror_codec };
+  entries = λ kept. kept.mirror;
+  with_entries = λ es kept. record kept { mirror = es };
+  stored = λ kept. refl;
+  changed = λ es kept. refl;
+}
+
+-- the set of the polled keys is a map to nothing
+abbrev pub polled_map : KeptMap MirrorKey (Unit {0})
+polled_map = record {
+  rows = record { at = 2; table = polled; keyed = polled_keyed; cmp = mirror_cmp; row_of = λ e. key_row e.0; key_of = key_row; codec = polled_codec };
+  entries = λ kept. keys_alone kept.polled;
+  with_entries = λ es kept. record kept { polled = map (λ e. e.0) es };
+  stored = λ kept. sym (map-map (λ (e : MirrorKey × Unit {0}). key_row e.0) (λ k. (k, tt)) kept.polled);
+  changed = λ es kept i. with_table (contents_of kept) 2 (sym (map-map key_row (λ (e : MirrorKey × Unit {0}). e.0) es) i);
+}
+
+abbrev pub ven_map : KeptMap ℕ Ven
+ven_map = record {
+  rows = record { at = 3; table = ven; keyed = ven_keyed; cmp = nat_cmp; row_of = ven_row; key_of = number_row; codec = number_codec ven_columns };
+  entries = λ kept. kept.portfolio.vens;
+  with_entries = λ es kept. record kept { portfolio = record kept.portfolio { vens = es } };
+  stored = λ kept. refl;
+  changed = λ es kept. refl;
+}
+
+abbrev pub resource_map : KeptMap ℕ Resource
+resource_map = record {
+  rows = record { at = 4; table = resource; keyed = resource_keyed; cmp = nat_cmp; row_of = resource_row; key_of = number_row; codec = number_codec resource_columns };
+  entries = λ kept. kept.portfolio.resources;
+  with_entries = λ es kept. record kept { portfolio = record kept.portfolio { resources = es } };
+  stored = λ kept. refl;
+  changed = λ es kept. refl;
+}
+
+abbrev pub share_map : KeptMap ShareKey ℕ
+share_map = record {
+  rows = record { at = 5; table = share; keyed = share_keyed; cmp = share_cmp; row_of = share_row; key_of = share_key_row; codec = share_codec };
+  entries = λ kept. kept.portfolio.shares;
+  with_entries = λ es kept. record kept { portfolio = record kept.portfolio { shares = es } };
+  stored = λ kept. refl;
+  changed = λ es kept. refl;
+}

@@ -1,0 +1,22 @@
+-- The keys of what is kept rise, in each map.
+use Rattle.std.proofs.Common.{◌≡◌, Less}
+use Rattle.std.specs.Ordering.{nat_cmp}
+use Rattle.sqlite_trees.specs.Tree.{IsAscending}
+use Rattle.sqlite.specs.State.{State}
+use Rattle.adr_state.specs.Keys.{mirror_cmp, share_cmp}
+use Rattle.adr_db.specs.Kept.{Kept, Keeps}
+use Rattle.adr_db.proofs.KeptMaps.{rises}
+use Rattle.adr_db.proofs.Maps.{mirror_map, ven_map, resource_map, share_map}
+
+module _ (kept : Kept) (s : State) (was : Keeps kept s) where
+  pub mirror_rises : IsAscending (λ a b. mirror_cmp a.0 b.0 ≡ Less) kept.mirror
+  mirror_rises = rises mirror_map kept s was
+
+  pub vens_rise : IsAscending (λ a b. nat_cmp a.0 b.0 ≡ Less) kept.portfolio.vens
+  vens_rise = rises ven_map kept s was
+
+  pub resources_rise : IsAscending (λ a b. nat_cmp a.0 b.0 ≡ Less) kept.portfolio.resources
+  resources_rise = rises resource_map kept s was
+
+  pub shares_rise : IsAscending (λ a b. share_cmp a.0 b.0 ≡ Less) kept.portfolio.shares
+  shares_rise = rises share_map kept s was

@@ -1,0 +1,141 @@
+//! Values that are read from the rows of a query.
+ghost use Rattle.std.specs.Prelude.{◌≡◌, ℕ, [], ◌∷◌, take, option_to_list, IfOk, IfErr};
+ghost use Rattle.std.specs.List.{AllZip};
+ghost use Rattle.sqlite.specs.Order.{column};
+ghost use Rattle.sqlite.specs.Values.{bound};
+ghost use Rattle.sqlite_sql.specs.Aggregate.{count};
+ghost use Rattle.adr_sql.specs.Calls.{Stays};
+ghost use Rattle.adr_state.specs.Keys.{map_of};
+ghost use Rattle.adr_db.specs.Calls.{Shows, IsOfStore};
+
+use crate::cells::column;
+use crate::statement::rows_of;
+use adr_text::{Refusal, Rows, Table};
+use sqlite::types::ValueRef;
+use sqlite::{Alter, Row, Transaction};
+use std::alloc::Global;
+
+/// A value that stands in columns of its own in a row. What no call of this crate wrote is the store's
+/// refusal.
+pub(crate) trait FromRow: Drop {
+    ghost use Rattle.sqlite.specs.Order.{Row as SqlRow};
+
+    ghost reads: { SqlRow → Self → Type 0 };
+
+    fn from_row(alloc: Global, row: &Row) -> Result<Self, Refusal>
+        ensures reads { IfOk result (reads row.now) }
+        ensures refused { IfErr result IsOfStore };
+}
+
+/// A key with its value.
+impl<K: FromRow, V: FromRow> FromRow for (K, V) {
+    ghost reads = { λ row e. K.reads row e.0 × V.reads row e.1 };
+
+    fn from_row(alloc: Global, row: &Row) -> Result<(K, V), Refusal> {
+        let key = K::from_row(alloc, row)?;
+        let value = V::from_row(alloc, row)?;
+        Ok((key, value))
+    }
+}
+
+fn all_in<T: FromRow>(alloc: Global, rows: &[Row]) -> Result<Rows<T>, Refusal>
+    ensures read { IfOk result (AllZip T.reads rows.now) }
+    ensures refused { IfErr result IsOfStore }
+{
+    let mut all = Rows::new(alloc);
+    'rows: for row in rows {
+        all.push(T::from_row(alloc, row)?)?;
+    }
+    Ok(all)
+}
+
+/// Each row that the query shows, read.
+pub(crate) fn all_of<T: FromRow, S: Alter>(
+    alloc: Global,
+    tx: &mut Transaction<'_, S>,
+    sql: &str,
+    params: &[ValueRef<'_>],
+) -> Result<Rows<T>, Refusal>
+    ensures same_reference { tx.new.conn.ghost_name ≡ tx.old.conn.ghost_name }
+    ensures stays { Stays S.Store tx.old.conn.now tx.new.conn.now result }
+    ensures shows { Shows S.Store tx.old.conn.now tx.new.conn.now sql.now (bound params.now) (AllZip T.reads) result }
+    ensures refused { IfErr result IsOfStore }
+{
+    let rows = rows_of(tx, sql, params)?;
+    all_in(alloc, &rows)
+}
+
+/// The first row, read, where there is one.
+pub(crate) fn first_in<T: FromRow>(alloc: Global, rows: &[Row]) -> Result<Option<T>, Refusal>
+    ensures read { IfOk result (λ found. AllZip T.reads (take 1 rows.now) (option_to_list found)) }
+    ensures refused { IfErr result IsOfStore }
+{
+    match rows.first() {
+        Some(row) => Ok(Some(T::from_row(alloc, row)?)),
+        None => Ok(None),
+    }
+}
+
+/// The first row that the query shows, read, where it shows one.
+pub(crate) fn first_of<T: FromRow, S: Alter>(
+    alloc: Global,
+    tx: &mut Transaction<'_, S>,
+    sql: &str,
+    params: &[ValueRef<'_>],
+) -> Result<Option<T>, Refusal>
+    ensures same_reference { tx.new.conn.ghost_name ≡ tx.old.conn.ghost_name }
+    ensures stays { Stays S.Store tx.old.conn.now tx.new.conn.now result }
+    ensures shows { Shows S.Store tx.old.conn.now tx.new.conn.now sql.now (bound params.now) (λ rows found. AllZip T.reads (take 1 rows) (option_to_list found)) result }
+    ensures refused { IfErr result IsOfStore }
+{
+    let rows = rows_of(tx, sql, params)?;
+    first_in(alloc, &rows)
+}
+
+/// The map that entries make, put one after another.
+pub(crate) fn table_of<K: Ord + Drop, V: Drop>(
+    alloc: Global,
+    rows: Rows<(K, V)>,
+) -> Result<Table<K, V>, Refusal>
+    ensures map { IfOk result (λ table. table ≡ map_of K.cmp rows) }
+    ensures refused { IfErr result IsOfStore }
+{
+    let mut table = Table::new(alloc);
+    'rows: for row in rows.into_vec() {
+        table.put(row.0, row.1)?;
+    }
+    Ok(table)
+}
+
+fn count_at(row: &Row) -> Result<u64, Refusal>
+    ensures counted { IfOk result (λ n. (m : ℕ) → column row.now 0 ≡ count m → n ≡ m) }
+    ensures refused { IfErr result IsOfStore }
+{
+    let counted: u64 = column(row, 0)?;
+    if counted >= 9_223_372_036_854_775_807 {
+        return Err(Refusal::Store);
+    }
+    Ok(counted)
+}
+
+fn count_in(rows: &[Row]) -> Result<u64, Refusal>
+    ensures counted { IfOk result (λ n. (m : ℕ) → rows.now ≡ (count m ∷ []) ∷ [] → n ≡ m) }
+    ensures refused { IfErr result IsOfStore }
+{
+    match rows.first() {
+        Some(row) => count_at(row),
+        None => Err(Refusal::Store),
+    }
+}
+
+/// The number that the query counts, which is all that it shows. SQL counts no further than
+/// 9,223,372,036,854,775,807: that is the store's refusal.
+pub(crate) fn count_of<S: Alter>(tx: &mut Transaction<'_, S>, sql: &str) -> Result<u64, Refusal>
+    ensures same_reference { tx.new.conn.ghost_name ≡ tx.old.conn.ghost_name }
+    ensures stays { Stays S.Store tx.old.conn.now tx.new.conn.now result }
+    ensures shows { Shows S.Store tx.old.conn.now tx.new.conn.now sql.now [] (λ rows n. (m : ℕ) → rows ≡ (count m ∷ []) ∷ [] → n ≡ m) result }
+    ensures refused { IfErr result IsOfStore }
+{
+    let rows = rows_of(tx, sql, &[])?;
+    count_in(&rows)
+}

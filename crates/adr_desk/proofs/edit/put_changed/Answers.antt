@@ -1,0 +1,48 @@
+use Rattle.std.proofs.Common.{◌≡◌, Bool, true, false, ◌&&◌, ◌==◌, eqb-true, refl, sym, subst, ◌∙◌}
+use Rattle.std.proofs.Math.Bool.{beq}
+use Rattle.sqlite.specs.Held.{state}
+use Rattle.adr_db.specs.declared.meta.Meta.{Meta}
+use Rattle.adr_db.specs.Kept.{Keeps, with_meta}
+use Rattle.adr_db.proofs.Results.{on_then}
+use Rattle.adr_desk.proofs.edit.put_changed.Goals as goal
+
+both : (a b : Bool) → true ≡ (a && b) → (a ≡ true) × (true ≡ b)
+both true b h = (refl, h)
+both false b h = absurd cc
+
+same_bool : (a b : Bool) → beq a b ≡ true → a ≡ b
+same_bool true true h = refl
+same_bool true false h = absurd cc
+same_bool false true h = absurd cc
+same_bool false false h = refl
+
+-- numbers that compare as equal are the same
+same_numbers : (a b : Meta) → true ≡ ((a.serial == b.serial) && (beq a.scan b.scan && ((a.made == b.made) && ((a.sent == b.sent) && ((a.given_up == b.given_up) && ((a.dropped == b.dropped) && (a.keys == b.keys))))))) → a ≡ b
+same_numbers a b h =
+    let last : Bool = a.keys == b.keys in
+    let fifth : Bool = (a.dropped == b.dropped) && last in
+    let fourth : Bool = (a.given_up == b.given_up) && fifth in
+    let third : Bool = (a.sent == b.sent) && fourth in
+    let second : Bool = (a.made == b.made) && third in
+    let first : Bool = beq a.scan b.scan && second in
+    let serial = both (a.serial == b.serial) first h in
+    let scan = both (beq a.scan b.scan) second serial.1 in
+    let made = both (a.made == b.made) third scan.1 in
+    let sent = both (a.sent == b.sent) fourth made.1 in
+    let given_up = both (a.given_up == b.given_up) fifth sent.1 in
+    let dropped = both (a.dropped == b.dropped) last given_up.1 in
+    λ i. record {
+      serial = eqb-true a.serial b.serial serial.0 i;
+      scan = same_bool a.scan b.scan scan.0 i;
+      made = eqb-true a.made b.made made.0 i;
+      sent = eqb-true a.sent b.sent sent.0 i;
+      given_up = eqb-true a.given_up b.given_up given_up.0 i;
+      dropped = eqb-true a.dropped b.dropped dropped.0 i;
+      keys = eqb-true a.keys b.keys (sym dropped.1) i;
+    }
+
+pub returns-then-eq-clause-leaves : goal.returns-then-eq-clause-leaves
+returns-then-eq-clause-leaves g c clean kept was same = subst (λ (m : Meta). Keeps (with_meta m kept) (state g.S.Store c.args.tx.now.conn.now)) (same ∙ same_numbers c.args.before.now c.args.after.now c.if-eq.ensures) was
+
+pub returns-clause-leaves : goal.returns-clause-leaves
+returns-clause-leaves g c clean = on_then c.put_meta.result (λ leaves kept was same. leaves kept was) (c.put_meta.ensures.leaves clean)

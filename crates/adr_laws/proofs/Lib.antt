@@ -1,0 +1,10 @@
+pub mod RowLemmas
+pub mod OrderLemmas
+pub mod NameLemmas
+pub mod NumberLemmas
+pub mod EditLemmas
+pub mod RunLemmas
+pub mod Decisions
+pub mod MirrorLemmas
+pub mod PortfolioLemmas
+pub mod StampLemmas

@@ -1,0 +1,70 @@
+-- The commands whose answers stand, and where they lead.
+use Rattle.std.proofs.Common.{◌≡◌, ℕ, Bool, true, false, cond, List, [], ◌∷◌, ◌++◌, length, map, filter, Result, refl, sym, ap, ap₂, ◌∙◌, arith}
+use Rattle.std.specs.Prelude.{MatchBool}
+use Rattle.std.specs.List.{zip}
+use Rattle.std.proofs.lemmas.List.{map-append}
+use Rattle.std.proofs.lemmas.List.Elements.{filter-append}
+use Rattle.adr_text.specs.declared.refusal.Refusal.{Refusal}
+use Rattle.adr_machine.specs.Runs.{told, state_after, stands, step_at, IsTaken, IsRun}
+use Rattle.adr_laws.specs.Standing.{answers_of, state_of, standing}
+use Rattle.adr_laws.specs.Laws.{IsOfTheStepsThatStand, RunsAreOfTheStepsThatStand}
+
+-- the commands whose answers stand, with these
+abbrev pairs : {A C : Type 0} → List C → List (Result A Refusal) → List (C × Result A Refusal)
+pairs cs rs = filter (λ p. stands p.1) (zip cs rs)
+
+mapped : {A C : Type 0} (b : Bool) (c : C) (r : Result A Refusal) → map (λ (p : C × Result A Refusal). p.0) (cond b ((c, r) ∷ []) []) ≡ cond b (c ∷ []) []
+mapped true c r = refl
+mapped false c r = refl
+
+zip-push : {K X : Type 0} (ks : List K) (xs : List X) (k : K) (x : X) → length ks ≡ length xs → zip (ks ++ k ∷ []) (xs ++ x ∷ []) ≡ zip ks xs ++ (k, x) ∷ []
+zip-push [] [] k x e = refl
+zip-push [] (y ∷ ys) k x e = absurd (omega arith)
+zip-push (j ∷ js) [] k x e = absurd (omega arith)
+zip-push (j ∷ js) (y ∷ ys) k x e = ap (λ zs. (j, y) ∷ zs) (zip-push js ys k x (omega arith))
+
+-- the steps that stand, with one more
+pub standing-push : {A C : Type 0} (cs : List C) (rs : List (Result A Refusal)) (c : C) (r : Result A Refusal) (b : Bool) → stands r ≡ b → length cs ≡ length rs → standing (cs ++ c ∷ []) (rs ++ r ∷ []) ≡ standing cs rs ++ cond b (c ∷ []) []
+standing-push {A} {C} cs rs c r b h e =
+    ap (λ zs. map (λ (p : C × Result A Refusal). p.0) (filter (λ p. stands p.1) zs)) (zip-push cs rs c r e)
+    ∙ ap (map (λ (p : C × Result A Refusal). p.0)) (filter-append (λ (p : C × Result A Refusal). stands p.1) (zip cs rs) ((c, r) ∷ []))
+    ∙ map-append (λ (p : C × Result A Refusal). p.0) (filter (λ p. stands p.1) (zip cs rs)) (filter (λ p. stands p.1) ((c, r) ∷ []))
+    ∙ ap (λ x. standing cs rs ++ map (λ (p : C × Result A Refusal). p.0) (cond x ((c, r) ∷ []) [])) h
+    ∙ ap (λ ds. standing cs rs ++ ds) (mapped b c r)
+
+pub filter_stands-push : {A : Type 0} (rs : List (Result A Refusal)) (r : Result A Refusal) (b : Bool) → stands r ≡ b → filter stands (rs ++ r ∷ []) ≡ filter stands rs ++ cond b (r ∷ []) []
+filter_stands-push rs r b h = filter-append stands rs (r ∷ []) ∙ ap (λ x. filter stands rs ++ cond x (r ∷ []) []) h
+
+module _ {A C S : Type 0} (step : S → C → Result (A × S) Refusal) where
+  pub answers_of-push : (s : S) (cs : List C) (c : C) → answers_of step s (cs ++ c ∷ []) ≡ answers_of step s cs ++ told (step (state_of step s cs) c) ∷ []
+  answers_of-push s [] c = refl
+  answers_of-push s (d ∷ cs) c = ap (λ rs. told (step s d) ∷ rs) (answers_of-push (state_after s (step s d)) cs c)
+
+  pub state_of-push : (s : S) (cs : List C) (c : C) → state_of step s (cs ++ c ∷ []) ≡ state_after (state_of step s cs) (step (state_of step s cs) c)
+  state_of-push s [] c = refl
+  state_of-push s (d ∷ cs) c = state_of-push (state_after s (step s d)) cs c
+
+  -- more commands, after those that came first
+  pub state_of-append : (s : S) (cs more : List C) → state_of step s (cs ++ more) ≡ state_of step (state_of step s cs) more
+  state_of-append s [] more = refl
+  state_of-append s (c ∷ cs) more = state_of-append (state_after s (step s c)) cs more
+
+  -- ---- a run over a desk
+
+  -- one step, and then the others
+  first_then : (s u t : S) (c : C) (cs : List C) (r : Result A Refusal) (rs : List (Result A Refusal)) → IsTaken s (step s c) r u → IsOfTheStepsThatStand step u cs rs t → IsOfTheStepsThatStand step s (c ∷ cs) (r ∷ rs) t
+  first_then s u t c cs r rs taken others = let it = by (stands r) taken in record { answers = it.0; state = it.1 }
+    where
+      by : (b : Bool) → MatchBool b ((r ≡ told (step s c)) × (u ≡ state_after s (step s c))) (u ≡ s)
+          → (cond b (r ∷ filter stands rs) (filter stands rs) ≡ answers_of step s (map (λ (p : C × Result A Refusal). p.0) (cond b ((c, r) ∷ pairs cs rs) (pairs cs rs)))) × (t ≡ state_of step s (map (λ (p : C × Result A Refusal). p.0) (cond b ((c, r) ∷ pairs cs rs) (pairs cs rs))))
+      by true is = (ap₂ ◌∷◌ is.0 (others.answers ∙ ap (λ v. answers_of step v (standing cs rs)) is.1), others.state ∙ ap (λ v. state_of step v (standing cs rs)) is.1)
+      by false is = (others.answers ∙ ap (λ v. answers_of step v (standing cs rs)) is, others.state ∙ ap (λ v. state_of step v (standing cs rs)) is)
+
+  of_the_steps : (s t : S) (cs : List C) (rs : List (Result A Refusal)) → IsRun step s cs rs t → IsOfTheStepsThatStand step s cs rs t
+  of_the_steps s t [] [] run = record { answers = refl; state = run }
+  of_the_steps s t [] (r ∷ rs) run = absurd run
+  of_the_steps s t (c ∷ cs) [] run = absurd run
+  of_the_steps s t (c ∷ cs) (r ∷ rs) run = first_then s run.0 t c cs r rs run.1 (of_the_steps run.0 t cs rs run.2)
+
+pub runs_of_the_steps : RunsAreOfTheStepsThatStand
+runs_of_the_steps settings s t cs rs run = of_the_steps (step_at settings) s t cs rs run

@@ -1,0 +1,128 @@
+-- Laws over whole runs.
+use Rattle.std.specs.Prelude.{◌≡◌, ◌≢◌, ◌≤◌, ℕ, false, List, [], ◌∷◌, ◌++◌, map, filter, Option, Some, IsSome, Result, Ok, Err}
+use Rattle.std.specs.List.{All, AllPairs, Contains}
+use Rattle.std.specs.List.Sorted.{IsStrictlySortedBy, IsNonDecreasing}
+use Rattle.std.specs.Map.{keys_of, values_of}
+use Rattle.std.specs.Ordering.{nat_cmp}
+use Rattle.adr_text.specs.declared.refusal.Refusal.{Refusal}
+use Rattle.adr_state.specs.declared.base.Base.{Base}
+use Rattle.adr_state.specs.declared.portfolio.Ven.{Ven}
+use Rattle.adr_state.specs.declared.portfolio.Resource.{Resource}
+use Rattle.adr_state.specs.declared.base.Mark.{Mark}
+use Rattle.adr_state.specs.declared.base.Mark.TheVariants.{Dead}
+use Rattle.adr_state.specs.declared.keys.MirrorKey.{MirrorKey}
+use Rattle.adr_state.specs.declared.keys.ShareKey.{ShareKey}
+use Rattle.adr_state.specs.declared.limits.Settings.{Settings}
+use Rattle.adr_state.specs.declared.state.State.{State}
+use Rattle.adr_state.specs.Keys.{mirror_cmp, view_cmp, at}
+use Rattle.adr_state.specs.Marks.{is_below}
+use Rattle.adr_state.specs.Mirror.{evidence_of}
+use Rattle.adr_state.specs.States.{empty}
+use Rattle.adr_state.specs.Views.{view}
+use Rattle.adr_machine.specs.declared.answer.Answer.{Answer}
+use Rattle.adr_machine.specs.declared.command.Command.{Command}
+use Rattle.adr_machine.specs.declared.command.Command.TheVariants.{Evidence, Gone}
+use Rattle.adr_machine.specs.Runs.{state_after, stands, step_at, IsRun}
+use Rattle.adr_laws.specs.Standing.{answers_of, state_of, standing}
+
+-- what a command tells of upstream keys
+abbrev pub evidence_in : Command → List (MirrorKey × Mark)
+evidence_in (Evidence founds polled) = evidence_of founds
+evidence_in (Gone kind id) = (record { kind = kind; id = id }, Dead) ∷ []
+evidence_in _ = []
+
+-- the same, where the command was accepted
+abbrev pub accepted_in : Result (Answer × State) Refusal → Command → List (MirrorKey × Mark)
+accepted_in (Ok taken) command = evidence_in command
+accepted_in (Err refusal) command = []
+
+-- all accepted evidence of a run
+abbrev pub accepted_evidence : Settings → State → List (ℕ × Command) → List (MirrorKey × Mark)
+accepted_evidence settings s [] = []
+accepted_evidence settings s (c ∷ cs) = accepted_in (step_at settings s c) c.1 ++ accepted_evidence settings (state_after s (step_at settings s c)) cs
+
+-- what is known of a key is the greatest of the marks that the evidence has for it: none of them is above it, and it is one of them
+pub record IsGreatestOf (evidence : List (MirrorKey × Mark)) (key : MirrorKey) (known : Option Mark) : Type 0 where
+  pub none_is_above : (mark : Mark) → Contains evidence (key, mark) → is_below known mark ≡ false
+  pub is_one_of_them : (mark : Mark) → known ≡ Some mark → Contains evidence (key, mark)
+
+-- after any run from an empty start, the mirror at a key is the greatest mark in all accepted evidence for it
+abbrev pub MirrorIsGreatest : Type 0
+MirrorIsGreatest = (settings : Settings) (cs : List (ℕ × Command)) (key : MirrorKey) → IsGreatestOf (accepted_evidence settings empty cs) key (at mirror_cmp key (state_of (step_at settings) empty cs).base.mirror)
+
+-- ---- vens, resources and shares
+
+-- the ven of a resource is there
+abbrev pub HasVen : List (ℕ × Ven) → ℕ × Resource → Type 0
+HasVen vens r = IsSome (at nat_cmp r.1.ven vens)
+
+-- the resource of a share is there
+abbrev pub HasResource : List (ℕ × Resource) → ShareKey × ℕ → Type 0
+HasResource resources s = IsSome (at nat_cmp s.0.resource resources)
+
+-- rows of one name have one number
+abbrev pub NamesDiffer : {V : Type 0} → (V → List ℕ) → List (ℕ × V) → Type 0
+NamesDiffer name rows = All (λ a. All (λ b. name a.1 ≡ name b.1 → a.0 ≡ b.0) rows) rows
+
+-- nothing is left of a ven or of a resource that is not there, and no two vens have one name, nor two resources
+pub record IsWhole (base : Base) : Type 0 where
+  pub resources_have_vens : All (HasVen base.portfolio.vens) base.portfolio.resources
+  pub shares_have_resources : All (HasResource base.portfolio.resources) base.portfolio.shares
+  pub ven_names_differ : NamesDiffer (λ ven. ven.name) base.portfolio.vens
+  pub resource_names_differ : NamesDiffer (λ resource. resource.name) base.portfolio.resources
+
+-- after any run from an empty start, each resource has its ven and each share its resource, and names are unique
+abbrev pub PortfolioIsWhole : Type 0
+PortfolioIsWhole = (settings : Settings) (cs : List (ℕ × Command)) → IsWhole (state_of (step_at settings) empty cs).base
+
+-- ---- numbers
+
+-- the numbers of the vens and of the resources
+abbrev pub numbers_of : Base → List ℕ
+numbers_of base = keys_of base.portfolio.vens ++ keys_of base.portfolio.resources
+
+-- each number was drawn, and no two of them are one: not two vens', not two resources', nor a ven's and a resource's
+pub record HaveOwnNumbers (base : Base) : Type 0 where
+  pub at_least_one : All (λ n. 1 ≤ n) (numbers_of base)
+  pub up_to_the_serial : All (λ n. n ≤ base.serial) (numbers_of base)
+  pub no_two_are_one : AllPairs (λ m n. m ≢ n) (numbers_of base)
+
+-- from one base to a later one the serial does not fall, and no number that was drawn before is drawn again: a ven or a resource that has one was there with it before
+pub record AreDrawnOnce (before after : Base) : Type 0 where
+  pub serial_never_falls : before.serial ≤ after.serial
+  pub vens_were_there : All (λ n. n ≤ before.serial → Contains (keys_of before.portfolio.vens) n) (keys_of after.portfolio.vens)
+  pub resources_were_there : All (λ n. n ≤ before.serial → Contains (keys_of before.portfolio.resources) n) (keys_of after.portfolio.resources)
+
+-- after any run from an empty start, each ven and each resource has a number of its own, that was drawn
+abbrev pub NumbersAreOwn : Type 0
+NumbersAreOwn = (settings : Settings) (cs : List (ℕ × Command)) → HaveOwnNumbers (state_of (step_at settings) empty cs).base
+
+-- and whatever commands follow, none is drawn again
+abbrev pub NumbersAreDrawnOnce : Type 0
+NumbersAreDrawnOnce = (settings : Settings) (cs more : List (ℕ × Command)) → AreDrawnOnce (state_of (step_at settings) empty cs).base (state_of (step_at settings) empty (cs ++ more)).base
+
+-- ---- stamps
+
+-- all that is shown has stamps, and nothing else has: they have the keys of the view, in its order, each once
+pub record IsStampedAsShown (s : State) : Type 0 where
+  pub those_of_the_view : keys_of s.stamps ≡ keys_of (view s.base)
+  pub each_once_in_order : IsStrictlySortedBy view_cmp (keys_of s.stamps)
+
+-- after any run from an empty start, what is shown is stamped, and nothing else
+abbrev pub StampsAreOfTheView : Type 0
+StampsAreOfTheView = (settings : Settings) (cs : List (ℕ × Command)) → IsStampedAsShown (state_of (step_at settings) empty cs)
+
+-- and where no command comes at a moment before that of an earlier one, nothing that is shown was modified before it was created
+abbrev pub StampsAreInTime : Type 0
+StampsAreInTime = (settings : Settings) (cs : List (ℕ × Command)) → IsNonDecreasing (map (λ c. c.0) cs) → All (λ stamps. stamps.created ≤ stamps.modified) (values_of (state_of (step_at settings) empty cs).stamps)
+
+-- ---- runs over desks
+
+-- the answers that stand are those of the machine over the commands that stand, and these lead to t
+pub record IsOfTheStepsThatStand {A C S : Type 0} (step : S → C → Result (A × S) Refusal) (s : S) (cs : List C) (rs : List (Result A Refusal)) (t : S) : Type 0 where
+  pub answers : filter stands rs ≡ answers_of step s (standing cs rs)
+  pub state : t ≡ state_of step s (standing cs rs)
+
+-- whatever a desk answers on a run
+abbrev pub RunsAreOfTheStepsThatStand : Type 0
+RunsAreOfTheStepsThatStand = (settings : Settings) (s t : State) (cs : List (ℕ × Command)) (rs : List (Result Answer Refusal)) → IsRun (step_at settings) s cs rs t → IsOfTheStepsThatStand (step_at settings) s cs rs t

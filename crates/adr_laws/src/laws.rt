@@ -1,0 +1,34 @@
+//! Laws over whole runs.
+ghost use Rattle.adr_laws.specs.Laws.{MirrorIsGreatest, PortfolioIsWhole, NumbersAreOwn, NumbersAreDrawnOnce, StampsAreOfTheView, StampsAreInTime, RunsAreOfTheStepsThatStand};
+
+/// After any run from an empty start, the mirror at a key is the greatest mark in all accepted evidence
+/// for it, whatever was lost, repeated or reordered.
+pub fn mirror_is_greatest()
+    ensures { MirrorIsGreatest }
+{}
+
+/// After any run from an empty start, each resource has its ven and each share its resource, so nothing is
+/// left of what was removed; and no two vens have one name, nor two resources.
+pub fn portfolio_is_whole()
+    ensures { PortfolioIsWhole }
+{}
+
+/// After any run from an empty start, each ven and each resource has a number of its own, from 1 up to the
+/// serial; and whatever commands follow, the serial never falls and no number is drawn again.
+pub fn numbers_are_drawn_once()
+    ensures own { NumbersAreOwn }
+    ensures once { NumbersAreDrawnOnce }
+{}
+
+/// After any run from an empty start, the stamps have exactly the keys of what is shown, in their order, each
+/// once; and where the moments of the run never fall, nothing shown was modified before it was created.
+pub fn stamps_are_of_the_view()
+    ensures view { StampsAreOfTheView }
+    ensures time { StampsAreInTime }
+{}
+
+/// Of whatever a run over a desk answers, the answers that stand are the machine's over the commands that
+/// stand, and the state is where those lead.
+pub fn runs_are_of_the_steps_that_stand()
+    ensures { RunsAreOfTheStepsThatStand }
+{}

@@ -1,0 +1,4 @@
+//! Laws over whole runs of the machine.
+#![tactic(auto)]
+
+pub mod laws;

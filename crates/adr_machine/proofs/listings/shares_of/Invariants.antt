@@ -1,9 +1,0 @@
-use Rattle.std.proofs.Common.{◌≡◌, ◌++◌, map, filter}
-use Rattle.std.specs.Str.{bytes_eq}
-use Rattle.adr_machine.specs.Portfolio.{share_object}
-use Rattle.adr_machine.specs.Listings.{shares_of}
-use Rattle.adr_machine.proofs.listings.shares_of.Given as goal
-
--- the shares so far, and those that are left
-abbrev pub invariant-loop-key : goal.invariant-loop-key
-invariant-loop-key l = l.all.items ++ map share_object (filter (λ s. bytes_eq s.0.program l.program) l.key-iterator) ≡ shares_of l.base l.program

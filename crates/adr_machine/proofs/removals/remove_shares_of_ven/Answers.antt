@@ -1,8 +1,0 @@
-use Rattle.std.proofs.Common.{not, rules}
-use Rattle.adr_text.proofs.Kept.{kept_by_test}
-use Rattle.adr_machine.specs.Portfolio.{is_of_ven}
-use Rattle.adr_machine.proofs.removals.remove_shares_of_ven.Goals as goal
-
--- the closure only tests
-pub returns : goal.returns
-returns c = kept_by_test _ (λ s. not (is_of_ven c.args.ven c.args.resources.now s.0.resource)) _ (λ key weight answer after next taken. search rules) _ _ c.retain.ensures.kept

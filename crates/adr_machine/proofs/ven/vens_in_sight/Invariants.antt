@@ -1,0 +1,9 @@
+use Rattle.std.proofs.Common.{◌≡◌, ◌++◌, map, filter}
+use Rattle.adr_machine.specs.declared.answer.Object.TheVariants as object
+use Rattle.adr_state.specs.Vens.{ven_object}
+use Rattle.adr_machine.specs.Listings.{sees_ven, vens_in_sight}
+use Rattle.adr_machine.proofs.ven.vens_in_sight.Given as goal
+
+-- the vens so far, and those that are left
+abbrev pub invariant-loop-number : goal.invariant-loop-number
+invariant-loop-number l = l.all.items ++ map (λ v. object.Ven (ven_object v)) (filter (λ v. sees_ven l.sight v.0) l.number-iterator) ≡ vens_in_sight l.base l.sight

@@ -1,0 +1,143 @@
+//! What a command decides, carried out on the base. After a refusal the base is left anyhow.
+ghost use Rattle.std.specs.Prelude.{◌≡◌, ◌≢◌, false, Ok, Err, IfOk, IfErr};
+ghost use Rattle.adr_text.specs.declared.refusal.Refusal.TheVariants.{Store};
+ghost use Rattle.adr_text.specs.Refusals.{IsRefusalOf};
+ghost use Rattle.adr_machine.specs.declared.answer.Answer.TheVariants as answer;
+ghost use Rattle.adr_state.specs.Evidence.{scan_begin};
+ghost use Rattle.adr_machine.specs.Edits.{ven_answer, resource_answer, told_by, count_told, answered, decided, carried_out_on};
+
+use crate::answer::{Answer, Object};
+use crate::command::Command;
+use crate::evidence::{take_deletion, take_evidence};
+use crate::resource::{resource_add, resource_put, resource_remove};
+use crate::scan::{begin_scan, end_scan};
+use crate::share::share_set;
+use crate::ven::{ven_add, ven_put, ven_remove};
+use adr_objects::{Number, ResourceObject, ShareObject, VenObject};
+use adr_state::{Base, Limits, MirrorKey};
+use adr_text::{Moment, Refusal, Rows};
+use std::alloc::Global;
+
+/// The answer, none where it is the number of changes, and whether the next number is drawn.
+#[derive(Drop)]
+pub(crate) struct Decided {
+    pub answer: Option<Answer>,
+    pub draws: bool,
+}
+
+fn counted(decided: Result<(), Refusal>) -> Result<Decided, Refusal>
+    ensures { result ≡ count_told decided }
+{
+    decided?;
+    Ok(Decided {
+        answer: None,
+        draws: false,
+    })
+}
+
+fn of_scan(decided: Result<Rows<MirrorKey>, Refusal>) -> Result<Decided, Refusal>
+    ensures { result ≡ told_by false answer.Probes decided }
+{
+    Ok(Decided {
+        answer: Some(Answer::Probes(decided?)),
+        draws: false,
+    })
+}
+
+fn of_ven(draws: bool, decided: Result<VenObject, Refusal>) -> Result<Decided, Refusal>
+    ensures { result ≡ told_by draws ven_answer decided }
+{
+    Ok(Decided {
+        answer: Some(Answer::Object(Object::Ven(decided?))),
+        draws,
+    })
+}
+
+fn of_resource(draws: bool, decided: Result<ResourceObject, Refusal>) -> Result<Decided, Refusal>
+    ensures { result ≡ told_by draws resource_answer decided }
+{
+    Ok(Decided {
+        answer: Some(Answer::Object(Object::Resource(decided?))),
+        draws,
+    })
+}
+
+fn of_share(decided: Result<ShareObject, Refusal>) -> Result<Decided, Refusal>
+    ensures { result ≡ told_by false answer.Share decided }
+{
+    Ok(Decided {
+        answer: Some(Answer::Share(decided?)),
+        draws: false,
+    })
+}
+
+fn begun(alloc: Global, base: &mut Base) -> Decided
+    ensures { carried_out_on base.old (Ok (answered answer.Done scan_begin)) ≡ Ok (result, base.new) }
+{
+    begin_scan(alloc, base);
+    Decided {
+        answer: Some(Answer::Done),
+        draws: false,
+    }
+}
+
+/// What the command decides, where that is the next number.
+pub(crate) fn carry_out(
+    alloc: Global,
+    limits: &Limits,
+    now: Moment,
+    number: Number,
+    base: &mut Base,
+    command: &Command,
+) -> Result<Decided, Refusal>
+    ensures ok { IfOk result (λ made. carried_out_on base.old (decided limits.now now number base.old command.now) ≡ Ok (made, base.new)) }
+    ensures refused { IfErr result (λ refusal. IsRefusalOf refusal (decided limits.now now number base.old command.now)) }
+    ensures no_store { result ≢ Err Store }
+{
+    // Each arm ends in the call that carries its clauses, so each has goals of its own.
+    match command {
+        Command::Evidence { found, polled } => {
+            counted(take_evidence(alloc, limits, base, found.as_slice(), *polled))
+        }
+        Command::Gone { kind, id } => counted(take_deletion(alloc, limits, base, *kind, id)),
+        Command::ScanBegin => Ok(begun(alloc, base)),
+        Command::ScanEnd => of_scan(end_scan(alloc, base)),
+        Command::VenAdd { ven, .. } => of_ven(
+            true,
+            ven_add(limits, now, number, &mut base.portfolio, &ven.name),
+        ),
+        Command::VenPut { id, ven, .. } => {
+            of_ven(false, ven_put(now, &mut base.portfolio, id, &ven.name))
+        }
+        Command::VenRemove { id, .. } => of_ven(false, ven_remove(&mut base.portfolio, id)),
+        Command::ResourceAdd { ven, resource, .. } => of_resource(
+            true,
+            resource_add(
+                limits,
+                now,
+                number,
+                &mut base.portfolio,
+                ven,
+                &resource.name,
+            ),
+        ),
+        Command::ResourcePut {
+            ven,
+            id,
+            resource,
+            ..
+        } => of_resource(
+            false,
+            resource_put(now, &mut base.portfolio, ven, id, &resource.name),
+        ),
+        Command::ResourceRemove { ven, id, .. } => {
+            of_resource(false, resource_remove(&mut base.portfolio, ven, id))
+        }
+        Command::ShareSet {
+            program,
+            resource,
+            share,
+            ..
+        } => of_share(share_set(limits, &mut base.portfolio, program, resource, share.share)),
+    }
+}

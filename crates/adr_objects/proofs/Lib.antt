@@ -1,0 +1,3 @@
+pub mod NameSets
+pub mod Written
+pub mod RoundTrips

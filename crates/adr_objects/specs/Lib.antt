@@ -1,0 +1,9 @@
+pub mod Limits
+pub mod Intervals
+pub mod NameSets
+pub mod Reasons
+pub mod Fields
+pub mod Canonical
+pub mod ReadBack
+pub mod Bodies
+pub mod Laws

@@ -1,0 +1,11 @@
+-- The numbers of the reasons why a body is kept unread.
+use Rattle.std.specs.Prelude.{ℕ}
+use Rattle.adr_objects.specs.declared.body.Reason.{Reason}
+use Rattle.adr_objects.specs.declared.body.Reason.TheVariants.{Fraction, NotOne, Repeated, OutOfRange, BadShape}
+
+abbrev pub reason_number : Reason → ℕ
+reason_number Fraction = 1
+reason_number NotOne = 2
+reason_number Repeated = 3
+reason_number OutOfRange = 4
+reason_number BadShape = 5

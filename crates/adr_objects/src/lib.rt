@@ -1,0 +1,31 @@
+//! The types of objects, and the canonical text of a body, both ways.
+#![tactic(auto)]
+
+mod body;
+mod interval;
+mod kind;
+pub mod laws;
+mod name_set;
+mod number;
+mod read_body;
+mod read_fields;
+mod setpoint;
+mod shown;
+mod site;
+mod text;
+mod write_body;
+mod write_fields;
+
+pub use body::{Body, EventBody, Found, Reason, UpstreamId};
+pub use interval::{Interval, Intervals, Period, has_id};
+pub use kind::Kind;
+pub use name_set::NameSet;
+pub use number::Number;
+pub use read_body::read_canonical;
+pub use setpoint::{Priority, Setpoint};
+pub use shown::{
+    EventObject, ResourceObject, ShareObject, ShownEvent, ShownInterval, Stamps, VenObject,
+};
+pub use site::{ResourceIn, ResourceName, ShareIn, VenIn};
+pub use text::{EventName, PeriodText, Text};
+pub use write_body::canonical;

@@ -1,0 +1,119 @@
+-- What is written has no float, so its text is `compact_text`.
+use Rattle.std.proofs.Common.{◌≡◌, ℕ, suc, ℤ, pos, negsuc, List, [], ◌∷◌, map, codes, Option, Some, None, option_map, false, refl, arith}
+use Rattle.std.proofs.lemmas.Bool.{or_from}
+use Rattle.serde_json.specs.Data.{Data, string}
+use Rattle.serde_json.specs.Written.{has_float}
+use Rattle.adr_text.proofs.ObjectLemmas.{IsPlain, FieldIsPlain, object_of_plain, array_of_plain}
+use Rattle.adr_text.specs.Objects.{array_of, whole_data}
+use Rattle.adr_text.specs.Refusals.{status_of}
+use Rattle.adr_text.specs.declared.refusal.Refusal.{Refusal}
+use Rattle.adr_objects.specs.declared.interval.Period.{Period}
+use Rattle.adr_objects.specs.declared.shown.ShownInterval.{ShownInterval}
+use Rattle.adr_objects.specs.declared.shown.EventObject.{EventObject}
+use Rattle.adr_objects.specs.declared.shown.VenObject.{VenObject}
+use Rattle.adr_objects.specs.declared.shown.ResourceObject.{ResourceObject}
+use Rattle.adr_objects.specs.declared.shown.ShareObject.{ShareObject}
+use Rattle.adr_objects.specs.Canonical.{natural_data, period_fields, period_data}
+use Rattle.adr_schema.specs.Objects.{values_fields, values_data, payloads_data, shown_interval_fields, shown_interval_data, targets_data, event_object_fields, event_object_data, ven_object_fields, ven_object_data, resource_object_fields, resource_object_data, share_object_fields, share_object_data, problem_fields, problem_data}
+
+whole_plain : (n : ℕ) (z : ℤ) → IsPlain n (whole_data z)
+whole_plain n (pos k) = record { no_float = refl; flat = omega arith }
+whole_plain n (negsuc k) = record { no_float = refl; flat = omega arith }
+
+string_plain : (n : ℕ) (s : List ℕ) → IsPlain n (string s)
+string_plain n s = record { no_float = refl; flat = omega arith }
+
+-- a value that may be absent
+field_plain : {X : Type 0} (n : ℕ) (f : X → Data) → ((x : X) → IsPlain n (f x)) → (o : Option X) → FieldIsPlain n (option_map f o)
+field_plain n f h None = tt
+field_plain n f h (Some x) = h x
+
+no_items_plain : (n : ℕ) → IsPlain (suc n) (array_of [])
+no_items_plain n = record { no_float = refl; flat = omega arith }
+
+one_item_plain : (n : ℕ) (d : Data) → IsPlain n d → IsPlain (suc n) (array_of (d ∷ []))
+one_item_plain n d h = record { no_float = or_from _ _ h.no_float refl; flat = omega (arith, h.flat) }
+
+two_items_plain : (n : ℕ) (d e : Data) → IsPlain n d → IsPlain n e → IsPlain (suc n) (array_of (d ∷ e ∷ []))
+two_items_plain n d e h k = record { no_float = or_from _ _ h.no_float (or_from _ _ k.no_float refl); flat = omega (arith, h.flat, k.flat) }
+
+period_plain : (n : ℕ) (p : Period) → IsPlain (suc n) (period_data p)
+unfolding period_data
+period_plain n p = object_of_plain n (period_fields p) (field_plain n string (string_plain n) p.duration, (field_plain n string (string_plain n) p.randomize_start, (string_plain n p.start, tt)))
+
+-- ---- an event
+
+values_plain : (n : ℕ) (type : List ℕ) (value : Data) → IsPlain n value → IsPlain (suc (suc n)) (values_data type (value ∷ []))
+unfolding values_data
+values_plain n type value h = object_of_plain (suc n) (values_fields type (value ∷ [])) (string_plain (suc n) type, (one_item_plain n value h, tt))
+
+payloads_plain : (o : Option ℤ) → IsPlain 3 (payloads_data (option_map whole_data o))
+payloads_plain None = no_items_plain 2
+payloads_plain (Some z) = one_item_plain 2 _ (values_plain 0 (codes "DISPATCH_SETPOINT") (whole_data z) (whole_plain 0 z))
+
+shown_interval_plain : (i : ShownInterval) → IsPlain 4 (shown_interval_data i)
+unfolding shown_interval_data
+shown_interval_plain i = object_of_plain 3 (shown_interval_fields i) (whole_plain 3 i.id, (field_plain 3 period_data (period_plain 2) i.period, (payloads_plain i.part, tt)))
+
+targets_plain : (ven resource : List ℕ) → IsPlain 5 (targets_data ven resource)
+targets_plain ven resource =
+    two_items_plain 4 _ _ (values_plain 2 (codes "VEN_NAME") (string ven) (string_plain 2 ven)) (values_plain 2 (codes "RESOURCE_NAME") (string resource) (string_plain 2 resource))
+
+event_object_plain : (e : EventObject) → IsPlain 6 (event_object_data e)
+unfolding event_object_data
+event_object_plain e =
+    object_of_plain 5 (event_object_fields e) (
+      string_plain 5 _,
+      (
+        field_plain 5 string (string_plain 5) e.shown.name,
+        (
+          string_plain 5 _,
+          (
+            field_plain 5 period_data (period_plain 4) e.shown.period,
+            (
+              array_of_plain 4 shown_interval_data shown_interval_plain e.shown.intervals,
+              (string_plain 5 _, (string_plain 5 _, (field_plain 5 natural_data (λ n. whole_plain 5 (pos n)) e.shown.priority, (string_plain 5 e.shown.program, (targets_plain e.shown.ven_name e.shown.resource_name, tt))))),
+            ),
+          ),
+        ),
+      ),
+    )
+
+-- ---- other objects
+
+ven_object_plain : (v : VenObject) → IsPlain 1 (ven_object_data v)
+unfolding ven_object_data
+ven_object_plain v = object_of_plain 0 (ven_object_fields v) (string_plain 0 _, (string_plain 0 _, (string_plain 0 _, (string_plain 0 _, (string_plain 0 _, tt)))))
+
+resource_object_plain : (r : ResourceObject) → IsPlain 1 (resource_object_data r)
+unfolding resource_object_data
+resource_object_plain r =
+    object_of_plain 0 (resource_object_fields r) (string_plain 0 _, (string_plain 0 _, (string_plain 0 _, (string_plain 0 _, (string_plain 0 _, (string_plain 0 _, tt))))))
+
+share_object_plain : (s : ShareObject) → IsPlain 1 (share_object_data s)
+unfolding share_object_data
+share_object_plain s = object_of_plain 0 (share_object_fields s) (string_plain 0 _, (string_plain 0 _, (whole_plain 0 (pos s.share), tt)))
+
+problem_plain : (r : Refusal) → IsPlain 1 (problem_data r)
+unfolding problem_data
+problem_plain r = object_of_plain 0 (problem_fields r) (string_plain 0 _, (whole_plain 0 (pos (status_of r)), (string_plain 0 _, tt)))
+
+-- ---- none of them has a float
+
+pub event_object_whole : (e : EventObject) → has_float (event_object_data e) ≡ false
+event_object_whole e = (event_object_plain e).no_float
+
+pub event_objects_whole : (es : List EventObject) → has_float (array_of (map event_object_data es)) ≡ false
+event_objects_whole es = let all = array_of_plain 6 event_object_data event_object_plain es in all.no_float
+
+pub ven_object_whole : (v : VenObject) → has_float (ven_object_data v) ≡ false
+ven_object_whole v = (ven_object_plain v).no_float
+
+pub resource_object_whole : (r : ResourceObject) → has_float (resource_object_data r) ≡ false
+resource_object_whole r = (resource_object_plain r).no_float
+
+pub share_object_whole : (s : ShareObject) → has_float (share_object_data s) ≡ false
+share_object_whole s = (share_object_plain s).no_float
+
+pub problem_whole : (r : Refusal) → has_float (problem_data r) ≡ false
+problem_whole r = (problem_plain r).no_float

@@ -1,7 +1,0 @@
-use Rattle.std.proofs.Common.{refl}
-use Rattle.adr_schema.specs.Events.{setpoint_in}
-use Rattle.adr_schema.proofs.laws.fractions_are_never_setpoints.Goals as goal
-
-pub returns : goal.returns
-unfolding setpoint_in
-returns c = λ x. refl

@@ -1,0 +1,86 @@
+-- Runs of scripts, one after another.
+use Rattle.std.proofs.Common.{◌≡◌, ℕ, ◌+◌, zero, suc, true, false, List, [], ◌∷◌, ◌++◌, length, take, cond, Option, append_assoc, append-nil, length-append, sym, ◌∙◌, true≢false, arith}
+use Rattle.std.specs.Prelude.{◌==◌, not}
+use Rattle.std.proofs.Math.Seq.{take-append-add, take-nil}
+use Rattle.std.proofs.Math.Dec.{eqb-suc-zero}
+use Rattle.std.proofs.lemmas.List.Sums.{sum_by-append}
+use Rattle.std.specs.Io.KnownBytes.{Appends}
+use Rattle.std.proofs.KnownBytes.{Appends-trans, Appends-nil}
+use Rattle.adr_state.specs.declared.state.State.{State}
+use Rattle.adr_state.specs.declared.limits.Settings.{Settings}
+use Rattle.adr_script.specs.Turns.{IsTurn}
+use Rattle.adr_script.specs.Lines.{lines_of, IsLine}
+use Rattle.adr_script.specs.Scripts.{Prints, passed_over, has_turn, PrintAll, no_lines, line_first, RunsScript, StopsScript}
+use Rattle.adr_script.proofs.Lines.{lines_of-last}
+
+module _ {settings : Settings} where
+  PrintAll-append : {s u t : State} {xs ys : List (List ℕ)} {a b : List ℕ} → PrintAll settings s xs a u → PrintAll settings u ys b t → PrintAll settings s (xs ++ ys) (a ++ b) t
+  PrintAll-append no_lines q = q
+  PrintAll-append (line_first first others) q = rw append_assoc (line_first first (PrintAll-append others q))
+
+  PrintAll-one : {s t : State} {line out : List ℕ} → Prints settings s line out t → PrintAll settings s (line ∷ []) out t
+  PrintAll-one h = rw append-nil at (line_first h no_lines)
+
+  -- ---- runs
+
+  pub Runs-nothing : {s : State} {o : Option (List ℕ)} {p : ℕ} → RunsScript settings s [] s o o p p
+  Runs-nothing {o = o} = record { out = []; prints = no_lines; written = Appends-nil o; counted = omega arith }
+
+  pub Runs-empty : {s : State} {o : Option (List ℕ)} {p : ℕ} (line : List ℕ) → true ≡ (length line == 0) → RunsScript settings s (line ∷ []) s o o p p
+  Runs-empty {o = o} [] h = record { out = []; prints = PrintAll-one passed_over; written = Appends-nil o; counted = omega arith }
+  Runs-empty (b ∷ line) h = absurd (true≢false (h ∙ eqb-suc-zero (length line)))
+
+  pub Runs-turn : {s t : State} {line out : List ℕ} {o w : Option (List ℕ)} {p : ℕ} → false ≡ (length line == 0) → IsTurn settings s line out t → Appends o w out → RunsScript settings s (line ∷ []) t o w p (p + 1)
+  Runs-turn {line = []} h turn written = absurd (true≢false (sym h))
+  Runs-turn {line = b ∷ line} {out = out} h turn written = record { out = out; prints = PrintAll-one (has_turn turn); written = written; counted = rw (← h) (omega arith) }
+
+  pub Runs-append : {s u t : State} {xs ys : List (List ℕ)} {o m w : Option (List ℕ)} {p q r : ℕ} → RunsScript settings s xs u o m p q → RunsScript settings u ys t m w q r
+      → RunsScript settings s (xs ++ ys) t o w p r
+  Runs-append {xs = xs} {ys = ys} {o = o} {m = m} {w = w} a b =
+      record {
+        out = a.out ++ b.out;
+        prints = PrintAll-append a.prints b.prints;
+        written = Appends-trans o m w a.out b.out a.written b.written;
+        counted = omega (arith, a.counted, b.counted, sum_by-append (λ (line : List ℕ). cond (not (length line == 0)) 1 0) xs ys);
+      }
+
+  -- ---- runs that stop
+
+  pub Stops-at_once : {s : State} {lines : List (List ℕ)} {o : Option (List ℕ)} → StopsScript settings s lines s o o
+  Stops-at_once {o = o} = record { taken = 0; out = []; part = 0; few = omega arith; prints = no_lines; written = Appends-nil o }
+
+  pub Stops-turn : {s t : State} {line out : List ℕ} {o w : Option (List ℕ)} {others : List (List ℕ)} (part : ℕ) → false ≡ (length line == 0) → IsTurn settings s line out t → Appends o w (take part out)
+      → StopsScript settings s (line ∷ others) t o w
+  Stops-turn {line = []} part h turn written = absurd (true≢false (sym h))
+  Stops-turn {line = b ∷ line} {out = out} part h turn written = record { taken = 1; out = out; part = part; few = omega arith; prints = PrintAll-one (has_turn turn); written = written }
+
+  pub Stops-after : {s u t : State} {xs ys : List (List ℕ)} {o m w : Option (List ℕ)} {p q : ℕ} → RunsScript settings s xs u o m p q → StopsScript settings u ys t m w
+      → StopsScript settings s (xs ++ ys) t o w
+  Stops-after {xs = xs} {ys = ys} {o = o} {m = m} {w = w} a b =
+      record {
+        taken = length xs + b.taken;
+        out = a.out ++ b.out;
+        part = length a.out + b.part;
+        few = omega (arith, length-append xs ys, b.few);
+        prints = rw (take-append-add xs ys b.taken) (PrintAll-append a.prints b.prints);
+        written = rw (take-append-add a.out b.out b.part) (Appends-trans o m w a.out (take b.part b.out) a.written b.written);
+      }
+
+  -- ---- the last line, which has no LF
+
+  nothing_printed : {s t : State} {out : List ℕ} → PrintAll settings s ([] ∷ []) out t → PrintAll settings s [] out t
+  nothing_printed (line_first passed_over no_lines) = no_lines
+
+  nothing_taken : {s t : State} {out : List ℕ} (n : ℕ) → PrintAll settings s (take n ([] ∷ [])) out t → PrintAll settings s [] out t
+  nothing_taken zero h = h
+  nothing_taken (suc n) h = nothing_printed (rw (take-nil {A = List ℕ} n) at h)
+
+  pub Runs-last : {s t : State} {o w : Option (List ℕ)} {p q : ℕ} {line : List ℕ} → IsLine line → RunsScript settings s (line ∷ []) t o w p q → RunsScript settings s (lines_of line) t o w p q
+  unfolding lines_of
+  Runs-last {line = []} h a = record { out = a.out; prints = nothing_printed a.prints; written = a.written; counted = a.counted }
+  Runs-last {line = b ∷ line} h a = rw (lines_of-last b line h) a
+
+  pub Stops-last : {s t : State} {o w : Option (List ℕ)} {line : List ℕ} → IsLine line → StopsScript settings s (line ∷ []) t o w → StopsScript settings s (lines_of line) t o w
+  unfolding lines_of
+  Stops-last {line = []} h a = record { taken = 0; out = a.out; part = a.part; few = omega arith; prints = nothing_taken a.taken a.prints; written = a.written }
+  Stops-last {line = b ∷ line} h a = rw (lines_of-last b line h) a

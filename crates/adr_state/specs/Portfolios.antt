@@ -1,0 +1,74 @@
+-- The vens, their resources and the shares, and the kinds of change that a command may make of them.
+use Rattle.std.specs.Prelude.{ℕ, Bool, false, not, ◌==◌, List, [], filter, Result, Ok}
+use Rattle.std.specs.Map.{remove_entry}
+use Rattle.std.specs.Option.{option_map_or}
+use Rattle.std.specs.BTreeMap.{is_at, insert_entry}
+use Rattle.std.specs.Ordering.{nat_cmp}
+use Rattle.adr_text.specs.Refusals.{◌>>=◌}
+use Rattle.adr_text.specs.declared.refusal.Refusal.{Refusal}
+use Rattle.adr_state.specs.declared.portfolio.Portfolio.{Portfolio}
+use Rattle.adr_state.specs.declared.portfolio.Ven.{Ven}
+use Rattle.adr_state.specs.declared.portfolio.Resource.{Resource}
+use Rattle.adr_state.specs.declared.keys.ShareKey.{ShareKey}
+use Rattle.adr_state.specs.Keys.{share_cmp, at}
+
+abbrev pub nobody : Portfolio
+nobody = record { vens = []; resources = []; shares = [] }
+
+-- ---- with one more, or another at its key: each in its place in the order
+
+abbrev pub with_ven : ℕ → Ven → Portfolio → Portfolio
+with_ven n ven p = record p { vens = insert_entry nat_cmp p.vens n ven }
+
+abbrev pub with_resource : ℕ → Resource → Portfolio → Portfolio
+with_resource n resource p = record p { resources = insert_entry nat_cmp p.resources n resource }
+
+abbrev pub with_share : ShareKey → ℕ → Portfolio → Portfolio
+with_share key weight p = record p { shares = insert_entry share_cmp p.shares key weight }
+
+-- ---- without one
+
+-- whether a resource is there and belongs to a ven
+abbrev pub is_of_ven : ℕ → List (ℕ × Resource) → ℕ → Bool
+is_of_ven ven resources resource = option_map_or (λ r. r.ven == ven) (at nat_cmp resource resources) false
+
+-- without a ven: its resources go, and their shares
+abbrev pub without_ven : ℕ → Portfolio → Portfolio
+without_ven n p = record p {
+  vens = remove_entry (is_at (nat_cmp n)) p.vens;
+  resources = filter (λ r. not (r.1.ven == n)) p.resources;
+  shares = filter (λ s. not (is_of_ven n p.resources s.0.resource)) p.shares;
+}
+
+-- without a resource: its shares go
+abbrev pub without_resource : ℕ → Portfolio → Portfolio
+without_resource n p = record p {
+  resources = remove_entry (is_at (nat_cmp n)) p.resources;
+  shares = filter (λ s. not (s.0.resource == n)) p.shares;
+}
+
+abbrev pub without_share : ShareKey → Portfolio → Portfolio
+without_share key p = record p { shares = remove_entry (is_at (share_cmp key)) p.shares }
+
+-- ---- the kinds of change
+
+-- one is put at its key, or goes with all that hangs on it
+pub data PortfolioChange : Type 0 where
+  PutVen : ℕ → Ven → PortfolioChange
+  DropVen : ℕ → PortfolioChange
+  PutResource : ℕ → Resource → PortfolioChange
+  DropResource : ℕ → PortfolioChange
+  PutShare : ShareKey → ℕ → PortfolioChange
+  DropShare : ShareKey → PortfolioChange
+
+abbrev pub portfolio_after : PortfolioChange → Portfolio → Portfolio
+portfolio_after (PutVen n ven) p = with_ven n ven p
+portfolio_after (DropVen n) p = without_ven n p
+portfolio_after (PutResource n resource) p = with_resource n resource p
+portfolio_after (DropResource n) p = without_resource n p
+portfolio_after (PutShare key weight) p = with_share key weight p
+portfolio_after (DropShare key) p = without_share key p
+
+-- a decision is an answer and a change: the answer, and the portfolio after the change
+abbrev pub carried_out : {A : Type 0} → Portfolio → Result (A × PortfolioChange) Refusal → Result (A × Portfolio) Refusal
+carried_out p decision = decision >>= λ d. Ok (d.0, portfolio_after d.1 p)

@@ -1,0 +1,230 @@
+//! The vens that are enrolled, their resources, and the shares of those in programs.
+ghost use Rattle.std.specs.Prelude.{◌≡◌, ◌≤◌, ◌<◌, ◌==◌, not, [], length, filter, IsSome, IsTrue, OnOk, OnErr};
+ghost use Rattle.std.specs.Ordering.{nat_cmp};
+ghost use Rattle.std.specs.Option.{option_copied};
+ghost use Rattle.std.specs.Map.{remove_entry};
+ghost use Rattle.std.specs.BTreeMap.{is_at, insert_entry};
+ghost use Rattle.adr_state.specs.Weights.{is_weight, weight_of, most_weight, most_resources};
+ghost use Rattle.adr_state.specs.Keys.{at};
+ghost use Rattle.adr_state.specs.Portfolios.{nobody, is_of_ven, without_ven, without_resource};
+
+use crate::keys::ShareKey;
+use adr_objects::{Number, ResourceName, Stamps};
+use adr_text::{Name, Table};
+use std::alloc::{AllocError, Global};
+use std::collections::btree_map::Iter;
+use std::marker::Model;
+
+/// A ven that is enrolled.
+#[derive(Clone, Debug, Drop)]
+pub struct Ven {
+    pub name: Name,
+    pub stamps: Stamps,
+}
+
+/// A resource of a ven.
+#[derive(Clone, Debug, Drop)]
+pub struct Resource {
+    pub ven: Number,
+    pub name: ResourceName,
+    pub stamps: Stamps,
+}
+
+/// The weight of a share, from 1 to 1,000,000.
+#[derive(Clone, Copy, Debug, PartialEq, Eq)]
+pub struct Weight {
+    amount: u32,
+}
+
+impl Model for Weight {
+    ghost use Rattle.std.specs.Prelude.{ℕ, IsTrue};
+    ghost use Rattle.adr_state.specs.Weights.{is_weight};
+
+    ghost Value = { ℕ };
+
+    ghost view = { λ a. a.amount };
+
+    ghost invariant = { λ a. IsTrue (is_weight a.amount) };
+
+    ghost inverse = { λ n. record { amount = n } };
+}
+
+impl Weight {
+    /// The weight of that amount, if it is one.
+    pub fn new(amount: u32) -> Option<Weight>
+        ensures { result ≡ weight_of amount }
+    {
+        if amount < 1 || 1_000_000 < amount {
+            return None;
+        }
+        Some(Weight { amount })
+    }
+
+    /// Its amount.
+    pub fn get(self) -> u32
+        ensures value { result ≡ self }
+        ensures small { IsTrue (is_weight self) }
+    {
+        self.amount
+    }
+}
+
+/// The resources by number: at most 10,000, so that a setpoint can be split over all of them.
+#[derive(Clone, Drop)]
+pub struct Resources {
+    rows: Table<Number, Resource>,
+}
+
+impl Model for Resources {
+    ghost use Rattle.std.specs.Prelude.{ℕ, List, length, ◌≤◌};
+    ghost use Rattle.adr_state.specs.declared.portfolio.Resource.{Resource};
+    ghost use Rattle.adr_state.specs.Weights.{most_resources};
+
+    ghost Value = { List (ℕ × Resource) };
+
+    ghost view = { λ a. a.rows };
+
+    ghost invariant = { λ a. length a.rows ≤ most_resources };
+}
+
+impl Resources {
+    /// No resources yet.
+    pub fn new(alloc: Global) -> Resources
+        ensures { result ≡ [] }
+    {
+        Resources {
+            rows: Table::new(alloc),
+        }
+    }
+
+    /// The resource of a number.
+    pub fn get(&self, number: Number) -> Option<&Resource>
+        ensures { option_copied result ≡ at nat_cmp number self.now }
+    {
+        self.rows.get(&number)
+    }
+
+    /// Puts a resource, in its place in the order of the numbers.
+    pub fn put(&mut self, number: Number, resource: Resource) -> Result<(), AllocError>
+        requires { length self.old < most_resources }
+        ensures ok { OnOk result (self.new ≡ insert_entry nat_cmp self.old number resource) }
+        ensures err { OnErr result (self.new ≡ self.old) }
+    {
+        self.rows.put(number, resource)
+    }
+
+    /// Puts a resource in the place of that of its number, which is there.
+    pub fn replace(&mut self, number: Number, resource: Resource)
+        requires { IsSome (at nat_cmp number self.old) }
+        ensures { self.new ≡ insert_entry nat_cmp self.old number resource }
+    {
+        self.rows.replace(number, resource)
+    }
+
+    /// Removes the resource of a number, and answers it.
+    pub fn remove(&mut self, number: Number) -> Option<Resource>
+        ensures value { result ≡ at nat_cmp number self.old }
+        ensures removed { self.new ≡ remove_entry (is_at (nat_cmp number)) self.old }
+    {
+        self.rows.remove(&number)
+    }
+
+    /// Removes the resources of a ven.
+    pub fn remove_of(&mut self, ven: Number)
+        ensures { self.new ≡ filter (λ r. not (r.1.ven == ven)) self.old }
+    {
+        self.rows.retain(|_, resource| resource.ven != ven)
+    }
+
+    /// How many there are.
+    pub fn len(&self) -> usize
+        ensures value { result ≡ length self.now }
+        ensures few { length self.now ≤ most_resources }
+    {
+        self.rows.len()
+    }
+
+    /// Whether there are none.
+    pub fn is_empty(&self) -> bool
+        ensures { result ≡ (length self.now == 0) }
+    {
+        self.rows.is_empty()
+    }
+
+    /// The resources as a map.
+    pub fn rows(&self) -> &Table<Number, Resource>
+        ensures { result.now ≡ self.now }
+    {
+        &self.rows
+    }
+
+    /// The resources in the order of their numbers.
+    pub fn iter(&self) -> Iter<'_, Number, Resource>
+        ensures rows { result ≡ self.now }
+        ensures few { length self.now ≤ most_resources }
+    {
+        self.rows.iter()
+    }
+}
+
+/// Who takes part in events.
+#[derive(Clone, Drop)]
+pub struct Portfolio {
+    pub vens: Table<Number, Ven>,
+    pub resources: Resources,
+    pub shares: Table<ShareKey, Weight>,
+}
+
+/// Whether the resource is there and belongs to the ven.
+fn is_of_ven(ven: Number, resources: &Resources, resource: Number) -> bool
+    ensures { result ≡ is_of_ven ven resources.now resource }
+{
+    match resources.get(resource) {
+        Some(resource) => resource.ven == ven,
+        None => false,
+    }
+}
+
+/// Removes the shares of the ven's resources.
+fn remove_shares_of_ven(shares: &mut Table<ShareKey, Weight>, resources: &Resources, ven: Number)
+    ensures { shares.new ≡ filter (λ s. not (is_of_ven ven resources.now s.0.resource)) shares.old }
+{
+    shares.retain(|key, _| !is_of_ven(ven, resources, key.resource))
+}
+
+/// Removes the shares of the resource.
+fn remove_shares_of(shares: &mut Table<ShareKey, Weight>, resource: Number)
+    ensures { shares.new ≡ filter (λ s. not (s.0.resource == resource)) shares.old }
+{
+    shares.retain(|key, _| key.resource != resource)
+}
+
+impl Portfolio {
+    /// Nobody yet.
+    pub fn new(alloc: Global) -> Portfolio
+        ensures { result ≡ nobody }
+    {
+        Portfolio {
+            vens: Table::new(alloc),
+            resources: Resources::new(alloc),
+            shares: Table::new(alloc),
+        }
+    }
+
+    /// Removes the ven, its resources, and their shares.
+    pub fn remove_ven(&mut self, ven: Number)
+        ensures { self.new ≡ without_ven ven self.old }
+    {
+        remove_shares_of_ven(&mut self.shares, &self.resources, ven);
+        self.resources.remove_of(ven);
+        self.vens.remove(&ven);
+    }
+
+    /// Removes the resource and its shares.
+    pub fn remove_resource(&mut self, resource: Number)
+        ensures { self.new ≡ without_resource resource self.old }
+    {
+        remove_shares_of(&mut self.shares, resource);
+        self.resources.remove(resource);
+    }
+}
