@@ -1,21 +1,25 @@
 -- What the laws need.
-use Rattle.std.proofs.Common.{◌≡◌, ℕ, zero, suc, ◌<◌, ℤ, Bool, true, false, cond, ◌&&◌, ◌||◌, ◌⊎◌, inl, inr, List, [], ◌∷◌, length, Option, Some, None, refl, sym, ap, subst, ◌∙◌, arith}
-use Rattle.std.specs.Prelude.{nat_lt, ◌==◌, slice_index_or, IsSomeAnd}
+use Rattle.std.proofs.Common.{◌≡◌, ℕ, ◌<◌, ℤ, Bool, true, false, cond, ◌&&◌, ◌||◌, ◌⊎◌, inl, inr, List, [], ◌∷◌, Option, Some, None, refl, sym, ap, subst, ◌∙◌, arith}
+use Rattle.std.specs.Prelude.{nat_lt, ◌==◌, IsSomeAnd}
 use Rattle.std.specs.Bool.{Decides}
-use Rattle.std.specs.List.{Contains}
+use Rattle.std.specs.Option.{option_eq}
+use Rattle.std.specs.List.{AllByRecursion, Contains}
 use Rattle.std.specs.Ordering.{nat_cmp, int_eq, is_lt, is_eq, ordering_reverse, ordering_then, match_ordering}
 use Rattle.std.specs.Map.{lookup}
 use Rattle.std.specs.BTreeMap.{insert_entry}
 use Rattle.std.specs.declared.cmp.Ordering.{Ordering}
 use Rattle.std.specs.declared.cmp.Ordering.TheVariants.{Less, Equal, Greater}
-use Rattle.std.specs.Cmp.{IsTotalOrder, signed_Decides, unsigned_Decides}
-use Rattle.std.specs.Cmp.Lexicographic.{slice_cmp}
+use Rattle.std.specs.Cmp.{IsTotalOrder, Equal-is, signed_Decides, unsigned_Decides}
+use Rattle.std.specs.Cmp.Lexicographic.{slice_cmp, pointwise}
 use Rattle.std.specs.Str.{bytes_eq}
-use Rattle.std.proofs.lemmas.Bool.{true≢false}
-use Rattle.std.proofs.lemmas.Bool.Decides.{nat_tests, Decides-and, Decides-like}
-use Rattle.std.proofs.lemmas.Cmp.{nat_list_cmp_total, tied_itself, alike_right, on_total, then_total}
-use Rattle.std.proofs.lemmas.Slice.Eq.{bytes_eq-Decides}
-use Rattle.std.proofs.lemmas.Map.Text.{is_eq-slice_cmp}
+use Rattle.std.proofs.lemmas.Bool.{true≢false, both_ways, cond_both, false_from_ne_true}
+use Rattle.std.proofs.lemmas.Bool.Decides.{Decides-and, Decides-like}
+use Rattle.std.proofs.lemmas.Cmp.{nat_cmp_total, nat_list_cmp_total, tied_itself, alike_right, on_total, then_total}
+use Rattle.std.proofs.lemmas.List.Elements.{All-contains, All-from_recursion, Contains-append_right}
+use Rattle.std.proofs.lemmas.List.Sorted.{ranks_by}
+use Rattle.std.proofs.lemmas.Map.Lookups.{CmpEqualImpliesEq, exact_unsigned, exact_bytes, exact_pairs}
+use Rattle.std.proofs.lemmas.Option.{same_Some}
+use Rattle.std.proofs.lemmas.Slice.Eq.{bytes_eq-Decides, slice_eq-Decides}
 use Rattle.adr_split.specs.FairSplit.{sum_of_parts}
 use Rattle.adr_split.specs.Laws.{AreWeights}
 use Rattle.adr_split.proofs.FairLemmas.{fair_split_is_fair}
@@ -25,17 +29,18 @@ use Rattle.adr_objects.specs.declared.kind.Kind.TheVariants as kind
 use Rattle.adr_objects.specs.declared.interval.Period.{Period}
 use Rattle.adr_objects.specs.declared.shown.ShownInterval.{ShownInterval}
 use Rattle.adr_objects.specs.declared.shown.ShownEvent.{ShownEvent}
+use Rattle.adr_state.specs.contracts.keys.MirrorKeyOrd.TheImpl.Laws.{total-law}
 use Rattle.adr_state.specs.declared.base.Mark.{Mark}
 use Rattle.adr_state.specs.declared.base.Mark.TheVariants.{Live, Dead}
 use Rattle.adr_state.specs.declared.keys.MirrorKey.{MirrorKey}
 use Rattle.adr_state.specs.declared.view.Content.TheVariants.{Program, Event}
-use Rattle.adr_state.specs.Same.{is_same_option, is_same_list}
-use Rattle.adr_state.specs.Changes.{is_same_period, is_same_interval, is_same_head, is_same_tail, is_same_event}
+use Rattle.adr_state.specs.Changes.{is_same_period, is_same_interval, is_same_event}
 use Rattle.adr_state.specs.Keys.{kind_cmp, id_cmp, mirror_cmp, at}
-use Rattle.adr_state.specs.Marks.{is_text_below, is_below}
+use Rattle.adr_state.specs.Marks.{is_below}
 use Rattle.adr_state.specs.Mirror.{raised, joined}
 use Rattle.adr_state.specs.Views.{split_interval}
 use Rattle.adr_state.specs.Laws.{SameContentsAreEqual, SayTheSame, MarksAreOrdered, IsRaised, JoinsAreGreatest, PartsSumUp}
+use Rattle.adr_state.proofs.KeyLemmas.{mirror_order}
 
 -- ---- parts
 
@@ -49,62 +54,25 @@ parts_sum weights i v are h = parts_at weights i.id i.period i.setpoint v are h
 
 -- ---- contents
 
-some_same : {A : Type 0} (a b : A) → Some a ≡ Some b → a ≡ b
-some_same a b h = cc
-
-options_decide : {A : Type 0} (same : A → A → Bool) → ((a b : A) → Decides (same a b) (a ≡ b)) → (a b : Option A) → Decides (is_same_option same a b) (a ≡ b)
+options_decide : {A : Type 0} (same : A → A → Bool) → ((a b : A) → Decides (same a b) (a ≡ b)) → (a b : Option A) → Decides (option_eq same a b) (a ≡ b)
 options_decide same d None None = (λ h. refl, λ h. refl)
 options_decide same d None (Some b) = (λ h. absurd (cc), λ h. absurd (cc))
 options_decide same d (Some a) None = (λ h. absurd (cc), λ h. absurd (cc))
-options_decide same d (Some a) (Some b) = (λ h. ap (λ x. Some x) ((d a b).0 h), λ h. (d a b).1 (some_same a b h))
-
-head_same : {A : Type 0} (x y : A) (xs ys : List A) → (x ∷ xs) ≡ (y ∷ ys) → x ≡ y
-head_same x y xs ys h = cc
-
-tail_same : {A : Type 0} (x y : A) (xs ys : List A) → (x ∷ xs) ≡ (y ∷ ys) → xs ≡ ys
-tail_same x y xs ys h = cc
-
-lists_decide : {A : Type 0} (same : A → A → Bool) → ((a b : A) → Decides (same a b) (a ≡ b)) → (a b : List A) → Decides (is_same_list same a b) (a ≡ b)
-lists_decide same d [] [] = (λ h. refl, λ h. refl)
-lists_decide same d [] (y ∷ ys) = (λ h. absurd (cc), λ h. absurd (cc))
-lists_decide same d (x ∷ xs) [] = (λ h. absurd (cc), λ h. absurd (cc))
-lists_decide same d (x ∷ xs) (y ∷ ys) =
-    Decides-like (same x y && is_same_list same xs ys) (λ h. rw (h.0, h.1) refl) (λ h. (head_same x y xs ys h, tail_same x y xs ys h))
-    (Decides-and (same x y) (is_same_list same xs ys) (d x y) (lists_decide same d xs ys))
-
-texts_decide : (a b : Option (List ℕ)) → Decides (is_same_option bytes_eq a b) (a ≡ b)
-texts_decide a b = options_decide bytes_eq bytes_eq-Decides a b
-
-priorities_decide : (a b : Option ℕ) → Decides (is_same_option (λ m n. m == n) a b) (a ≡ b)
-priorities_decide a b = options_decide (λ m n. m == n) unsigned_Decides a b
-
-numbers_decide : (a b : Option ℤ) → Decides (is_same_option int_eq a b) (a ≡ b)
-numbers_decide a b = options_decide int_eq signed_Decides a b
+options_decide same d (Some a) (Some b) = (λ h. ap (λ x. Some x) ((d a b).0 h), λ h. (d a b).1 (same_Some a b h))
 
 periods_decide : (a b : Period) → Decides (is_same_period a b) (a ≡ b)
 periods_decide a b =
     Decides-like (is_same_period a b)
     (λ h. λ k. record { start = h.0.0 k; duration = h.0.1 k; randomize_start = h.1 k })
     (λ h. ((ap (λ (p : Period). p.start) h, ap (λ (p : Period). p.duration) h), ap (λ (p : Period). p.randomize_start) h))
-    (Decides-and _ _ (Decides-and _ _ (bytes_eq-Decides a.start b.start) (texts_decide a.duration b.duration)) (texts_decide a.randomize_start b.randomize_start))
-
-optional_periods_decide : (a b : Option Period) → Decides (is_same_option is_same_period a b) (a ≡ b)
-optional_periods_decide a b = options_decide is_same_period periods_decide a b
+    (Decides-and _ _ (Decides-and _ _ (bytes_eq-Decides a.start b.start) (options_decide bytes_eq bytes_eq-Decides a.duration b.duration)) (options_decide bytes_eq bytes_eq-Decides a.randomize_start b.randomize_start))
 
 intervals_decide : (a b : ShownInterval) → Decides (is_same_interval a b) (a ≡ b)
 intervals_decide a b =
     Decides-like (is_same_interval a b)
     (λ h. λ k. record { id = h.0.0 k; period = h.0.1 k; part = h.1 k })
     (λ h. ((ap (λ (i : ShownInterval). i.id) h, ap (λ (i : ShownInterval). i.period) h), ap (λ (i : ShownInterval). i.part) h))
-    (Decides-and _ _ (Decides-and _ _ (signed_Decides a.id b.id) (optional_periods_decide a.period b.period)) (numbers_decide a.part b.part))
-
-heads_decide : (a b : ShownEvent) → Decides (is_same_head a b) ((((a.program ≡ b.program) × (a.name ≡ b.name)) × (a.priority ≡ b.priority)) × (a.period ≡ b.period))
-heads_decide a b =
-    Decides-and _ _ (Decides-and _ _ (Decides-and _ _ (bytes_eq-Decides a.program b.program) (texts_decide a.name b.name)) (priorities_decide a.priority b.priority)) (optional_periods_decide a.period b.period)
-
-tails_decide : (a b : ShownEvent) → Decides (is_same_tail a b) (((a.intervals ≡ b.intervals) × (a.ven_name ≡ b.ven_name)) × (a.resource_name ≡ b.resource_name))
-tails_decide a b =
-    Decides-and _ _ (Decides-and _ _ (lists_decide is_same_interval intervals_decide a.intervals b.intervals) (bytes_eq-Decides a.ven_name b.ven_name)) (bytes_eq-Decides a.resource_name b.resource_name)
+    (Decides-and _ _ (Decides-and _ _ (signed_Decides a.id b.id) (options_decide is_same_period periods_decide a.period b.period)) (options_decide int_eq signed_Decides a.part b.part))
 
 events_decide : (a b : ShownEvent) → Decides (is_same_event a b) (a ≡ b)
 events_decide a b =
@@ -114,110 +82,78 @@ events_decide a b =
       (((ap (λ (e : ShownEvent). e.program) h, ap (λ (e : ShownEvent). e.name) h), ap (λ (e : ShownEvent). e.priority) h), ap (λ (e : ShownEvent). e.period) h),
       ((ap (λ (e : ShownEvent). e.intervals) h, ap (λ (e : ShownEvent). e.ven_name) h), ap (λ (e : ShownEvent). e.resource_name) h),
     ))
-    (Decides-and _ _ (heads_decide a b) (tails_decide a b))
-
-events_same : (a b : ShownEvent) → Event a ≡ Event b → a ≡ b
-events_same a b h = cc
-
-names_same : (a b : List ℕ) → Program a ≡ Program b → a ≡ b
-names_same a b h = cc
+    (Decides-and _ _
+    (Decides-and _ _
+    (Decides-and _ _ (Decides-and _ _ (bytes_eq-Decides a.program b.program) (options_decide bytes_eq bytes_eq-Decides a.name b.name)) (options_decide (λ m n. m == n) unsigned_Decides a.priority b.priority))
+    (options_decide is_same_period periods_decide a.period b.period))
+    (Decides-and _ _ (Decides-and _ _ (slice_eq-Decides intervals_decide a.intervals b.intervals _ refl) (bytes_eq-Decides a.ven_name b.ven_name)) (bytes_eq-Decides a.resource_name b.resource_name)))
 
 pub contents_equal : SameContentsAreEqual
-contents_equal (Program a) (Program b) = Decides-like (bytes_eq a b) (λ h. ap (λ n. Program n) h) (names_same a b) (bytes_eq-Decides a b)
+contents_equal (Program a) (Program b) = Decides-like {P = a ≡ b} (bytes_eq a b) (λ h. ap (λ n. Program n) h) (λ h. cc) (bytes_eq-Decides a b)
 contents_equal (Program a) (Event b) = (λ h. absurd (cc), λ h. absurd (cc))
 contents_equal (Event a) (Program b) = (λ h. absurd (cc), λ h. absurd (cc))
-contents_equal (Event a) (Event b) = Decides-like (is_same_event a b) (λ h. ap (λ e. Event e) h) (events_same a b) (events_decide a b)
+contents_equal (Event a) (Event b) = Decides-like {P = a ≡ b} (is_same_event a b) (λ h. ap (λ e. Event e) h) (λ h. cc) (events_decide a b)
 
 -- ---- marks
 
-text_order : IsTotalOrder (slice_cmp nat_cmp)
-text_order = nat_list_cmp_total
+-- versions stand by their moments, and of one moment by their texts; deletions stand behind them
+abbrev version_cmp : ℕ × List ℕ → ℕ × List ℕ → Ordering
+version_cmp v w = ordering_then (nat_cmp v.0 w.0) (slice_cmp nat_cmp v.1 w.1)
+
+abbrev place_cmp : ℕ × (ℕ × List ℕ) → ℕ × (ℕ × List ℕ) → Ordering
+place_cmp p q = ordering_then (nat_cmp p.0 q.0) (version_cmp p.1 q.1)
+
+abbrev place_of : Mark → ℕ × (ℕ × List ℕ)
+place_of (Live moment body) = (0, (moment, canonical_text body))
+place_of Dead = (1, (0, []))
+
+versions_total : IsTotalOrder version_cmp
+versions_total = then_total (on_total (λ (v : ℕ × List ℕ). v.0) nat_cmp_total) (on_total (λ (v : ℕ × List ℕ). v.1) nat_list_cmp_total)
+
+places_total : IsTotalOrder place_cmp
+places_total = then_total (on_total (λ (p : ℕ × (ℕ × List ℕ)). p.0) nat_cmp_total) (on_total (λ (p : ℕ × (ℕ × List ℕ)). p.1) versions_total)
+
+places_exact : CmpEqualImpliesEq place_cmp
+places_exact = exact_pairs nat_cmp version_cmp exact_unsigned (exact_pairs nat_cmp (slice_cmp nat_cmp) exact_unsigned exact_bytes)
+
+by_moments : (less same : Bool) (o : Ordering) → (less || (same && is_lt o)) ≡ is_lt (ordering_then (cond less Less (cond same Equal Greater)) o)
+by_moments true same o = refl
+by_moments false true o = refl
+by_moments false false o = refl
+
+-- a mark is below another where its place is before
+below_is : (m n : Mark) → is_below (Some m) n ≡ is_lt (place_cmp (place_of m) (place_of n))
+below_is Dead Dead = refl
+below_is Dead (Live n b) = refl
+below_is (Live m a) Dead = refl
+below_is (Live m a) (Live n b) = by_moments (nat_lt m n) (m == n) (slice_cmp nat_cmp (canonical_text a) (canonical_text b))
 
 less_from : (o : Ordering) → is_lt o ≡ true → o ≡ Less
 less_from Less h = refl
 less_from Equal h = absurd (cc)
 less_from Greater h = absurd (cc)
 
-not_less_back : (o p : Ordering) → o ≡ ordering_reverse p → is_lt o ≡ true → is_lt p ≡ false
-not_less_back Less Less e h = absurd (cc)
-not_less_back Less Equal e h = refl
-not_less_back Less Greater e h = refl
-not_less_back Equal p e h = absurd (cc)
-not_less_back Greater p e h = absurd (cc)
-
-equal_from : (o p : Ordering) → o ≡ ordering_reverse p → is_lt o ≡ false → is_lt p ≡ false → is_eq o ≡ true
-equal_from Less p e h g = absurd (cc)
-equal_from Equal p e h g = refl
-equal_from Greater Less e h g = absurd (cc)
-equal_from Greater Equal e h g = absurd (cc)
-equal_from Greater Greater e h g = absurd (cc)
-
-text_not_below_itself : (s : List ℕ) → is_text_below s s ≡ false
-text_not_below_itself s = ap is_lt (tied_itself text_order s)
-
-text_one_way : (s t : List ℕ) → is_text_below s t ≡ true → is_text_below t s ≡ false
-text_one_way s t h = not_less_back _ _ (text_order.antisymm s t) h
-
-text_over : (s t u : List ℕ) → is_text_below s t ≡ true → is_text_below t u ≡ true → is_text_below s u ≡ true
-text_over s t u h g = ap is_lt (text_order.trans s t u (less_from _ h) (less_from _ g))
-
-text_same : (s t : List ℕ) → is_text_below s t ≡ false → is_text_below t s ≡ false → s ≡ t
-text_same s t h g = (bytes_eq-Decides s t).0 (sym (is_eq-slice_cmp s t) ∙ equal_from _ _ (text_order.antisymm s t) h g)
-
-abbrev below : ℕ → ℕ → Bool → Bool
-below m n text = nat_lt m n || (m == n && text)
-
-below_itself : (m : ℕ) (p : Bool) → p ≡ false → below m m p ≡ false
-below_itself m true h = absurd (cc)
-below_itself m false h = grind (arith, nat_tests)
-
-below_one_way : (m n : ℕ) (p q : Bool) → (p ≡ true → q ≡ false) → below m n p ≡ true → below n m q ≡ false
-below_one_way m n true true h b = absurd (true≢false (h refl))
-below_one_way m n true false h b = grind (arith, nat_tests)
-below_one_way m n false true h b = grind (arith, nat_tests)
-below_one_way m n false false h b = grind (arith, nat_tests)
-
-below_over : (l m n : ℕ) (p q r : Bool) → (p ≡ true → q ≡ true → r ≡ true) → below l m p ≡ true → below m n q ≡ true → below l n r ≡ true
-below_over l m n p q true h b c = grind (arith, nat_tests)
-below_over l m n true true false h b c = absurd (true≢false (sym (h refl refl)))
-below_over l m n true false false h b c = grind (arith, nat_tests)
-below_over l m n false true false h b c = grind (arith, nat_tests)
-below_over l m n false false false h b c = grind (arith, nat_tests)
-
-pub record LevelBoth (m n : ℕ) (p q : Bool) : Type 0 where
-  pub moments : m ≡ n
-  pub first : p ≡ false
-  pub second : q ≡ false
-
-below_neither : (m n : ℕ) (p q : Bool) → below m n p ≡ false → below n m q ≡ false → LevelBoth m n p q
-below_neither m n true true b c = absurd (grind (arith, nat_tests))
-below_neither m n true false b c = absurd (grind (arith, nat_tests))
-below_neither m n false true b c = absurd (grind (arith, nat_tests))
-below_neither m n false false b c = record { moments = grind (arith, nat_tests); first = refl; second = refl }
+neither_less : (o : Ordering) → is_lt o ≡ false → is_lt (ordering_reverse o) ≡ false → o ≡ Equal
+neither_less Less h g = absurd (cc)
+neither_less Equal h g = refl
+neither_less Greater h g = absurd (cc)
 
 itself : (m : Mark) → is_below (Some m) m ≡ false
-itself Dead = refl
-itself (Live m a) = below_itself m (is_text_below (canonical_text a) (canonical_text a)) (text_not_below_itself (canonical_text a))
-
-one_way : (m n : Mark) → is_below (Some m) n ≡ true → is_below (Some n) m ≡ false
-one_way Dead n h = absurd (cc)
-one_way (Live m a) Dead h = refl
-one_way (Live m a) (Live n b) h = below_one_way m n _ _ (text_one_way (canonical_text a) (canonical_text b)) h
+itself m = below_is m m ∙ ap is_lt (tied_itself places_total (place_of m))
 
 pub over : (k : Option Mark) (m n : Mark) → is_below k m ≡ true → is_below (Some m) n ≡ true → is_below k n ≡ true
 over None m n h g = refl
-over (Some Dead) m n h g = absurd (cc)
-over (Some (Live l a)) Dead n h g = absurd (cc)
-over (Some (Live l a)) (Live m b) Dead h g = refl
-over (Some (Live l a)) (Live m b) (Live n c) h g = below_over l m n _ _ _ (text_over (canonical_text a) (canonical_text b) (canonical_text c)) h g
+over (Some k) m n h g = below_is k n ∙ ap is_lt (places_total.trans (place_of k) (place_of m) (place_of n) (less_from _ (sym (below_is k m) ∙ h)) (less_from _ (sym (below_is m n) ∙ g)))
 
-unless_same : (m n : Mark) → is_below (Some m) n ≡ false → is_below (Some n) m ≡ false → SayTheSame m n
-unless_same Dead Dead h g = tt
-unless_same Dead (Live n b) h g = absurd (cc)
-unless_same (Live m a) Dead h g = absurd (cc)
-unless_same (Live m a) (Live n b) h g =
-    let level : LevelBoth m n (is_text_below (canonical_text a) (canonical_text b)) (is_text_below (canonical_text b) (canonical_text a)) = below_neither m n _ _ h g in
-    (level.moments, text_same (canonical_text a) (canonical_text b) level.first level.second)
+same_place : (m n : Mark) → is_below (Some m) n ≡ false → is_below (Some n) m ≡ false → place_of m ≡ place_of n
+same_place m n h g =
+    places_exact _ _ (neither_less (place_cmp (place_of m) (place_of n)) (sym (below_is m n) ∙ h) (ap is_lt (sym (places_total.antisymm (place_of n) (place_of m))) ∙ sym (below_is n m) ∙ g))
+
+same_said : (m n : Mark) → place_of m ≡ place_of n → SayTheSame m n
+same_said Dead Dead is = tt
+same_said Dead (Live n b) is = absurd (omega (arith, ap (λ (p : ℕ × (ℕ × List ℕ)). p.0) is))
+same_said (Live m a) Dead is = absurd (omega (arith, ap (λ (p : ℕ × (ℕ × List ℕ)). p.0) is))
+same_said (Live m a) (Live n b) is = (ap (λ (p : ℕ × (ℕ × List ℕ)). p.1.0) is, ap (λ (p : ℕ × (ℕ × List ℕ)). p.1.1) is)
 
 pub marks_ordered : MarksAreOrdered
 marks_ordered = record {
@@ -225,49 +161,32 @@ marks_ordered = record {
   deletion_is_greatest = λ m. refl;
   versions_are_below_it = λ n b. refl;
   never_below_itself = itself;
-  never_both_ways = one_way;
+  never_both_ways = λ m n h. below_is n m ∙ (ranks_by places_total place_of).one_way m n (sym (below_is m n) ∙ h);
   kept_over_a_third = over;
-  below_unless_same = unless_same;
+  below_unless_same = λ m n h g. same_said m n (same_place m n h g);
 }
 
 -- ---- joins
 
-kinds_back : (x y : Kind) → kind_cmp x y ≡ ordering_reverse (kind_cmp y x)
-kinds_back kind.Program kind.Program = refl
-kinds_back kind.Program kind.Event = refl
-kinds_back kind.Event kind.Program = refl
-kinds_back kind.Event kind.Event = refl
-
-kinds_over : (x y z : Kind) → kind_cmp x y ≡ Less → kind_cmp y z ≡ Less → kind_cmp x z ≡ Less
-kinds_over kind.Program kind.Program z h g = absurd (cc)
-kinds_over kind.Program kind.Event kind.Program h g = absurd (cc)
-kinds_over kind.Program kind.Event kind.Event h g = absurd (cc)
-kinds_over kind.Event kind.Program z h g = absurd (cc)
-kinds_over kind.Event kind.Event z h g = absurd (cc)
-
-kinds_alike : (x y z : Kind) → kind_cmp x y ≡ Equal → kind_cmp x z ≡ kind_cmp y z
-kinds_alike kind.Program kind.Program z h = refl
-kinds_alike kind.Program kind.Event z h = absurd (cc)
-kinds_alike kind.Event kind.Program z h = absurd (cc)
-kinds_alike kind.Event kind.Event z h = refl
-
-kind_order : IsTotalOrder kind_cmp
-kind_order = record {
-  antisymm = λ x y. kinds_back x y;
-  trans = λ x y z h g. kinds_over x y z h g;
-  congr = λ x y z h. kinds_alike x y z h;
-}
-
 pub key_order : IsTotalOrder mirror_cmp
-key_order = then_total (on_total (λ (k : MirrorKey). k.kind) kind_order) (on_total (λ (k : MirrorKey). k.id) nat_list_cmp_total)
+key_order = subst IsTotalOrder mirror_order total-law
+
+kinds_equal : CmpEqualImpliesEq kind_cmp
+kinds_equal kind.Program kind.Program h = refl
+kinds_equal kind.Program kind.Event h = absurd (cc)
+kinds_equal kind.Event kind.Program h = absurd (cc)
+kinds_equal kind.Event kind.Event h = refl
+
+keys_equal : CmpEqualImpliesEq mirror_cmp
+keys_equal a b h =
+    let same : (a.kind, a.id) ≡ (b.kind, b.id) = exact_pairs kind_cmp id_cmp kinds_equal exact_bytes (a.kind, a.id) (b.kind, b.id) h in
+    λ j. record { kind = (same j).0; id = (same j).1 }
 
 pub equal_from_is : (o : Ordering) → is_eq o ≡ true → o ≡ Equal
-equal_from_is Less h = absurd (cc)
-equal_from_is Equal h = refl
-equal_from_is Greater h = absurd (cc)
+equal_from_is o h = (Equal-is o).0 h
 
-unlike : (o p : Ordering) → o ≡ Equal → o ≡ p → p ≡ Greater → ⊥
-unlike o p h e g = absurd (cc)
+unlike : {K : Type 0} {R : K → K → Ordering} → IsTotalOrder R → (q k j : K) → R k j ≡ Greater → is_eq (R q j) ≡ true → is_eq (R q k) ≡ true → ⊥
+unlike {R = R} order q k j h one two = let no : Equal ≡ Greater = sym (equal_from_is (R q j) one) ∙ order.congr q k j (equal_from_is (R q k) two) ∙ h in cc
 
 -- what a map has at a key after a put
 module _ {K X : Type 0} {R : K → K → Ordering} (order : IsTotalOrder R) where
@@ -280,25 +199,30 @@ module _ {K X : Type 0} {R : K → K → Ordering} (order : IsTotalOrder R) wher
   apart true false x y z h = refl
   apart false c x y z h = refl
 
-  put_at : (q k : K) (v : X) (e : K × X) (es rest : List (K × X)) (o : Ordering) → R k e.0 ≡ o → at R q rest ≡ cond (is_eq (R q k)) (Some v) (at R q es)
-      → at R q (match_ordering o ((k, v) ∷ e ∷ es) ((e.0, v) ∷ es) (e ∷ rest)) ≡ cond (is_eq (R q k)) (Some v) (at R q (e ∷ es))
-  put_at q k v e es rest Less h ih = refl
-  put_at q k v e es rest Equal h ih = rw (← alike_right order k e.0 q h) (twice (is_eq (R q k)) (Some v) (Some e.1) (at R q es))
-  put_at q k v e es rest Greater h ih =
-      rw ih (apart (is_eq (R q e.0)) (is_eq (R q k)) (Some e.1) (Some v) (at R q es)
-      (λ one two. unlike (R q e.0) (R k e.0) (equal_from_is (R q e.0) one) (order.congr q k e.0 (equal_from_is (R q k) two)) h))
-
   pub at-insert_entry : (q k : K) (v : X) (es : List (K × X)) → at R q (insert_entry R es k v) ≡ cond (is_eq (R q k)) (Some v) (at R q es)
   at-insert_entry q k v [] = refl
-  at-insert_entry q k v (e ∷ es) = put_at q k v e es (insert_entry R es k v) (R k e.0) refl (at-insert_entry q k v es)
-
-  -- what was put is there
-  pub at_put : (k : K) (v : X) (es : List (K × X)) → at R k (insert_entry R es k v) ≡ Some v
-  at_put k v es = at-insert_entry k k v es ∙ ap (λ o. cond (is_eq o) (Some v) (at R k es)) (tied_itself order k)
+  at-insert_entry q k v (e ∷ es) = elim (R k e.0) as (λ o. R k e.0 ≡ o → at R q (match_ordering o ((k, v) ∷ e ∷ es) ((e.0, v) ∷ es) (e ∷ insert_entry R es k v)) ≡ cond (is_eq (R q k)) (Some v) (at R q (e ∷ es))) [
+    | Less ↦ λ h. refl
+    | Equal ↦ λ h. rw (← alike_right order k e.0 q h) (twice (is_eq (R q k)) (Some v) (Some e.1) (at R q es))
+    | Greater ↦ λ h. rw (at-insert_entry q k v es) (apart (is_eq (R q e.0)) (is_eq (R q k)) (Some e.1) (Some v) (at R q es) (unlike order q k e.0 h))
+  ] refl
 
   -- equal keys have one row
   pub at_same : (q k : K) (es : List (K × X)) → R q k ≡ Equal → at R q es ≡ at R k es
   at_same q k es h = λ j. lookup (λ x. is_eq (order.congr q k x h j)) es
+
+-- what a key has after a mark: that mark, where it came for the key and is above what the key had, or else what it had
+raised_at : (key : MirrorKey) (mirror : List (MirrorKey × Mark)) (e : MirrorKey × Mark) (P : Option Mark → Type 0)
+    → (mirror_cmp key e.0 ≡ Equal → is_below (at mirror_cmp key mirror) e.1 ≡ true → P (Some e.1))
+    → ((mirror_cmp key e.0 ≡ Equal → is_below (at mirror_cmp key mirror) e.1 ≡ false) → P (at mirror_cmp key mirror)) → P (at mirror_cmp key (raised mirror e))
+raised_at key mirror e P takes keeps =
+    let alike : mirror_cmp key e.0 ≡ Equal → is_below (at mirror_cmp key mirror) e.1 ≡ is_below (at mirror_cmp e.0 mirror) e.1 = λ tied. ap (λ known. is_below known e.1) (at_same key_order key e.0 mirror tied) in
+    cond_both (is_below (at mirror_cmp e.0 mirror) e.1) (insert_entry mirror_cmp mirror e.0 e.1) mirror (λ after. P (at mirror_cmp key after))
+    (λ above. subst P (sym (at-insert_entry key_order key e.0 e.1 mirror))
+    (cond_both (is_eq (mirror_cmp key e.0)) (Some e.1) (at mirror_cmp key mirror) P
+    (λ is. let tied : mirror_cmp key e.0 ≡ Equal = equal_from_is _ is in takes tied (alike tied ∙ above))
+    (λ other. keeps (λ tied. absurd (both_ways _ other (ap is_eq tied))))))
+    (λ level. keeps (λ tied. alike tied ∙ level))
 
 stays : (x : Option Mark) → IsRaised x x
 stays None = refl
@@ -316,102 +240,34 @@ rises_over x (Some n) (Some p) (inr f) (inr g) = inr (over x n p f g)
 not_above : (x y : Option Mark) (m : Mark) → IsRaised x y → is_below x m ≡ false → is_below y m ≡ false
 not_above x None m f h = absurd (true≢false (sym (ap (λ k. is_below k m) f) ∙ h))
 not_above x (Some n) m (inl f) h = sym (ap (λ k. is_below k m) f) ∙ h
-not_above x (Some n) m (inr f) h = elim (is_below (Some n) m) as (λ b. is_below (Some n) m ≡ b → b ≡ false) [
-  | true ↦ λ e. absurd (true≢false (sym (over x n m f e) ∙ h))
-  | false ↦ λ e. refl
-] refl
-
-rises_by : (key : MirrorKey) (mirror : List (MirrorKey × Mark)) (e : MirrorKey × Mark) (b : Bool) → is_eq (mirror_cmp key e.0) ≡ b → is_below (at mirror_cmp e.0 mirror) e.1 ≡ true
-    → IsRaised (at mirror_cmp key mirror) (cond b (Some e.1) (at mirror_cmp key mirror))
-rises_by key mirror e true h g = inr (ap (λ k. is_below k e.1) (at_same key_order key e.0 mirror (equal_from_is _ h)) ∙ g)
-rises_by key mirror e false h g = stays (at mirror_cmp key mirror)
-
-raised_by : (key : MirrorKey) (mirror : List (MirrorKey × Mark)) (e : MirrorKey × Mark) (b : Bool) → is_below (at mirror_cmp e.0 mirror) e.1 ≡ b
-    → IsRaised (at mirror_cmp key mirror) (at mirror_cmp key (cond b (insert_entry mirror_cmp mirror e.0 e.1) mirror))
-raised_by key mirror e true h = subst (IsRaised (at mirror_cmp key mirror)) (sym (at-insert_entry key_order key e.0 e.1 mirror)) (rises_by key mirror e _ refl h)
-raised_by key mirror e false h = stays (at mirror_cmp key mirror)
-
-raise_only_raises : (key : MirrorKey) (mirror : List (MirrorKey × Mark)) (e : MirrorKey × Mark) → IsRaised (at mirror_cmp key mirror) (at mirror_cmp key (raised mirror e))
-raise_only_raises key mirror e = raised_by key mirror e _ refl
-
-reached_by : (key : MirrorKey) (mirror : List (MirrorKey × Mark)) (m : Mark) (b : Bool) → is_below (at mirror_cmp key mirror) m ≡ b
-    → is_below (at mirror_cmp key (cond b (insert_entry mirror_cmp mirror key m) mirror)) m ≡ false
-reached_by key mirror m true h = ap (λ k. is_below k m) (at_put key_order key m mirror) ∙ itself m
-reached_by key mirror m false h = h
-
-raise_reaches : (key : MirrorKey) (mirror : List (MirrorKey × Mark)) (m : Mark) → is_below (at mirror_cmp key (raised mirror (key, m))) m ≡ false
-raise_reaches key mirror m = reached_by key mirror m _ refl
+not_above x (Some n) m (inr f) h = false_from_ne_true (is_below (Some n) m) (λ e. true≢false (sym (over x n m f e) ∙ h))
 
 join_only_raises : (mirror evidence : List (MirrorKey × Mark)) (key : MirrorKey) → IsRaised (at mirror_cmp key mirror) (at mirror_cmp key (joined mirror evidence))
 join_only_raises mirror [] key = stays (at mirror_cmp key mirror)
-join_only_raises mirror (e ∷ es) key = rises_over _ _ _ (raise_only_raises key mirror e) (join_only_raises (raised mirror e) es key)
+join_only_raises mirror (e ∷ es) key =
+    rises_over _ _ _ (raised_at key mirror e (IsRaised (at mirror_cmp key mirror)) (λ tied above. inr above) (λ level. stays (at mirror_cmp key mirror))) (join_only_raises (raised mirror e) es key)
 
-reaches_at : (mirror evidence : List (MirrorKey × Mark)) (key : MirrorKey) (m : Mark) (i : ℕ) → i < length evidence → slice_index_or evidence i (key, m) ≡ (key, m)
-    → is_below (at mirror_cmp key (joined mirror evidence)) m ≡ false
-reaches_at mirror [] key m i l is = absurd (omega arith)
-reaches_at mirror (e ∷ es) key m zero l is =
-    subst (λ (x : MirrorKey × Mark). is_below (at mirror_cmp key (joined (raised mirror x) es)) m ≡ false) (sym is)
-    (not_above _ _ m (join_only_raises (raised mirror (key, m)) es key) (raise_reaches key mirror m))
-reaches_at mirror (e ∷ es) key m (suc i) l is = reaches_at (raised mirror e) es key m i (omega arith) is
-
-then_equal : (o p : Ordering) → ordering_then o p ≡ Equal → (o ≡ Equal) × (p ≡ Equal)
-then_equal Less p h = absurd (cc)
-then_equal Equal p h = (refl, h)
-then_equal Greater p h = absurd (cc)
-
-kinds_equal : (x y : Kind) → kind_cmp x y ≡ Equal → x ≡ y
-kinds_equal kind.Program kind.Program h = refl
-kinds_equal kind.Program kind.Event h = absurd (cc)
-kinds_equal kind.Event kind.Program h = absurd (cc)
-kinds_equal kind.Event kind.Event h = refl
-
-ids_equal : (s t : List ℕ) → slice_cmp nat_cmp s t ≡ Equal → s ≡ t
-ids_equal s t h = (bytes_eq-Decides s t).0 (sym (is_eq-slice_cmp s t) ∙ ap is_eq h)
-
-keys_equal : (a b : MirrorKey) → mirror_cmp a b ≡ Equal → a ≡ b
-keys_equal a b h =
-    let parts : (kind_cmp a.kind b.kind ≡ Equal) × (id_cmp a.id b.id ≡ Equal) = then_equal (kind_cmp a.kind b.kind) (id_cmp a.id b.id) h in
-    let kinds : a.kind ≡ b.kind = kinds_equal a.kind b.kind parts.0 in
-    let ids : a.id ≡ b.id = ids_equal a.id b.id parts.1 in
-    λ j. record { kind = kinds j; id = ids j }
-
-put_from : (key : MirrorKey) (mirror : List (MirrorKey × Mark)) (e : MirrorKey × Mark) (m : Mark) (b : Bool) → is_eq (mirror_cmp key e.0) ≡ b
-    → cond b (Some e.1) (at mirror_cmp key mirror) ≡ Some m → (at mirror_cmp key mirror ≡ Some m) ⊎ (e ≡ (key, m))
-put_from key mirror e m true h g =
-    let keys : key ≡ e.0 = keys_equal key e.0 (equal_from_is _ h) in
-    let marks : e.1 ≡ m = some_same e.1 m g in
-    inr (λ j. (sym keys j, marks j))
-put_from key mirror e m false h g = inl g
-
-raised_from : (key : MirrorKey) (mirror : List (MirrorKey × Mark)) (e : MirrorKey × Mark) (m : Mark) (b : Bool)
-    → at mirror_cmp key (cond b (insert_entry mirror_cmp mirror e.0 e.1) mirror) ≡ Some m → (at mirror_cmp key mirror ≡ Some m) ⊎ (e ≡ (key, m))
-raised_from key mirror e m true g = put_from key mirror e m _ refl (sym (at-insert_entry key_order key e.0 e.1 mirror) ∙ g)
-raised_from key mirror e m false g = inl g
-
-later : {A : Type 0} (e : A) (es : List A) (x : A) → Contains es x → Contains (e ∷ es) x
-later e es x h = (suc h.0, omega (arith, h.1), h.2)
-
-first_of : {A : Type 0} (e : A) (es : List A) (x : A) → e ≡ x → Contains (e ∷ es) x
-first_of e es x h = (0, omega arith, h)
-
-from_first : (key : MirrorKey) (mirror : List (MirrorKey × Mark)) (e : MirrorKey × Mark) (es : List (MirrorKey × Mark)) (m : Mark)
-    → (at mirror_cmp key mirror ≡ Some m) ⊎ (e ≡ (key, m)) → (at mirror_cmp key mirror ≡ Some m) ⊎ Contains (e ∷ es) (key, m)
-from_first key mirror e es m (inl g) = inl g
-from_first key mirror e es m (inr g) = inr (first_of e es (key, m) g)
-
-from_rest : (key : MirrorKey) (mirror : List (MirrorKey × Mark)) (e : MirrorKey × Mark) (es : List (MirrorKey × Mark)) (m : Mark)
-    → (at mirror_cmp key (raised mirror e) ≡ Some m) ⊎ Contains es (key, m) → (at mirror_cmp key mirror ≡ Some m) ⊎ Contains (e ∷ es) (key, m)
-from_rest key mirror e es m (inl g) = from_first key mirror e es m (raised_from key mirror e m _ g)
-from_rest key mirror e es m (inr g) = inr (later e es (key, m) g)
+-- no mark that came is above what its key has in the end
+reached : (mirror evidence : List (MirrorKey × Mark)) → AllByRecursion (λ e. is_below (at mirror_cmp e.0 (joined mirror evidence)) e.1 ≡ false) evidence
+reached mirror [] = tt
+reached mirror (e ∷ es) = (
+  not_above _ _ e.1 (join_only_raises (raised mirror e) es e.0)
+      (raised_at e.0 mirror e (λ known. is_below known e.1 ≡ false) (λ tied above. itself e.1) (λ level. level (tied_itself key_order e.0))),
+  reached (raised mirror e) es,
+)
 
 join_from : (mirror evidence : List (MirrorKey × Mark)) (key : MirrorKey) (m : Mark) → at mirror_cmp key (joined mirror evidence) ≡ Some m
     → (at mirror_cmp key mirror ≡ Some m) ⊎ Contains evidence (key, m)
 join_from mirror [] key m h = inl h
-join_from mirror (e ∷ es) key m h = from_rest key mirror e es m (join_from (raised mirror e) es key m h)
+join_from mirror (e ∷ es) key m h = elim (join_from (raised mirror e) es key m h) [
+  | inl now ↦ raised_at key mirror e (λ known. known ≡ Some m → (at mirror_cmp key mirror ≡ Some m) ⊎ Contains (e ∷ es) (key, m))
+      (λ tied above is. inr (0, omega arith, λ j. (sym (keys_equal key e.0 tied) j, same_Some e.1 m is j))) (λ level is. inl is) now
+  | inr later ↦ inr (Contains-append_right (e ∷ []) es (key, m) later)
+]
 
 pub joins_greatest : JoinsAreGreatest
 joins_greatest mirror evidence = record {
   only_raises = join_only_raises mirror evidence;
-  reaches_each = λ key m h. reaches_at mirror evidence key m h.0 h.1 h.2;
+  reaches_each = λ key m h. All-contains (λ e. is_below (at mirror_cmp e.0 (joined mirror evidence)) e.1 ≡ false) evidence (key, m) (All-from_recursion _ evidence (reached mirror evidence)) h;
   is_one_of_them = join_from mirror evidence;
 }

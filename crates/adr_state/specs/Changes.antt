@@ -4,11 +4,12 @@ use Rattle.std.specs.Ordering.{int_eq}
 use Rattle.std.specs.List.{filter_map}
 use Rattle.std.specs.BTreeSet.{insert_key}
 use Rattle.std.specs.Str.{bytes_eq}
+use Rattle.std.specs.Option.{option_eq}
+use Rattle.std.specs.Cmp.Lexicographic.{pointwise}
 use Rattle.adr_objects.specs.declared.interval.Period.{Period}
 use Rattle.adr_objects.specs.declared.shown.Stamps.{Stamps}
 use Rattle.adr_objects.specs.declared.shown.ShownInterval.{ShownInterval}
 use Rattle.adr_objects.specs.declared.shown.ShownEvent.{ShownEvent}
-use Rattle.adr_state.specs.Same.{is_same_option, is_same_list}
 use Rattle.adr_state.specs.declared.keys.ViewKey.{ViewKey}
 use Rattle.adr_state.specs.declared.view.Content.{Content}
 use Rattle.adr_state.specs.declared.view.Content.TheVariants.{Program, Event}
@@ -19,17 +20,17 @@ use Rattle.adr_state.specs.Keys.{view_cmp, at, map_of}
 -- ---- whether two contents are one
 
 abbrev pub is_same_period : Period → Period → Bool
-is_same_period a b = bytes_eq a.start b.start && is_same_option bytes_eq a.duration b.duration && is_same_option bytes_eq a.randomize_start b.randomize_start
+is_same_period a b = bytes_eq a.start b.start && option_eq bytes_eq a.duration b.duration && option_eq bytes_eq a.randomize_start b.randomize_start
 
 abbrev pub is_same_interval : ShownInterval → ShownInterval → Bool
-is_same_interval a b = int_eq a.id b.id && is_same_option is_same_period a.period b.period && is_same_option int_eq a.part b.part
+is_same_interval a b = int_eq a.id b.id && option_eq is_same_period a.period b.period && option_eq int_eq a.part b.part
 
 abbrev pub is_same_head : ShownEvent → ShownEvent → Bool
 is_same_head a b =
-    bytes_eq a.program b.program && is_same_option bytes_eq a.name b.name && is_same_option (λ m n. m == n) a.priority b.priority && is_same_option is_same_period a.period b.period
+    bytes_eq a.program b.program && option_eq bytes_eq a.name b.name && option_eq (λ m n. m == n) a.priority b.priority && option_eq is_same_period a.period b.period
 
 abbrev pub is_same_tail : ShownEvent → ShownEvent → Bool
-is_same_tail a b = is_same_list is_same_interval a.intervals b.intervals && bytes_eq a.ven_name b.ven_name && bytes_eq a.resource_name b.resource_name
+is_same_tail a b = pointwise is_same_interval a.intervals b.intervals && bytes_eq a.ven_name b.ven_name && bytes_eq a.resource_name b.resource_name
 
 abbrev pub is_same_event : ShownEvent → ShownEvent → Bool
 is_same_event a b = is_same_head a b && is_same_tail a b

@@ -2,7 +2,6 @@ pub mod Within
 pub mod Limits
 pub mod Keys
 pub mod Weights
-pub mod Same
 pub mod Marks
 pub mod Mirror
 pub mod Scans

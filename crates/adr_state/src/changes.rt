@@ -1,12 +1,13 @@
 //! The changes between two views, and the stamps after them.
 ghost use Rattle.std.specs.Prelude.{◌≡◌, IfOk};
 ghost use Rattle.std.specs.Option.{option_copied};
-ghost use Rattle.adr_state.specs.Same.{is_same_list};
+ghost use Rattle.std.specs.Cmp.Lexicographic.{pointwise};
 ghost use Rattle.adr_state.specs.Keys.{view_cmp, at};
 ghost use Rattle.adr_state.specs.Changes.{is_same_interval, is_same_head, is_same_tail, is_same_event, is_same_content, both_keys, change_by, changes, stamps_by, stamps_for, restamped};
 
 use crate::keys::ViewKey;
 use crate::lists::push_some;
+use crate::stamping::{fresh, modified_at};
 use crate::view::{Content, View};
 use crate::view_map::{add_key, put_row, row_at};
 use adr_objects::{ShownEvent, ShownInterval, Stamps};
@@ -39,7 +40,7 @@ fn is_same_head(a: &ShownEvent, b: &ShownEvent) -> bool
 }
 
 fn is_same_intervals(a: &[ShownInterval], b: &[ShownInterval]) -> bool
-    ensures { result ≡ is_same_list is_same_interval a.now b.now }
+    ensures { result ≡ pointwise is_same_interval a.now b.now }
 {
     a == b
 }
@@ -94,24 +95,13 @@ fn change_by(
         (None, None) => return Ok(None),
         (None, Some(_)) => Operation::Post,
         (Some(_), None) => Operation::Delete,
-        (Some(old), Some(new)) => {
-            if is_same_content(old, new) {
-                return Ok(None);
-            }
-            Operation::Put
-        }
+        (Some(old), Some(new)) if is_same_content(old, new) => return Ok(None),
+        (Some(_), Some(_)) => Operation::Put,
     };
     Ok(Some(Change {
         key: key.clone()?,
         operation,
     }))
-}
-
-/// How what one view shows at a key differs from what another does.
-fn change_at(before: &View, after: &View, key: &ViewKey) -> Result<Option<Change>, AllocError>
-    ensures { IfOk result (λ change. change ≡ change_by key.now (at view_cmp key.now before.now) (at view_cmp key.now after.now)) }
-{
-    change_by(key, row_at(before, key), row_at(after, key))
 }
 
 /// The changes from one view to another, in the order of the keys.
@@ -122,7 +112,8 @@ pub fn changes_of(alloc: Global, before: &View, after: &View) -> Result<Vec<Chan
     let keys = keys_of(alloc, before, after)?;
     let mut all = Vec::new(alloc);
     for key in &keys {
-        push_some(&mut all, change_at(before, after, key)?)?;
+        let change = change_by(key, row_at(before, key), row_at(after, key))?;
+        push_some(&mut all, change)?;
     }
     Ok(all)
 }
@@ -130,37 +121,11 @@ pub fn changes_of(alloc: Global, before: &View, after: &View) -> Result<Vec<Chan
 fn stamps_by(old: Option<&Content>, stamps: Option<&Stamps>, now: Moment, new: &Content) -> Stamps
     ensures { result ≡ stamps_by (option_copied old.entry) (option_copied stamps.entry) now new.now }
 {
-    let fresh = Stamps {
-        created: now,
-        modified: now,
-    };
-    let Some(old) = old else {
-        return fresh;
-    };
-    let Some(stamps) = stamps else {
-        return fresh;
-    };
-    if is_same_content(old, new) {
-        *stamps
-    } else {
-        Stamps {
-            created: stamps.created,
-            modified: now,
-        }
+    match (old, stamps) {
+        (Some(old), Some(stamps)) if is_same_content(old, new) => *stamps,
+        (Some(_), Some(stamps)) => modified_at(now, *stamps),
+        _ => fresh(now),
     }
-}
-
-/// The stamps of a key after a change.
-fn stamps_for(
-    stamps: &Table<ViewKey, Stamps>,
-    before: &View,
-    now: Moment,
-    key: &ViewKey,
-    content: &Content,
-) -> Stamps
-    ensures { result ≡ stamps_by (at view_cmp key.now before.now) (at view_cmp key.now stamps.now) now content.now }
-{
-    stamps_by(row_at(before, key), row_at(stamps, key), now, content)
 }
 
 /// The stamps after a change from one view to another.
@@ -176,7 +141,7 @@ pub fn restamped(
 {
     let mut next = Table::new(alloc);
     for (key, content) in after.iter() {
-        let row = stamps_for(stamps, before, now, key, content);
+        let row = stamps_by(row_at(before, key), row_at(stamps, key), now, content);
         put_row(&mut next, key.clone()?, row)?;
     }
     Ok(next)

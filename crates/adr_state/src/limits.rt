@@ -105,13 +105,11 @@ impl Limits {
         ensures answer { result ≡ is_some (limits_set name.now value self.old) }
         ensures after { self.new ≡ unwrap_or (limits_set name.now value self.old) self.old }
     {
-        match self.with(name, value) {
-            Some(limits) => {
-                *self = limits;
-                true
-            }
-            None => false,
-        }
+        let Some(limits) = self.with(name, value) else {
+            return false;
+        };
+        *self = limits;
+        true
     }
 
     /// The limits with that of a name set.

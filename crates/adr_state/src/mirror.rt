@@ -3,7 +3,6 @@ ghost use Rattle.std.specs.Prelude.{◌≡◌, OnOk, IfOk};
 ghost use Rattle.std.specs.Option.{option_copied};
 ghost use Rattle.std.specs.BTreeMap.{insert_entry};
 ghost use Rattle.adr_state.specs.Keys.{mirror_cmp, at};
-ghost use Rattle.adr_state.specs.Marks.{is_below};
 ghost use Rattle.adr_state.specs.Mirror.{key_of, mark_of, raised, joined, evidence_of};
 
 use crate::base::Mark;
@@ -47,18 +46,6 @@ fn put_mark(
     mirror.put(key, mark)
 }
 
-/// Whether the mirror has less than the mark at the key.
-fn has_less(
-    alloc: Global,
-    mirror: &Table<MirrorKey, Mark>,
-    key: &MirrorKey,
-    mark: &Mark,
-) -> Result<bool, AllocError>
-    ensures { IfOk result (λ less. less ≡ is_below (at mirror_cmp key.now mirror.now) mark.now) }
-{
-    is_below(alloc, mark_at(mirror, key), mark)
-}
-
 /// Raises the mark of a key to the given one, unless it is as great. Where memory runs out the mirror is
 /// left anyhow.
 pub fn raise(
@@ -69,7 +56,7 @@ pub fn raise(
 ) -> Result<(), AllocError>
     ensures { OnOk result (mirror.new ≡ raised mirror.old (key, mark)) }
 {
-    if has_less(alloc, mirror, &key, &mark)? {
+    if is_below(alloc, mark_at(mirror, &key), &mark)? {
         put_mark(mirror, key, mark)?;
     }
     Ok(())

@@ -1,11 +1,10 @@
 //! The setpoints of an event, split over its participants.
 ghost use Rattle.std.specs.Prelude.{◌≡◌, ◌≤◌, length, map, IfOk};
 ghost use Rattle.adr_split.specs.Limits.{AreShares, max_shares};
-ghost use Rattle.adr_split.specs.Parts.{fair_split};
 ghost use Rattle.adr_state.specs.Views.{weights_of, split_interval};
 
 use crate::participants::Participant;
-use adr_objects::{Interval, Period, Setpoint};
+use adr_objects::{Interval, Period};
 use adr_split::split;
 use adr_text::Rows;
 use std::alloc::{AllocError, Global};
@@ -30,19 +29,6 @@ pub(crate) fn weights_of(alloc: Global, ps: &[Participant]) -> Result<Vec<u32>, 
     Ok(weights)
 }
 
-fn split_setpoint(
-    alloc: Global,
-    weights: &[u32],
-    setpoint: Setpoint,
-) -> Result<Rows<i64>, AllocError>
-    requires some { 1 ≤ length weights.now }
-    requires few { length weights.now ≤ max_shares }
-    requires shares { AreShares weights.now }
-    ensures { IfOk result (λ parts. parts ≡ fair_split setpoint weights.now) }
-{
-    Ok(Rows::from_vec(split(alloc, setpoint.get(), weights)?))
-}
-
 fn split_interval(
     alloc: Global,
     weights: &[u32],
@@ -55,7 +41,7 @@ fn split_interval(
 {
     let parts = match interval.setpoint {
         None => None,
-        Some(setpoint) => Some(split_setpoint(alloc, weights, setpoint)?),
+        Some(setpoint) => Some(Rows::from_vec(split(alloc, setpoint.get(), weights)?)),
     };
     Ok(SplitInterval {
         id: interval.id,

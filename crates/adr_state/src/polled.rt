@@ -63,13 +63,6 @@ impl Polled {
     }
 }
 
-/// The same set again, if a scan is open.
-pub(crate) fn same_scan(scan: &Option<Polled>) -> Result<Option<Polled>, AllocError>
-    ensures { IfOk result (λ copy. copy ≡ scan.now) }
-{
-    scan.clone()
-}
-
 fn insert_each(polled: &mut Polled, founds: &[Found]) -> Result<(), AllocError>
     ensures { OnOk result (polled.new ≡ keys_found polled.old founds.now) }
 {
@@ -92,10 +85,7 @@ pub fn poll(scan: &mut Option<Polled>, founds: &[Found]) -> Result<(), AllocErro
 fn is_live(mark: &Mark) -> bool
     ensures { result ≡ is_live mark.now }
 {
-    match mark {
-        Mark::Live(_, _) => true,
-        Mark::Dead => false,
-    }
+    matches!(mark, Mark::Live(_, _))
 }
 
 fn is_probe(polled: &Polled, key: &MirrorKey, mark: &Mark) -> bool

@@ -1,9 +1,8 @@
 //! The whole state.
 ghost use Rattle.std.specs.Prelude.{◌≡◌, IfOk};
 
-use crate::base::{Base, Mark};
+use crate::base::Base;
 use crate::keys::ViewKey;
-use crate::polled::same_scan;
 use crate::portfolio::Portfolio;
 use crate::serial::Serial;
 use adr_objects::Stamps;
@@ -20,17 +19,6 @@ pub struct State {
 /// A state that was read from a desk.
 pub type Image = State;
 
-impl Clone for Mark {
-    ghost is_clone = { λ x y. y ≡ x };
-
-    fn clone(&self) -> Result<Mark, AllocError> {
-        match self {
-            Mark::Live(moment, body) => Ok(Mark::Live(*moment, body.clone()?)),
-            Mark::Dead => Ok(Mark::Dead),
-        }
-    }
-}
-
 impl Base {
     /// The same base again.
     pub fn copy(&self) -> Result<Base, AllocError>
@@ -38,7 +26,7 @@ impl Base {
     {
         Ok(Base {
             mirror: self.mirror.clone()?,
-            scan: same_scan(&self.scan)?,
+            scan: self.scan.clone()?,
             portfolio: self.portfolio.clone()?,
             serial: self.serial,
         })

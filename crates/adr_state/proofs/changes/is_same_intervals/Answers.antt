@@ -1,12 +1,12 @@
 use Rattle.std.proofs.Common.{◌≡◌, ◌∙◌, rules}
+use Rattle.std.specs.Cmp.Lexicographic.{pointwise}
 use Rattle.adr_objects.specs.declared.shown.ShownInterval.{ShownInterval}
 use Rattle.adr_objects.specs.contracts.shown.ShownIntervalPartialEq.TheImpl as interval
 use Rattle.adr_state.specs.Changes.{is_same_interval}
-use Rattle.adr_state.proofs.SameLemmas.{pointwise_same}
 use Rattle.adr_state.proofs.changes.is_same_intervals.Goals as goal
 
 same : (a b : ShownInterval) → interval.eq-value.it a b ≡ is_same_interval a b
 same a b = search rules
 
 pub returns : goal.returns
-returns c = c.eq.ensures ∙ pointwise_same interval.eq-value.it is_same_interval same c.args.a.now c.args.b.now
+returns c = c.eq.ensures ∙ λ i. pointwise (λ a b. same a b i) c.args.a.now c.args.b.now
