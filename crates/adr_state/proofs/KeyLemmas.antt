@@ -18,11 +18,8 @@ kinds_same Program Event = refl
 kinds_same Event Program = refl
 kinds_same Event Event = refl
 
-keys_same : (a b : MirrorKey) → key.cmp-value.it a b ≡ mirror_cmp a b
-keys_same a b = ap (λ (o : Ordering). ordering_then o (id_cmp a.id b.id)) (kinds_same a.kind b.kind)
-
 pub mirror_order : key.cmp-value.it ≡ mirror_cmp
-mirror_order = λ k. λ a b. keys_same a b k
+mirror_order = λ k. λ a b. ordering_then (kinds_same a.kind b.kind k) (id_cmp a.id b.id)
 
 views_same : (a b : ViewKey) → view.cmp-value.it a b ≡ view_cmp a b
 views_same (Known a) (Known b) = refl

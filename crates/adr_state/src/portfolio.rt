@@ -144,13 +144,6 @@ impl Resources {
         self.rows.len()
     }
 
-    /// Whether there are none.
-    pub fn is_empty(&self) -> bool
-        ensures { result ≡ (length self.now == 0) }
-    {
-        self.rows.is_empty()
-    }
-
     /// The resources as a map.
     pub fn rows(&self) -> &Table<Number, Resource>
         ensures { result.now ≡ self.now }
