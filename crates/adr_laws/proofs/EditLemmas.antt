@@ -1,26 +1,15 @@
--- What holds of the base that an edit leaves: a test that refuses leaves none.
+-- What holds of what a decision makes: a test that refuses makes nothing.
 use Rattle.std.proofs.Common.{◌≡◌, Bool, true, false, cond, Option, Some, None, Result, Ok, Err, IfOk, refl}
 use Rattle.std.specs.Prelude.{IfSome}
 use Rattle.adr_text.specs.Refusals.{◌>>=◌, or_else}
 use Rattle.adr_text.specs.declared.refusal.Refusal.{Refusal}
-use Rattle.adr_state.specs.declared.base.Base.{Base}
 use Rattle.adr_state.specs.Names.{if_new, if_free}
-use Rattle.adr_machine.specs.declared.answer.Answer.{Answer}
-
--- the base of an edit that goes well is so
-abbrev pub EndsIn : (Base → Type 0) → Result (Option Answer × Base) Refusal → Type 0
-EndsIn P r = IfOk r (λ e. P e.1)
 
 module _ {A : Type 0} (P : A → Type 0) where
   -- behind a test that refuses
   pub tested : (refuses : Bool) (e : Refusal) (r : Result A Refusal) → (refuses ≡ false → IfOk r P) → IfOk (cond refuses (Err e) r) P
   tested true e r h = tt
   tested false e r h = h refl
-
-  -- behind one that allows
-  pub allowed : (allows : Bool) (e : Refusal) (r : Result A Refusal) → IfOk r P → IfOk (cond allows r (Err e)) P
-  allowed true e r h = h
-  allowed false e r h = tt
 
   -- one after another
   pub first_then : {B : Type 0} (Q : B → Type 0) (r : Result B Refusal) (f : B → Result A Refusal) → IfOk r Q → ((x : B) → Q x → IfOk (f x) P) → IfOk (r >>= f) P

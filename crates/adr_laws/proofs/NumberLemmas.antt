@@ -1,37 +1,40 @@
--- The numbers of vens and resources, after a put, a removal and a filter.
-use Rattle.std.proofs.Common.{◌≡◌, ℕ, ◌+◌, ◌≤◌, Bool, true, false, cond, List, [], ◌∷◌, ◌++◌, filter, Option, Some, Less, Equal, refl, sym, subst, ◌∙◌, arith}
-use Rattle.std.specs.Prelude.{◌≢◌, ◌==◌}
-use Rattle.std.specs.List.{All, AllPairs, AllByRecursion, Contains, IsDistinct}
+-- The numbers and the names of vens and of resources: each row has its own after a put, and where only some are left.
+use Rattle.std.proofs.Common.{◌≡◌, ℕ, ◌+◌, ◌≤◌, Bool, true, false, List, [], ◌∷◌, ◌++◌, ◌⊎◌, inl, inr, Less, sym, ap, subst, ◌∙◌, arith}
+use Rattle.std.specs.Prelude.{◌≢◌, IsSome}
+use Rattle.std.specs.List.{All, AllPairs, Contains}
 use Rattle.std.specs.List.Sorted.{IsStrictlySortedBy}
-use Rattle.std.specs.Ordering.{nat_cmp, is_eq}
-use Rattle.std.specs.Map.{keys_of, remove_entry}
+use Rattle.std.specs.Ordering.{nat_cmp}
+use Rattle.std.specs.Map.{keys_of}
 use Rattle.std.specs.BTreeMap.{insert_entry}
-use Rattle.std.specs.Cmp.{unsigned_Decides}
-use Rattle.std.proofs.lemmas.Cmp.{nat_cmp_total, tied_itself}
-use Rattle.std.proofs.lemmas.List.Elements.{All-from_recursion, recursion_from_All, All-append, All-contains_itself}
+use Rattle.std.specs.Cmp.{unsigned_Decides, unsigned_tied}
+use Rattle.std.proofs.lemmas.Bool.Decides.{Decides-at}
+use Rattle.std.proofs.lemmas.Cmp.{nat_cmp_total, ranked}
+use Rattle.std.proofs.lemmas.List.Elements.{All-head, All-tail, All-weaker, All-append, All-map, All-contains, All-contains_itself}
+use Rattle.std.proofs.lemmas.List.Kept.{AllPairs-cons}
+use Rattle.std.proofs.lemmas.Map.Keys.{sorted_tail, IsDistinct-from_sorted}
+use Rattle.std.proofs.lemmas.Map.Lookups.{exact_unsigned}
 use Rattle.std.proofs.lemmas.Map.Made.{AllPairs-from_IsDistinct}
+use Rattle.std.proofs.lemmas.Map.Views.{All-after_first}
 use Rattle.adr_state.specs.Keys.{at}
-use Rattle.adr_laws.proofs.RowLemmas.{each_weaker, each_both, each_put, each_removed, each_filtered, same_number}
-use Rattle.adr_laws.proofs.OrderLemmas.{each_key, none_sorted, InOrder, in_order_put, in_order_filtered, in_order_removed}
+use Rattle.adr_laws.proofs.OrderLemmas.{InOrder, none_sorted, each_row, in_order_put}
+use Rattle.adr_laws.proofs.RowLemmas.{each_there, from_put, row_found}
+use Rattle.adr_laws.proofs.NameLemmas.{Free}
 
--- ---- a row that is there
+-- ---- numbers
 
--- the row stands in the map
-abbrev pub IsRow : {V : Type 0} → List (ℕ × V) → ℕ × V → Type 0
-IsRow rows r = at nat_cmp r.0 rows ≡ Some r.1
+-- the serial when a number was drawn, or none
+abbrev pub serial_then : ℕ → Bool → ℕ
+serial_then serial true = serial + 1
+serial_then serial false = serial
 
-row_first : {V : Type 0} (P : ℕ × V → Type 0) (n : ℕ) (v : V) (e : ℕ × V) (rest : Option V) (b : Bool) → is_eq (nat_cmp n e.0) ≡ b → P e → (rest ≡ Some v → P (n, v)) → cond b (Some e.1) rest ≡ Some v → P (n, v)
-row_first P n v e rest true tied h further is =
-    let value : e.1 ≡ v = cc in
-    subst P (λ j. (sym (same_number n e.0 tied) j, value j)) h
-row_first P n v e rest false tied h further is = further is
+pub rises : (serial : ℕ) (draws : Bool) → serial ≤ serial_then serial draws
+rises serial true = omega arith
+rises serial false = omega arith
 
--- what holds of each row holds of one that is there
-pub of_row : {V : Type 0} (P : ℕ × V → Type 0) (n : ℕ) (v : V) (rows : List (ℕ × V)) → AllByRecursion P rows → at nat_cmp n rows ≡ Some v → P (n, v)
-of_row P n v [] h is = absurd (cc)
-of_row P n v (e ∷ es) h is = row_first P n v e (at nat_cmp n es) (is_eq (nat_cmp n e.0)) refl h.0 (of_row P n v es h.1) is
-
--- ---- numbers that were drawn
+-- the number of what is put: the next one, where it is drawn, or that of a row that is there
+abbrev pub IsNumber : {V : Type 0} → ℕ → Bool → List (ℕ × V) → ℕ → Type 0
+IsNumber next true rows n = n ≡ next
+IsNumber next false rows n = IsSome (at nat_cmp n rows)
 
 -- a number was drawn, and if it was drawn at first already, it is one of those that were there at first
 pub record IsDrawn (first : ℕ) (had : List ℕ) (serial n : ℕ) : Type 0 where
@@ -39,214 +42,122 @@ pub record IsDrawn (first : ℕ) (had : List ℕ) (serial n : ℕ) : Type 0 wher
   pub up_to_the_serial : n ≤ serial
   pub was_there : n ≤ first → Contains had n
 
--- the rows have drawn numbers, in their order
-pub record AreDrawn {V : Type 0} (first : ℕ) (had : List ℕ) (serial : ℕ) (rows : List (ℕ × V)) : Type 0 where
-  pub each : AllByRecursion (λ r. IsDrawn first had serial r.0) rows
+still_drawn : {first serial next n : ℕ} {had : List ℕ} → serial ≤ next → IsDrawn first had serial n → IsDrawn first had next n
+still_drawn passed h = record { at_least_one = h.at_least_one; up_to_the_serial = omega (arith, h.up_to_the_serial); was_there = h.was_there }
+
+-- ---- rows of one kind
+
+-- they stand in the order of their numbers, which were drawn, and no two have one name
+pub record HaveOwn {V : Type 0} (name : V → List ℕ) (first : ℕ) (had : List ℕ) (serial : ℕ) (rows : List (ℕ × V)) : Type 0 where
   pub in_order : InOrder nat_cmp rows
+  pub drawn : (r : ℕ × V) → Contains rows r → IsDrawn first had serial r.0
+  pub differ : (a b : ℕ × V) → Contains rows a → Contains rows b → name a.1 ≡ name b.1 → a.0 ≡ b.0
 
--- the next number
-pub next_is_drawn : (first : ℕ) (had : List ℕ) (serial : ℕ) → first ≤ serial → IsDrawn first had (serial + 1) (serial + 1)
-next_is_drawn first had serial rose = record { at_least_one = omega arith; up_to_the_serial = omega arith; was_there = λ early. absurd (omega arith) }
-
-still_drawn : (first : ℕ) (had : List ℕ) (serial n : ℕ) → IsDrawn first had serial n → IsDrawn first had (serial + 1) n
-still_drawn first had serial n h = record { at_least_one = h.at_least_one; up_to_the_serial = omega (arith, h.up_to_the_serial); was_there = h.was_there }
-
-module _ {V : Type 0} (first : ℕ) (had : List ℕ) (serial : ℕ) (rows : List (ℕ × V)) (h : AreDrawn first had serial rows) where
-  pub drawn_put : (n : ℕ) (v : V) → IsDrawn first had serial n → AreDrawn first had serial (insert_entry nat_cmp rows n v)
-  drawn_put n v new = record {
-    each = each_put (λ r. IsDrawn first had serial r.0) nat_cmp n v new (λ e tied old. old) rows h.each;
-    in_order = in_order_put nat_cmp nat_cmp_total n v rows h.in_order;
+module _ {V : Type 0} {name : V → List ℕ} {first : ℕ} {had : List ℕ} {serial : ℕ} {rows : List (ℕ × V)} (h : HaveOwn name first had serial rows) where
+  -- some of them, when more numbers were drawn
+  pub some_own : {next : ℕ} (left : List (ℕ × V)) → serial ≤ next → InOrder nat_cmp left → ((r : ℕ × V) → Contains left r → Contains rows r) → HaveOwn name first had next left
+  some_own left passed ordered from = record {
+    in_order = ordered;
+    drawn = λ r there. still_drawn passed (h.drawn r (from r there));
+    differ = λ a b one other. h.differ a b (from a one) (from b other);
   }
 
-  pub drawn_removed : (goes : ℕ → Bool) → AreDrawn first had serial (remove_entry goes rows)
-  drawn_removed goes = record { each = each_removed (λ r. IsDrawn first had serial r.0) goes rows h.each; in_order = in_order_removed nat_cmp goes rows h.in_order }
-
-  pub drawn_filtered : (passes : ℕ × V → Bool) → AreDrawn first had serial (filter passes rows)
-  drawn_filtered passes = record {
-    each = each_filtered (λ r. IsDrawn first had serial r.0) (λ r. IsDrawn first had serial r.0) passes (λ r old kept. old) rows h.each;
-    in_order = in_order_filtered nat_cmp passes rows h.in_order;
-  }
-
-  -- after one number more was drawn
-  pub drawn_before : AreDrawn first had (serial + 1) rows
-  drawn_before = record {
-    each = each_weaker (λ r. IsDrawn first had serial r.0) (λ r. IsDrawn first had (serial + 1) r.0) (λ r old. still_drawn first had serial r.0 old) rows h.each;
+  -- since the rows themselves
+  own_from_here : HaveOwn name serial (keys_of rows) serial rows
+  own_from_here = record {
     in_order = h.in_order;
+    drawn = λ r there.
+        let old : IsDrawn first had serial r.0 = h.drawn r there in
+        record { at_least_one = old.at_least_one; up_to_the_serial = old.up_to_the_serial; was_there = λ early. All-contains (λ x. Contains (keys_of rows) x.0) rows r (each_row (Contains (keys_of rows)) rows (All-contains_itself (keys_of rows))) there };
+    differ = h.differ;
   }
 
-  -- the next number is that of none
-  pub next_is_new : AllByRecursion (λ r. r.0 ≢ (serial + 1)) rows
-  next_is_new = each_weaker (λ r. IsDrawn first had serial r.0) (λ r. r.0 ≢ (serial + 1)) (λ r old. λ same. let low : r.0 ≤ serial = old.up_to_the_serial in omega arith) rows h.each
+  module _ (rose : first ≤ serial) (n : ℕ) (v : V) where
+    number_drawn : (draws : Bool) → IsNumber (serial + 1) draws rows n → IsDrawn first had (serial_then serial draws) n
+    number_drawn true next = record { at_least_one = omega arith; up_to_the_serial = omega arith; was_there = λ early. absurd (omega arith) }
+    number_drawn false found = let row = row_found n rows found in h.drawn (n, row.0) row.1
 
-  pub next_is_free : AllByRecursion (λ r. (serial + 1) ≢ r.0) rows
-  next_is_free = each_weaker (λ r. IsDrawn first had serial r.0) (λ r. (serial + 1) ≢ r.0) (λ r old. λ same. let low : r.0 ≤ serial = old.up_to_the_serial in omega arith) rows h.each
+    names_differ : Free name n (name v) rows → (a b : ℕ × V) → Contains rows a ⊎ (a ≡ (n, v)) → Contains rows b ⊎ (b ≡ (n, v)) → name a.1 ≡ name b.1 → a.0 ≡ b.0
+    names_differ free a b (inl x) (inl y) same = h.differ a b x y same
+    names_differ free a b (inl x) (inr y) same = sym (ap (λ r. r.0) y ∙ free a x (sym (same ∙ ap (λ r. name r.1) y)))
+    names_differ free a b (inr x) (inl y) same = ap (λ r. r.0) x ∙ free b y (sym (ap (λ r. name r.1) x) ∙ same)
+    names_differ free a b (inr x) (inr y) same = ap (λ r. r.0) (x ∙ sym y)
 
--- ---- numbers of two kinds
+    put_own : (draws : Bool) → IsNumber (serial + 1) draws rows n → Free name n (name v) rows → HaveOwn name first had (serial_then serial draws) (insert_entry nat_cmp rows n v)
+    put_own draws number free =
+        let from = from_put exact_unsigned n v rows in
+        record {
+          in_order = in_order_put nat_cmp_total n v rows h.in_order;
+          drawn = λ r there. elim (from r there) [
+            | inl old ↦ still_drawn (rises serial draws) (h.drawn r old)
+            | inr new ↦ subst (λ (x : ℕ × V). IsDrawn first had (serial_then serial draws) x.0) (sym new) (number_drawn draws number)
+          ];
+          differ = λ a b one other. names_differ free a b (from a one) (from b other);
+        }
 
--- no number is of both kinds
-abbrev pub Apart : {V W : Type 0} → List (ℕ × V) → List (ℕ × W) → Type 0
-Apart vs ws = AllByRecursion (λ v. AllByRecursion (λ w. v.0 ≢ w.0) ws) vs
+-- ---- rows of two kinds
 
-module _ {V W : Type 0} (vs : List (ℕ × V)) (ws : List (ℕ × W)) (h : Apart vs ws) where
-  pub apart_put : (n : ℕ) (v : V) → AllByRecursion (λ w. n ≢ w.0) ws → Apart (insert_entry nat_cmp vs n v) ws
-  apart_put n v free = each_put (λ v. AllByRecursion (λ w. v.0 ≢ w.0) ws) nat_cmp n v free (λ e tied old. old) vs h
-
-  pub apart_put_other : (n : ℕ) (w : W) → AllByRecursion (λ v. v.0 ≢ n) vs → Apart vs (insert_entry nat_cmp ws n w)
-  apart_put_other n w free =
-      each_both (λ v. AllByRecursion (λ w. v.0 ≢ w.0) ws) (λ v. v.0 ≢ n) (λ v. AllByRecursion (λ w. v.0 ≢ w.0) (insert_entry nat_cmp ws n w))
-      (λ v others is_free. each_put (λ w. v.0 ≢ w.0) nat_cmp n w is_free (λ e tied old. old) ws others) vs h free
-
-  pub apart_removed : (goes : ℕ → Bool) → Apart (remove_entry goes vs) ws
-  apart_removed goes = each_removed (λ v. AllByRecursion (λ w. v.0 ≢ w.0) ws) goes vs h
-
-  pub apart_removed_other : (goes : ℕ → Bool) → Apart vs (remove_entry goes ws)
-  apart_removed_other goes = each_weaker (λ v. AllByRecursion (λ w. v.0 ≢ w.0) ws) (λ v. AllByRecursion (λ w. v.0 ≢ w.0) (remove_entry goes ws)) (λ v others. each_removed (λ w. v.0 ≢ w.0) goes ws others) vs h
-
-  pub apart_filtered_other : (passes : ℕ × W → Bool) → Apart vs (filter passes ws)
-  apart_filtered_other passes =
-      each_weaker (λ v. AllByRecursion (λ w. v.0 ≢ w.0) ws) (λ v. AllByRecursion (λ w. v.0 ≢ w.0) (filter passes ws)) (λ v others. each_filtered (λ w. v.0 ≢ w.0) (λ w. v.0 ≢ w.0) passes (λ w old kept. old) ws others) vs h
-
-  -- the number of a row of the second kind is that of none of the first
-  pub apart_from_row : (n : ℕ) (w : W) → at nat_cmp n ws ≡ Some w → AllByRecursion (λ v. v.0 ≢ n) vs
-  apart_from_row n w is = each_weaker (λ v. AllByRecursion (λ w. v.0 ≢ w.0) ws) (λ v. v.0 ≢ n) (λ v others. of_row (λ w. v.0 ≢ w.0) n w ws others is) vs h
-
--- ---- the numbers of a base, after each kind of change
-
--- both kinds have drawn numbers, and none is of both; the serial has not fallen
-pub record AreNumbered {V W : Type 0} (first : ℕ) (vs_had ws_had : List ℕ) (serial : ℕ) (vs : List (ℕ × V)) (ws : List (ℕ × W)) : Type 0 where
+-- both have numbers and names of their own, no number is of both, and the serial has not fallen since the first
+pub record BothOwn {V W : Type 0} (name_v : V → List ℕ) (name_w : W → List ℕ) (first : ℕ) (had_v had_w : List ℕ) (serial : ℕ) (vs : List (ℕ × V)) (ws : List (ℕ × W)) : Type 0 where
   pub rose : first ≤ serial
-  pub of_first : AreDrawn first vs_had serial vs
-  pub of_second : AreDrawn first ws_had serial ws
-  pub apart : Apart vs ws
-
-module _ {V W : Type 0} (first : ℕ) (vs_had ws_had : List ℕ) (serial : ℕ) (vs : List (ℕ × V)) (ws : List (ℕ × W)) (h : AreNumbered first vs_had ws_had serial vs ws) where
-  pub first_new : (v : V) → AreNumbered first vs_had ws_had (serial + 1) (insert_entry nat_cmp vs (serial + 1) v) ws
-  first_new v = record {
-    rose = omega (arith, h.rose);
-    of_first = drawn_put first vs_had (serial + 1) vs (drawn_before first vs_had serial vs h.of_first) (serial + 1) v (next_is_drawn first vs_had serial h.rose);
-    of_second = drawn_before first ws_had serial ws h.of_second;
-    apart = apart_put vs ws h.apart (serial + 1) v (next_is_free first ws_had serial ws h.of_second);
-  }
-
-  pub second_new : (w : W) → AreNumbered first vs_had ws_had (serial + 1) vs (insert_entry nat_cmp ws (serial + 1) w)
-  second_new w = record {
-    rose = omega (arith, h.rose);
-    of_first = drawn_before first vs_had serial vs h.of_first;
-    of_second = drawn_put first ws_had (serial + 1) ws (drawn_before first ws_had serial ws h.of_second) (serial + 1) w (next_is_drawn first ws_had serial h.rose);
-    apart = apart_put_other vs ws h.apart (serial + 1) w (next_is_new first vs_had serial vs h.of_first);
-  }
-
-  pub first_again : (n : ℕ) (old v : V) → at nat_cmp n vs ≡ Some old → AreNumbered first vs_had ws_had serial (insert_entry nat_cmp vs n v) ws
-  first_again n old v is = record {
-    rose = h.rose;
-    of_first = drawn_put first vs_had serial vs h.of_first n v (of_row (λ r. IsDrawn first vs_had serial r.0) n old vs h.of_first.each is);
-    of_second = h.of_second;
-    apart = apart_put vs ws h.apart n v (of_row (λ v. AllByRecursion (λ w. v.0 ≢ w.0) ws) n old vs h.apart is);
-  }
-
-  pub second_again : (n : ℕ) (old w : W) → at nat_cmp n ws ≡ Some old → AreNumbered first vs_had ws_had serial vs (insert_entry nat_cmp ws n w)
-  second_again n old w is = record {
-    rose = h.rose;
-    of_first = h.of_first;
-    of_second = drawn_put first ws_had serial ws h.of_second n w (of_row (λ r. IsDrawn first ws_had serial r.0) n old ws h.of_second.each is);
-    apart = apart_put_other vs ws h.apart n w (apart_from_row vs ws h.apart n old is);
-  }
-
-  pub first_gone : (goes : ℕ → Bool) (passes : ℕ × W → Bool) → AreNumbered first vs_had ws_had serial (remove_entry goes vs) (filter passes ws)
-  first_gone goes passes = record {
-    rose = h.rose;
-    of_first = drawn_removed first vs_had serial vs h.of_first goes;
-    of_second = drawn_filtered first ws_had serial ws h.of_second passes;
-    apart = apart_removed vs (filter passes ws) (apart_filtered_other vs ws h.apart passes) goes;
-  }
-
-  pub second_gone : (goes : ℕ → Bool) → AreNumbered first vs_had ws_had serial vs (remove_entry goes ws)
-  second_gone goes = record { rose = h.rose; of_first = h.of_first; of_second = drawn_removed first ws_had serial ws h.of_second goes; apart = apart_removed_other vs ws h.apart goes }
+  pub ones : HaveOwn name_v first had_v serial vs
+  pub others : HaveOwn name_w first had_w serial ws
+  pub apart : (v : ℕ × V) (w : ℕ × W) → Contains vs v → Contains ws w → v.0 ≢ w.0
 
 -- none are there
-pub none_numbered : {V W : Type 0} (first : ℕ) (vs_had ws_had : List ℕ) (serial : ℕ) → first ≤ serial → AreNumbered {V = V} {W = W} first vs_had ws_had serial [] []
-none_numbered first vs_had ws_had serial rose = record {
-  rose = rose;
-  of_first = record { each = tt; in_order = none_sorted nat_cmp };
-  of_second = record { each = tt; in_order = none_sorted nat_cmp };
-  apart = tt;
-}
+pub none_own : {V W : Type 0} {name_v : V → List ℕ} {name_w : W → List ℕ} → BothOwn name_v name_w 0 [] [] 0 [] []
+none_own = record { rose = omega arith; ones = none; others = none; apart = λ v w one other. absurd (omega (arith, one.1)) }
+  where
+    none : {V : Type 0} {name : V → List ℕ} → HaveOwn name 0 [] 0 []
+    none = record { in_order = none_sorted nat_cmp; drawn = λ r there. absurd (omega (arith, there.1)); differ = λ a b one other same. absurd (omega (arith, one.1)) }
 
--- ---- since the base itself
+module _ {V W : Type 0} {name_v : V → List ℕ} {name_w : W → List ℕ} {first : ℕ} {had_v had_w : List ℕ} {serial : ℕ} {vs : List (ℕ × V)} {ws : List (ℕ × W)} (h : BothOwn name_v name_w first had_v had_w serial vs ws) where
+  pub turned : BothOwn name_w name_v first had_w had_v serial ws vs
+  turned = record { rose = h.rose; ones = h.others; others = h.ones; apart = λ w v one other same. h.apart v w other one (sym same) }
 
-each_row : {V : Type 0} (P : ℕ → Type 0) (rows : List (ℕ × V)) → AllByRecursion P (keys_of rows) → AllByRecursion (λ r. P r.0) rows
-each_row P [] h = tt
-each_row P (r ∷ rows) h = (h.0, each_row P rows h.1)
+  pub some_both : {next : ℕ} (vs_left : List (ℕ × V)) (ws_left : List (ℕ × W)) → serial ≤ next → InOrder nat_cmp vs_left → ((v : ℕ × V) → Contains vs_left v → Contains vs v) → InOrder nat_cmp ws_left → ((w : ℕ × W) → Contains ws_left w → Contains ws w) → BothOwn name_v name_w first had_v had_w next vs_left ws_left
+  some_both vs_left ws_left passed vs_ordered vs_from ws_ordered ws_from = record {
+    rose = omega (arith, h.rose);
+    ones = some_own h.ones vs_left passed vs_ordered vs_from;
+    others = some_own h.others ws_left passed ws_ordered ws_from;
+    apart = λ v w one other. h.apart v w (vs_from v one) (ws_from w other);
+  }
 
-drawn_from_here : {V : Type 0} (first : ℕ) (had : List ℕ) (serial : ℕ) (rows : List (ℕ × V)) → AreDrawn first had serial rows → AreDrawn serial (keys_of rows) serial rows
-drawn_from_here first had serial rows h = record {
-  each = each_both (λ r. IsDrawn first had serial r.0) (λ r. Contains (keys_of rows) r.0) (λ r. IsDrawn serial (keys_of rows) serial r.0)
-      (λ r drawn there. record { at_least_one = drawn.at_least_one; up_to_the_serial = drawn.up_to_the_serial; was_there = λ early. there }) rows h.each
-      (each_row (Contains (keys_of rows)) rows (recursion_from_All (Contains (keys_of rows)) (keys_of rows) (All-contains_itself (keys_of rows))));
-  in_order = h.in_order;
-}
+  new_apart : (draws : Bool) (n : ℕ) → IsNumber (serial + 1) draws vs n → (w : ℕ × W) → Contains ws w → n ≢ w.0
+  new_apart true n next w there same = let low : w.0 ≤ serial = (h.others.drawn w there).up_to_the_serial in omega arith
+  new_apart false n found w there same = let row = row_found n vs found in h.apart (n, row.0) w row.1 there same
 
-pub numbered_from_here : {V W : Type 0} (first : ℕ) (vs_had ws_had : List ℕ) (serial : ℕ) (vs : List (ℕ × V)) (ws : List (ℕ × W)) → AreNumbered first vs_had ws_had serial vs ws → AreNumbered serial (keys_of vs) (keys_of ws) serial vs ws
-numbered_from_here first vs_had ws_had serial vs ws h = record {
-  rose = omega arith;
-  of_first = drawn_from_here first vs_had serial vs h.of_first;
-  of_second = drawn_from_here first ws_had serial ws h.of_second;
-  apart = h.apart;
-}
+  pub put_both : (draws : Bool) (n : ℕ) (v : V) → IsNumber (serial + 1) draws vs n → Free name_v n (name_v v) vs → BothOwn name_v name_w first had_v had_w (serial_then serial draws) (insert_entry nat_cmp vs n v) ws
+  put_both draws n v number free = record {
+    rose = omega (arith, h.rose, rises serial draws);
+    ones = put_own h.ones h.rose n v draws number free;
+    others = some_own h.others ws (rises serial draws) h.others.in_order (λ w there. there);
+    apart = λ x w one other. elim (from_put exact_unsigned n v vs x one) [
+      | inl old ↦ h.apart x w old other
+      | inr new ↦ subst (λ (y : ℕ × V). y.0 ≢ w.0) (sym new) (new_apart draws n number w other)
+    ];
+  }
+
+  pub both_from_here : BothOwn name_v name_w serial (keys_of vs) (keys_of ws) serial vs ws
+  both_from_here = record { rose = omega arith; ones = own_from_here h.ones; others = own_from_here h.others; apart = h.apart }
 
 -- ---- as the law says it
 
-differs : (a b : ℕ) (same : Bool) → (a == b) ≡ same → (a ≢ b) → (a == b) ≡ false
-differs a b true is other = absurd (other ((unsigned_Decides a b).0 is))
-differs a b false is other = is
+pub each_number : {V : Type 0} (P : ℕ → Type 0) (rows : List (ℕ × V)) → ((r : ℕ × V) → Contains rows r → P r.0) → All P (keys_of rows)
+each_number P rows h = All-map P (λ r. r.0) rows (each_there (λ r. P r.0) rows h)
 
-below_differs : (a b : ℕ) → nat_cmp a b ≡ Less → a ≢ b
-below_differs a b less same =
-    let one : nat_cmp a a ≡ Less = subst (λ n. nat_cmp a n ≡ Less) (sym same) less in
-    absurd (let never : Equal ≡ Less = sym (tied_itself nat_cmp_total a) ∙ one in cc)
+pairs_differ : (ms ns : List ℕ) → IsStrictlySortedBy nat_cmp ms → IsStrictlySortedBy nat_cmp ns → All (λ m. All (λ n. m ≢ n) ns) ms → AllPairs (λ m n. m ≢ n) (ms ++ ns)
+pairs_differ [] ns one other apart = AllPairs-from_IsDistinct (λ m n. Decides-at _ _ (unsigned_tied m n) (unsigned_Decides m n)) ns (IsDistinct-from_sorted nat_cmp ns other)
+pairs_differ (m ∷ ms) ns one other apart =
+    AllPairs-cons (λ m n. m ≢ n) m (ms ++ ns)
+    (All-append (λ n. m ≢ n) ms ns (All-weaker (λ n. nat_cmp m n ≡ Less) (λ n. m ≢ n) (λ n less same. omega (arith, ranked m n Less (sym less))) ms (All-after_first nat_cmp m ms one)) (All-head (λ m. All (λ n. m ≢ n) ns) m ms apart))
+    (pairs_differ ms ns (sorted_tail nat_cmp m ms one) other (All-tail (λ m. All (λ n. m ≢ n) ns) m ms apart))
 
-abbrev Distinct : List ℕ → Type 0
-Distinct = IsDistinct (λ m n. m == n)
+module _ {V W : Type 0} {name_v : V → List ℕ} {name_w : W → List ℕ} {first : ℕ} {had_v had_w : List ℕ} {serial : ℕ} {vs : List (ℕ × V)} {ws : List (ℕ × W)} (h : BothOwn name_v name_w first had_v had_w serial vs ws) where
+  -- no two rows of either kind have one number
+  pub numbers_differ : AllPairs (λ m n. m ≢ n) (keys_of vs ++ keys_of ws)
+  numbers_differ = pairs_differ (keys_of vs) (keys_of ws) h.ones.in_order h.others.in_order (each_number (λ m. All (λ n. m ≢ n) (keys_of ws)) vs (λ v one. each_number (λ n. v.0 ≢ n) ws (λ w other. h.apart v w one other)))
 
-distinct_in_order : (ks : List ℕ) → IsStrictlySortedBy nat_cmp ks → Distinct ks
-unfolding IsStrictlySortedBy IsDistinct
-distinct_in_order [] h = tt
-distinct_in_order (k ∷ ks) h = (each_key (λ y. nat_cmp k y ≡ Less) (λ y. (k == y) ≡ false) (λ y less. differs k y (k == y) refl (below_differs k y less)) ks h.0, distinct_in_order ks h.1)
-
-joined_each : (P : ℕ → Type 0) (xs ys : List ℕ) → AllByRecursion P xs → AllByRecursion P ys → AllByRecursion P (xs ++ ys)
-joined_each P [] ys h r = r
-joined_each P (x ∷ xs) ys h r = (h.0, joined_each P xs ys h.1 r)
-
-distinct_both : (xs ys : List ℕ) → Distinct xs → Distinct ys → AllByRecursion (λ x. AllByRecursion (λ y. (x == y) ≡ false) ys) xs → Distinct (xs ++ ys)
-unfolding IsDistinct
-distinct_both [] ys hx hy others = hy
-distinct_both (x ∷ xs) ys hx hy others = (joined_each (λ y. (x == y) ≡ false) xs ys hx.0 others.0, distinct_both xs ys hx.1 hy others.1)
-
-keys_each : {V : Type 0} (P : ℕ → Type 0) (rows : List (ℕ × V)) → AllByRecursion (λ r. P r.0) rows → AllByRecursion P (keys_of rows)
-keys_each P [] h = tt
-keys_each P (r ∷ rows) h = (h.0, keys_each P rows h.1)
-
--- what holds of the number of each row holds of each number
-pub of_each : {V : Type 0} (P : ℕ → Type 0) (rows : List (ℕ × V)) → AllByRecursion (λ r. P r.0) rows → All P (keys_of rows)
-of_each P rows h = All-from_recursion P (keys_of rows) (keys_each P rows h)
-
--- no two rows of either kind have one number
-pub numbers_differ : {V W : Type 0} (vs : List (ℕ × V)) (ws : List (ℕ × W)) → InOrder nat_cmp vs → InOrder nat_cmp ws → Apart vs ws → AllPairs (λ m n. m ≢ n) (keys_of vs ++ keys_of ws)
-numbers_differ vs ws first second apart =
-    let others : AllByRecursion (λ v. AllByRecursion (λ y. (v.0 == y) ≡ false) (keys_of ws)) vs =
-    each_weaker (λ v. AllByRecursion (λ w. v.0 ≢ w.0) ws) (λ v. AllByRecursion (λ y. (v.0 == y) ≡ false) (keys_of ws))
-    (λ v h. keys_each (λ y. (v.0 == y) ≡ false) ws (each_weaker (λ w. v.0 ≢ w.0) (λ w. (v.0 == w.0) ≡ false) (λ w other. differs v.0 w.0 (v.0 == w.0) refl other) ws h)) vs apart in
-    AllPairs-from_IsDistinct {eq = λ m n. m == n} unsigned_Decides (keys_of vs ++ keys_of ws)
-    (distinct_both (keys_of vs) (keys_of ws) (distinct_in_order (keys_of vs) first) (distinct_in_order (keys_of ws) second) (keys_each (λ x. AllByRecursion (λ y. (x == y) ≡ false) (keys_of ws)) vs others))
-
--- what holds of each number that was drawn
-pub each_number : {V W : Type 0} (first : ℕ) (vs_had ws_had : List ℕ) (serial : ℕ) (vs : List (ℕ × V)) (ws : List (ℕ × W)) → AreNumbered first vs_had ws_had serial vs ws
-    → (P : ℕ → Type 0) → ((n : ℕ) (had : List ℕ) → IsDrawn first had serial n → P n) → All P (keys_of vs ++ keys_of ws)
-each_number first vs_had ws_had serial vs ws h P from =
-    All-append P (keys_of vs) (keys_of ws)
-    (of_each P vs (each_weaker (λ r. IsDrawn first vs_had serial r.0) (λ r. P r.0) (λ r drawn. from r.0 vs_had drawn) vs h.of_first.each))
-    (of_each P ws (each_weaker (λ r. IsDrawn first ws_had serial r.0) (λ r. P r.0) (λ r drawn. from r.0 ws_had drawn) ws h.of_second.each))
-
-pub each_was_there : {V : Type 0} (first : ℕ) (had : List ℕ) (serial : ℕ) (rows : List (ℕ × V)) → AreDrawn first had serial rows → All (λ n. n ≤ first → Contains had n) (keys_of rows)
-each_was_there first had serial rows h =
-    of_each (λ n. n ≤ first → Contains had n) rows (each_weaker (λ r. IsDrawn first had serial r.0) (λ r. r.0 ≤ first → Contains had r.0) (λ r drawn. drawn.was_there) rows h.each)
+  -- what holds of each number that was drawn
+  pub each_drawn : (P : ℕ → Type 0) → ((n : ℕ) (had : List ℕ) → IsDrawn first had serial n → P n) → All P (keys_of vs ++ keys_of ws)
+  each_drawn P from = All-append P (keys_of vs) (keys_of ws) (each_number P vs (λ v there. from v.0 had_v (h.ones.drawn v there))) (each_number P ws (λ w there. from w.0 had_w (h.others.drawn w there)))

@@ -1,5 +1,5 @@
 -- The commands whose answers stand, and where they lead.
-use Rattle.std.proofs.Common.{◌≡◌, ℕ, Bool, true, false, cond, List, [], ◌∷◌, ◌++◌, length, map, filter, Result, refl, sym, ap, ap₂, ◌∙◌, arith}
+use Rattle.std.proofs.Common.{◌≡◌, Bool, true, false, cond, List, [], ◌∷◌, ◌++◌, length, map, filter, Result, refl, ap, ap₂, ◌∙◌, arith}
 use Rattle.std.specs.Prelude.{MatchBool}
 use Rattle.std.specs.List.{zip}
 use Rattle.std.proofs.lemmas.List.{map-append}
@@ -48,6 +48,11 @@ module _ {A C S : Type 0} (step : S → C → Result (A × S) Refusal) where
   pub state_of-append : (s : S) (cs more : List C) → state_of step s (cs ++ more) ≡ state_of step (state_of step s cs) more
   state_of-append s [] more = refl
   state_of-append s (c ∷ cs) more = state_of-append (state_after s (step s c)) cs more
+
+  -- what each step keeps, a run keeps
+  pub run_keeps : (P : S → Type 0) → ((s : S) (c : C) → P s → P (state_after s (step s c))) → (s : S) (cs : List C) → P s → P (state_of step s cs)
+  run_keeps P keeps s [] h = h
+  run_keeps P keeps s (c ∷ cs) h = run_keeps P keeps (state_after s (step s c)) cs (keeps s c h)
 
   -- ---- a run over a desk
 
