@@ -25,24 +25,24 @@ pub served_by_rank : (a t : ℕ) (w : List ℕ) (e : ℕ × ℕ) → is_served a
 served_by_rank a t w e = ap (λ n. ltb n (missing_of a t w)) (rank_placed a t w e)
 
 -- as many are served as units are missing
-count_of_served : (a : ℕ) (w : List ℕ) → 0 < length w → 0 < sum w → count_by (λ e. is_served a (sum w) w (claim_of a (sum w) e)) (enumerate_from 0 w) ≡ missing_of a (sum w) w
-count_of_served a w l h =
+count_of_served : (a : ℕ) (w : List ℕ) → 0 < sum w → count_by (λ e. is_served a (sum w) w (claim_of a (sum w) e)) (enumerate_from 0 w) ≡ missing_of a (sum w) w
+count_of_served a w h =
     let es : List (ℕ × ℕ) = enumerate_from 0 w in
     let lt : ℕ × ℕ → ℕ × ℕ → Bool = placed_before a (sum w) in
     let k : ℕ = missing_of a (sum w) w in
     count_same (λ e. is_served a (sum w) w (claim_of a (sum w) e)) (λ e. ltb (rank lt es e) k) es (λ i d m. served_by_rank a (sum w) w (get_or es i d))
-    ∙ count_served lt (places_ordered a (sum w)) es (places_apart a (sum w) w) k (omega (arith, length-enumerate_from 0 w, missing_below a w h l))
+    ∙ count_served lt (places_ordered a (sum w)) es (places_apart a (sum w) w) k (omega (arith, length-enumerate_from 0 w, missing_below a w h))
 
-magnitudes : (a : ℕ) (w : List ℕ) → 0 < length w → 0 < sum w → sum_by (magnitude_of a (sum w) w) (enumerate_from 0 w) ≡ a
-magnitudes a w l h =
+magnitudes : (a : ℕ) (w : List ℕ) → 0 < sum w → sum_by (magnitude_of a (sum w) w) (enumerate_from 0 w) ≡ a
+magnitudes a w h =
     sum_with_count (λ (e : ℕ × ℕ). quota_of a (sum w) e.1) (λ e. is_served a (sum w) w (claim_of a (sum w) e)) (enumerate_from 0 w)
-    ∙ omega (arith, sum_placed (quota_of a (sum w)) 0 w, count_of_served a w l h, quotas_within a w h)
+    ∙ omega (arith, sum_placed (quota_of a (sum w)) 0 w, count_of_served a w h, quotas_within a (sum w) w refl h)
 
-sums_up : (v : ℤ) (w : List ℕ) → 0 < length w → 0 < sum w → sum_of_parts (fair_split v w) ≡ v
+sums_up : (v : ℤ) (w : List ℕ) → 0 < sum w → sum_of_parts (fair_split v w) ≡ v
 unfolding fair_split
-sums_up v w l h =
+sums_up v w h =
     signed_sum v (magnitude_of (unsigned_abs v) (sum w) w) (enumerate_from 0 w)
-    ∙ ap (signed_as v) (magnitudes (unsigned_abs v) w l h)
+    ∙ ap (signed_as v) (magnitudes (unsigned_abs v) w h)
     ∙ signed_itself v
 
 pub read_place : (w : List ℕ) (i : ℕ) → i < length w → get_or (enumerate_from 0 w) i (i, 0) ≡ (i, slice_index w i)
@@ -95,7 +95,7 @@ part_each v w = length-map (enumerate_from 0 w) (part_of v w) ∙ length-enumera
 pub fair_split_is_fair : (v : ℤ) (w : List ℕ) → AreWeights w → IsFairSplit v w (fair_split v w)
 fair_split_is_fair v w h = record {
   one_part_each = part_each v w;
-  sums_up = sums_up v w h.some (some_total w h.some h.positive);
+  sums_up = sums_up v w (some_total w h.some h.positive);
   quota_or_one_more = λ i l. quota_or_more _ _ (served_place v w i) (read_part v w i l);
   largest_remainders = λ i j l m p q. served_goes_first v w i j
       (served_from_more _ _ (served_place v w i) (read_part v w i l) p)
@@ -116,16 +116,8 @@ split_by_claim v w c r =
 
 -- the same from what the steps of a split gave
 pub split_by_steps : (v z : ℤ) (w : List ℕ) (a t m : ℕ) (cs : List Claim) (c : Claim) → z ≡ v → a ≡ unsigned_abs v → t ≡ sum w → m ≡ missing_of a t w → cs ≡ claims_of a t w → rank_among cs c ≡ m → map (part_before z t c) (enumerate_from 0 w) ≡ fair_split v w
-split_by_steps v z w a t m cs c ez ea et em ecs r =
-    ap (λ x. map (part_before x t c) (enumerate_from 0 w)) ez
-    ∙ ap (λ n. map (part_before v n c) (enumerate_from 0 w)) et
-    ∙ split_by_claim v w c (
-    ap (λ xs. rank_among xs c) (sym (ecs ∙ ap (λ n. claims_of n t w) ea ∙ ap (λ n. claims_of (unsigned_abs v) n w) et))
-    ∙ r ∙ em ∙ ap (λ n. missing_of n t w) ea ∙ ap (λ n. missing_of (unsigned_abs v) n w) et)
+split_by_steps v z w a t m cs c ez ea et em ecs r = rw (ez, et) (split_by_claim v w c (rw (← ea, ← et, ← ecs, ← em) r))
 
 -- what a split takes are weights
 pub weights_from : (w : List ℕ) → 1 ≤ length w → AreShares w → AreWeights w
-weights_from w l h = record { some = l'; positive = λ k d m. (h k d m).0 }
-  where
-    l' : 0 < length w
-    l' = omega arith
+weights_from w l h = record { some = omega arith; positive = λ k d m. (h k d m).0 }

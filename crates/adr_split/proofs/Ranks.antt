@@ -94,16 +94,16 @@ count_served lt o xs a k l =
     sym (count_same (λ c. lt c t.element) (λ c. ltb (rank lt xs c) k) xs (served_at lt o xs t.element k t.ranked)) ∙ t.ranked
 
 -- a test that k elements pass, each before all that fail, is that the rank is below k
-pub served_alone : {X : Type 0} (lt : X → X → Bool) (o : IsStrictWeakOrder lt) (xs : List X) (k : ℕ) (got : X → Bool) → count_by got xs ≡ k → ((i j : ℕ) (d e : X) → i < length xs → j < length xs → got (get_or xs i d) ≡ true → got (get_or xs j e) ≡ false → lt (get_or xs i d) (get_or xs j e) ≡ true) → All (λ c. got c ≡ ltb (rank lt xs c) k) xs
+pub served_alone : {X : Type 0} (lt : X → X → Bool) (o : IsStrictWeakOrder lt) (xs : List X) (k : ℕ) (got : X → Bool) → count_by got xs ≡ k → All (λ x. All (λ y. got x ≡ true → got y ≡ false → lt x y ≡ true) xs) xs → All (λ c. got c ≡ ltb (rank lt xs c) k) xs
 served_alone lt o xs k got n first i d l =
     ⊎_elim
     (λ h.
     let above = count_lt (λ x. lt x (get_or xs i d)) got xs i d l
-    (λ j e m p. ⊎_elim (λ g. g) (λ g. absurd (both_ways (lt (get_or xs j e) (get_or xs i d)) (o.one_way _ _ (first i j d e l m h g)) p)) (cases_Bool (got (get_or xs j e))))
+    (λ j e m p. ⊎_elim (λ g. g) (λ g. absurd (both_ways (lt (get_or xs j e) (get_or xs i d)) (o.one_way _ _ (first i d l j e m h g)) p)) (cases_Bool (got (get_or xs j e))))
     (not_itself lt o (get_or xs i d)) h in
     h ∙ sym (lt-ltb (rank lt xs (get_or xs i d)) k (omega (arith, n, above))))
     (λ h.
-    let within = count_le got (λ x. lt x (get_or xs i d)) xs (λ j e m p. first j i e d m l p h) in
+    let within = count_le got (λ x. lt x (get_or xs i d)) xs (λ j e m p. first j e m i d l p h) in
     h ∙ sym (le-ltb (rank lt xs (get_or xs i d)) k (omega (arith, n, within))))
     (cases_Bool (got (get_or xs i d)))
 

@@ -1,5 +1,5 @@
 -- A fair split is the computed one.
-use Rattle.std.proofs.Common.{◌≡◌, ℕ, ◌+◌, ◌<◌, Bool, true, false, ltb, eqb, ℤ, pos, List, length, get_or, map, count_by, sum, sum_by, ◌⊎◌, inl, inr, sym, ap, subst, ◌∙◌, arith}
+use Rattle.std.proofs.Common.{◌≡◌, ℕ, ◌+◌, ◌<◌, Bool, true, false, ltb, eqb, ℤ, pos, List, length, get_or, map, count_by, sum, sum_by, ◌⊎◌, inl, inr, refl, sym, ap, subst, ◌∙◌, arith}
 use Rattle.std.specs.Prelude.{unsigned_abs, slice_index}
 use Rattle.std.specs.List.{All, enumerate_from}
 use Rattle.std.proofs.lemmas.Bool.{eqb-true, eqb-false, eq-eqb, ne_eqb}
@@ -65,7 +65,7 @@ count_of_got v w p h f =
     let es : List (ℕ × ℕ) = enumerate_from 0 w in
     omega (
       arith,
-      quotas_within a w h,
+      quotas_within a (sum w) w refl h,
       magnitudes_sum v w p f,
       sum_placed (quota_of a (sum w)) 0 w,
       sum_same (λ (e : ℕ × ℕ). magnitude_at p e.0) (λ (e : ℕ × ℕ). quota_of a (sum w) e.1 + unit (got v w p e)) es (each_magnitude v w p f),
@@ -73,17 +73,14 @@ count_of_got v w p h f =
     )
 
 -- who got one more goes before who did not
-got_goes_first : (v : ℤ) (w : List ℕ) (p : List ℤ) → IsFairSplit v w p → (i j : ℕ) (d e : ℕ × ℕ) → i < length (enumerate_from 0 w) → j < length (enumerate_from 0 w) → got v w p (get_or (enumerate_from 0 w) i d) ≡ true → got v w p (get_or (enumerate_from 0 w) j e) ≡ false → placed_before (unsigned_abs v) (sum w) (get_or (enumerate_from 0 w) i d) (get_or (enumerate_from 0 w) j e) ≡ true
-got_goes_first v w p f i j d e l m h g =
+got_goes_first : (v : ℤ) (w : List ℕ) (p : List ℤ) → IsFairSplit v w p → All (λ x. All (λ y. got v w p x ≡ true → got v w p y ≡ false → placed_before (unsigned_abs v) (sum w) x y ≡ true) (enumerate_from 0 w)) (enumerate_from 0 w)
+got_goes_first v w p f =
     let a : ℕ = unsigned_abs v in
-    let l' : i < length w = omega (arith, l, length-enumerate_from 0 w) in
-    let m' : j < length w = omega (arith, m, length-enumerate_from 0 w) in
-    let h' : got v w p (i, slice_index w i) ≡ true = subst (λ x. got v w p x ≡ true) (placed w i d l) h in
-    let g' : got v w p (j, slice_index w j) ≡ false = subst (λ x. got v w p x ≡ false) (placed w j e m) g in
-    let first = f.largest_remainders i j l' m' (eqb-true _ _ h') (not_more (quota_at v w j) (magnitude_at p j) (f.quota_or_one_more j m') g') in
-    let r : placed_before a (sum w) (i, slice_index w i) (j, slice_index w j) ≡ true = goes_before_from (claim_of a (sum w) (i, slice_index w i)) (claim_of a (sum w) (j, slice_index w j)) first in
-    subst (λ x. placed_before a (sum w) x (get_or (enumerate_from 0 w) j e) ≡ true) (sym (placed w i d l))
-    (subst (λ x. placed_before a (sum w) (i, slice_index w i) x ≡ true) (sym (placed w j e m)) r)
+    let Goes : ℕ × ℕ → ℕ × ℕ → Type 0 = λ x y. got v w p x ≡ true → got v w p y ≡ false → placed_before a (sum w) x y ≡ true in
+    all_placed w (λ x. All (Goes x) (enumerate_from 0 w)) (λ i l.
+    all_placed w (Goes (i, slice_index w i)) (λ j m h g.
+    goes_before_from (claim_of a (sum w) (i, slice_index w i)) (claim_of a (sum w) (j, slice_index w j))
+    (f.largest_remainders i j l m (eqb-true _ _ h) (not_more (quota_at v w j) (magnitude_at p j) (f.quota_or_one_more j m) g))))
 
 pub fair_split_is_one : (v : ℤ) (w : List ℕ) (p : List ℤ) → AreWeights w → IsFairSplit v w p → p ≡ fair_split v w
 unfolding fair_split
