@@ -1,12 +1,10 @@
 -- The order of the mirror's keys that the code has is the one of the definitions.
-use Rattle.std.proofs.Common.{◌≡◌, refl, ap}
-use Rattle.std.specs.declared.cmp.Ordering.{Ordering}
+use Rattle.std.proofs.Common.{◌≡◌, refl}
 use Rattle.std.specs.Ordering.{ordering_then}
 use Rattle.adr_objects.specs.declared.kind.Kind.{Kind}
 use Rattle.adr_objects.specs.declared.kind.Kind.TheVariants.{Program, Event}
 use Rattle.adr_objects.specs.contracts.kind.KindOrd.TheImpl as kind
 use Rattle.adr_state.specs.contracts.keys.MirrorKeyOrd.TheImpl as key
-use Rattle.adr_state.specs.declared.keys.MirrorKey.{MirrorKey}
 use Rattle.adr_state.specs.contracts.keys.ViewKeyOrd.TheImpl as view
 use Rattle.adr_state.specs.declared.keys.ViewKey.{ViewKey}
 use Rattle.adr_state.specs.declared.keys.ViewKey.TheVariants.{Program as Known, Event as Shown}
