@@ -1,12 +1,14 @@
 -- What is decided, where its tests were made.
-use Rattle.std.proofs.Common.{◌≡◌, ℕ, Bool, true, false, List, Option, Some, Result, Ok, Err, refl, sym, ap, ap₂, ◌∙◌}
-use Rattle.std.specs.Prelude.{option_map, option_and_then}
+use Rattle.std.proofs.Common.{◌≡◌, ◌==◌, ℕ, Bool, true, false, not, nat_le, List, length, map, filter, Option, Some, Result, Ok, Err, refl, sym, ap, ap₂, ◌∙◌}
+use Rattle.std.specs.Prelude.{bytes_eq, option_map, option_and_then}
+use Rattle.std.specs.List.{list_any}
 use Rattle.std.specs.Ordering.{nat_cmp}
-use Rattle.adr_text.specs.Refusals.{IsRefusalOf}
+use Rattle.adr_text.specs.Refusals.{◌>>=◌, IsRefusalOf}
 use Rattle.adr_text.specs.declared.refusal.Refusal.{Refusal}
 use Rattle.adr_text.specs.declared.refusal.Refusal.TheVariants.{OutOfMemory, Store}
 use Rattle.adr_state.specs.Keys.{at}
-use Rattle.adr_state.specs.Names.{if_new, if_free}
+use Rattle.adr_state.specs.Names.{is_taken, is_taken_by_another, is_full, if_new, if_free}
+use Rattle.adr_portfolio.proofs.NameLemmas.{taken_is, another_is}
 
 -- the refusal that it is
 pub refused_so : {A : Type 0} (e : Refusal) (r : Result A Refusal) → r ≡ Err e → IsRefusalOf e r
@@ -14,37 +16,30 @@ refused_so OutOfMemory r is = tt
 refused_so Store r is = tt
 refused_so _ r is = is
 
--- a test of a new name and of the room, or of a name anew, that ended so
-abbrev pub NewEnds : Bool → Bool → Result Unit Refusal → Type 0
-NewEnds taken full ended = ◌≡◌ {A = Result Unit Refusal} (if_new {A = Unit {0}} taken full tt) ended
-
-abbrev pub FreeEnds : Bool → Result Unit Refusal → Type 0
-FreeEnds taken ended = ◌≡◌ {A = Result Unit Refusal} (if_free {A = Unit {0}} taken tt) ended
-
-pub new_ends : (taken full is_taken is_full : Bool) (r ended : Result Unit Refusal) → r ≡ if_new {A = Unit {0}} taken full tt → taken ≡ is_taken → full ≡ is_full → r ≡ ended → NewEnds is_taken is_full ended
-new_ends taken full is_taken is_full r ended tested t f end = ap₂ (λ a b. if_new {A = Unit {0}} a b tt) (sym t) (sym f) ∙ sym tested ∙ end
-
-pub free_ends : (taken is_taken : Bool) (r ended : Result Unit Refusal) → r ≡ if_free {A = Unit {0}} taken tt → taken ≡ is_taken → r ≡ ended → FreeEnds is_taken ended
-free_ends taken is_taken r ended tested t end = ap (λ a. if_free {A = Unit {0}} a tt) (sym t) ∙ sym tested ∙ end
-
+-- what is made is made behind the tests, or is refused by them
 module _ {A : Type 0} (made : A) where
-  pub new_passes : (taken full : Bool) → NewEnds taken full (Ok tt) → ◌≡◌ {A = Result A Refusal} (if_new taken full made) (Ok made)
-  new_passes true full is = absurd cc
-  new_passes false true is = absurd cc
-  new_passes false false is = refl
+  new_made : (taken full : Bool) → if_new taken full made ≡ (if_new {A = Unit {0}} taken full tt >>= λ u. Ok made)
+  new_made true full = refl
+  new_made false true = refl
+  new_made false false = refl
 
-  pub new_refused : (taken full : Bool) (e : Refusal) → NewEnds taken full (Err e) → ◌≡◌ {A = Result A Refusal} (if_new taken full made) (Err e)
-  new_refused true full e is = cc
-  new_refused false true e is = cc
-  new_refused false false e is = absurd cc
+  free_made : (taken : Bool) → if_free taken made ≡ (if_free {A = Unit {0}} taken tt >>= λ u. Ok made)
+  free_made true = refl
+  free_made false = refl
 
-  pub free_passes : (taken : Bool) → FreeEnds taken (Ok tt) → ◌≡◌ {A = Result A Refusal} (if_free taken made) (Ok made)
-  free_passes true is = absurd cc
-  free_passes false is = refl
+  -- so it is, where they were made of what the tables tell
+  module _ {V : Type 0} (name_of : V → List ℕ) (name : List ℕ) (rows : List (ℕ × V)) (r ended : Result Unit Refusal) (ends : r ≡ ended) (numbers : List ℕ) (found : numbers ≡ map (λ r. r.0) (filter (λ r. bytes_eq (name_of r.1) name) rows)) where
+    pub new_tested : (limit most count : ℕ) (empty : Bool) → most ≡ limit → count ≡ length rows → empty ≡ (length numbers == 0) → r ≡ if_new {A = Unit {0}} (not empty) (nat_le most count) tt
+        → if_new (is_taken name_of name rows) (is_full limit rows) made ≡ (ended >>= λ u. Ok made)
+    new_tested limit most count empty same counted is tested =
+        new_made (is_taken name_of name rows) (is_full limit rows)
+        ∙ ap (λ (r : Result Unit Refusal). r >>= λ u. Ok made) (ap₂ (λ taken full. if_new {A = Unit {0}} taken full tt) (sym (taken_is name_of name rows numbers found empty is)) (sym (ap₂ nat_le same counted)) ∙ sym tested ∙ ends)
 
-  pub free_refused : (taken : Bool) (e : Refusal) → FreeEnds taken (Err e) → ◌≡◌ {A = Result A Refusal} (if_free taken made) (Err e)
-  free_refused true e is = cc
-  free_refused false e is = absurd cc
+    pub free_tested : (n : ℕ) (shown : List ℕ) (another : Bool) → another ≡ list_any (λ m. not (m == n)) shown → shown ≡ numbers → r ≡ if_free {A = Unit {0}} another tt
+        → if_free (is_taken_by_another name_of n name rows) made ≡ (ended >>= λ u. Ok made)
+    free_tested n shown another is same tested =
+        free_made (is_taken_by_another name_of n name rows)
+        ∙ ap (λ (r : Result Unit Refusal). r >>= λ u. Ok made) (ap (λ taken. if_free {A = Unit {0}} taken tt) (sym (another_is name_of name rows numbers found n shown another is same)) ∙ sym tested ∙ ends)
 
 -- what an id names is there
 pub there : {V : Type 0} (rows : List (ℕ × V)) (o : Option ℕ) (n : ℕ) (found : Option V) (v : V) → o ≡ Some n → found ≡ at nat_cmp n rows → found ≡ Some v → ◌≡◌ {A = Option (ℕ × V)} (option_and_then (λ m. option_map (λ v. (m, v)) (at nat_cmp m rows)) o) (Some (n, v))

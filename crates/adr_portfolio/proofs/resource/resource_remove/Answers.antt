@@ -1,7 +1,6 @@
-use Rattle.std.proofs.Common.{Ok, sym, ap, ◌∙◌, arith}
+use Rattle.std.proofs.Common.{refl, sym, ◌∙◌, arith}
 use Rattle.sqlite.specs.Held.{state}
 use Rattle.sqlite.specs.State.{HasCleanDisk}
-use Rattle.adr_objects.specs.declared.shown.ResourceObject.{ResourceObject}
 use Rattle.adr_state.specs.Portfolios.{PortfolioChange, DropResource}
 use Rattle.adr_portfolio.proofs.resource.resource_remove.Goals as goal
 
@@ -13,6 +12,6 @@ returns-clause-carries g c clean kept was =
     let there_is = sym found.0 ∙ c.in-Some.is in
     record {
       change = DropResource n;
-      decided = rw there_is (ap (λ (object : ResourceObject). Ok (object, DropResource n)) (sym c.in_ok-shown.ensures));
+      decided = rw (there_is, c.in_ok-shown.ensures) refl;
       keeps = c.in_ok-remove_resource.ensures.leaves clean kept found.1;
     }

@@ -1,7 +1,6 @@
-use Rattle.std.proofs.Common.{Ok, sym, ap, ◌∙◌, arith}
+use Rattle.std.proofs.Common.{refl, sym, ◌∙◌, arith}
 use Rattle.sqlite.specs.Held.{state}
 use Rattle.sqlite.specs.State.{HasCleanDisk}
-use Rattle.adr_objects.specs.declared.shown.VenObject.{VenObject}
 use Rattle.adr_state.specs.Digits.{number_in}
 use Rattle.adr_state.specs.Portfolios.{PortfolioChange, DropVen}
 use Rattle.adr_portfolio.proofs.Decisions.{there}
@@ -15,6 +14,6 @@ returns-clause-carries g c clean kept was =
     let there_is = there kept.portfolio.vens (number_in 118 c.args.id.now) n c.in_ok-ven.field-0 c.in-Some-2.ven (sym c.number_in.ensures ∙ c.in-Some.is) found.0 c.in-Some-2.is in
     record {
       change = DropVen n;
-      decided = rw there_is (ap (λ (object : VenObject). Ok (object, DropVen n)) (sym c.shown.ensures));
+      decided = rw (there_is, c.shown.ensures) refl;
       keeps = c.in_ok-remove_ven.ensures.leaves clean kept found.1;
     }
