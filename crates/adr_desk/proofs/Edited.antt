@@ -10,8 +10,9 @@ use Rattle.adr_sql.specs.Calls.{Stays, Commits}
 use Rattle.adr_db.specs.Bases.{HoldsBase}
 use Rattle.adr_db.proofs.Results.{on_then}
 use Rattle.adr_machine.specs.declared.command.Command.{Command}
+use Rattle.adr_machine.specs.Edits.{told_by}
 use Rattle.adr_desk.specs.declared.edit.Edit.{Edit}
-use Rattle.adr_desk.specs.Edits.{edit_by, EditsTables, HoldsEdited, LeftEdited, told}
+use Rattle.adr_desk.specs.Edits.{edit_by, EditsTables, HoldsEdited, LeftEdited}
 use Rattle.adr_desk.specs.Transactions.{Ends}
 use Rattle.adr_desk.proofs.Transactions.{held_now, ends_whole, told_whole, told_ok}
 
@@ -21,7 +22,7 @@ moved P x y same h = subst P same h
 
 module _ {S : Type 0} (g : Ghosts S) (old begun last end : Held S) (limits : Limits) (now : ℕ) (command : Command) (edited : Option Edit) (ended : Result Unit Refusal) (answer : Result (Option Edit) Refusal) where
   -- all of it is committed, or nothing is left of it
-  pub edited_whole : begun ≡ record old { in_transaction = true } → Stays g begun last {T = Option Edit} {E = Refusal} (Ok edited) → EditsTables (edit_by limits now command) (state g begun) (state g last) (Ok edited) → Ends g last end ended → answer ≡ told ended edited
+  pub edited_whole : begun ≡ record old { in_transaction = true } → Stays g begun last {T = Option Edit} {E = Refusal} (Ok edited) → EditsTables (edit_by limits now command) (state g begun) (state g last) (Ok edited) → Ends g last end ended → answer ≡ told_by (λ u. edited) ended
       → Commits g old end (λ s. (base : Base) → HoldsBase base (state g old) → HoldsEdited (edit_by limits now command) base s) (λ trees. (base : Base) → HoldsBase base (state g old) → LeftEdited (edit_by limits now command) base trees) answer
   edited_whole is stays makes ends same =
       rw same (told_whole g old end ended edited _ _ (ends_whole g old last end edited ended _ _ (subst (λ (b : Held S). Stays g b last {T = Option Edit} {E = Refusal} (Ok edited)) is stays)
@@ -31,7 +32,7 @@ module _ {S : Type 0} (g : Ghosts S) (old begun last end : Held S) (limits : Lim
       ends))
 
   -- and what is answered is right for what was committed
-  pub edited_makes : begun ≡ record old { in_transaction = true } → EditsTables (edit_by limits now command) (state g begun) (state g last) (Ok edited) → Ends g last end ended → answer ≡ told ended edited → EditsTables (edit_by limits now command) (state g old) (state g end) answer
+  pub edited_makes : begun ≡ record old { in_transaction = true } → EditsTables (edit_by limits now command) (state g begun) (state g last) (Ok edited) → Ends g last end ended → answer ≡ told_by (λ u. edited) ended → EditsTables (edit_by limits now command) (state g old) (state g end) answer
   edited_makes is makes ends same clean =
       let early : HasCleanDisk (state g last) = omega (arith, ends.crash.clean) in
       rw same (told_ok ended edited _ (on_then ended (λ shown base was.

@@ -27,11 +27,6 @@ IsAnswer before said after (Some (Probes keys)) = said ≡ Some (answer.Probes k
 IsAnswer before said after (Some (Object object)) = said ≡ Some (answer.Object object)
 IsAnswer before said after (Some (Share share)) = said ≡ Some (answer.Share share)
 
--- the answer, where the commit went well
-abbrev pub told : Result Unit Refusal → Option Edit → Result (Option Edit) Refusal
-told (Ok done) edit = Ok edit
-told (Err refusal) edit = Err refusal
-
 -- ---- an edit of the tables
 
 abbrev pub edit_by : Limits → ℕ → Command → Base → Result (Option Answer × Base) Refusal

@@ -1,12 +1,12 @@
 //! What a command decides, carried out on the tables, on a lent transaction.
-ghost use Rattle.std.specs.Prelude.{◌≡◌, false, if◌then◌else◌, [], ◌∷◌, IfOk};
+ghost use Rattle.std.specs.Prelude.{◌≡◌, if◌then◌else◌, [], ◌∷◌, IfOk};
 ghost use Rattle.adr_sql.specs.Calls.{Stays};
 ghost use Rattle.adr_state.specs.Evidence.{gone};
 ghost use Rattle.adr_db.specs.BaseCalls.{Makes, RefusesOn};
-ghost use Rattle.adr_machine.specs.Edits.{decided};
+ghost use Rattle.adr_machine.specs.Edits.{told_by, decided};
 ghost use Rattle.adr_mirror.specs.Raises.{HaveRisen};
 ghost use Rattle.adr_desk.specs.declared.edit.Edit.TheVariants as edit;
-ghost use Rattle.adr_desk.specs.Decisions.{ven_edit, resource_edit, told_as, Decides};
+ghost use Rattle.adr_desk.specs.Decisions.{ven_edit, resource_edit, CarriesOut};
 
 use crate::edit::Edit;
 use adr_db::Meta;
@@ -21,66 +21,41 @@ use adr_text::{Moment, ObjectId, Refusal, Rows};
 use sqlite::{Alter, Transaction};
 use std::alloc::{AllocError, Global};
 
-/// What a command made of the tables, and whether the next number is drawn.
-#[derive(Drop)]
-pub(crate) struct Made {
-    pub edit: Edit,
-    pub draws: bool,
-}
-
-fn raised(keys: Result<Rows<MirrorKey>, Refusal>) -> Result<Made, Refusal>
-    ensures { result ≡ told_as false edit.Raised keys }
+fn raised(keys: Result<Rows<MirrorKey>, Refusal>) -> Result<Edit, Refusal>
+    ensures { result ≡ told_by edit.Raised keys }
 {
-    Ok(Made {
-        edit: Edit::Raised(keys?),
-        draws: false,
-    })
+    Ok(Edit::Raised(keys?))
 }
 
-fn missed(keys: Result<Rows<MirrorKey>, Refusal>) -> Result<Made, Refusal>
-    ensures { result ≡ told_as false edit.Probes keys }
+fn missed(keys: Result<Rows<MirrorKey>, Refusal>) -> Result<Edit, Refusal>
+    ensures { result ≡ told_by edit.Probes keys }
 {
-    Ok(Made {
-        edit: Edit::Probes(keys?),
-        draws: false,
-    })
+    Ok(Edit::Probes(keys?))
 }
 
-fn begun(begun: Result<(), Refusal>) -> Result<Made, Refusal>
-    ensures { result ≡ told_as false (λ _. edit.Done) begun }
+fn begun(begun: Result<(), Refusal>) -> Result<Edit, Refusal>
+    ensures { result ≡ told_by (λ _. edit.Done) begun }
 {
     begun?;
-    Ok(Made {
-        edit: Edit::Done,
-        draws: false,
-    })
+    Ok(Edit::Done)
 }
 
-fn of_ven(draws: bool, ven: Result<VenObject, Refusal>) -> Result<Made, Refusal>
-    ensures { result ≡ told_as draws ven_edit ven }
+fn of_ven(ven: Result<VenObject, Refusal>) -> Result<Edit, Refusal>
+    ensures { result ≡ told_by ven_edit ven }
 {
-    Ok(Made {
-        edit: Edit::Object(Object::Ven(ven?)),
-        draws,
-    })
+    Ok(Edit::Object(Object::Ven(ven?)))
 }
 
-fn of_resource(draws: bool, resource: Result<ResourceObject, Refusal>) -> Result<Made, Refusal>
-    ensures { result ≡ told_as draws resource_edit resource }
+fn of_resource(resource: Result<ResourceObject, Refusal>) -> Result<Edit, Refusal>
+    ensures { result ≡ told_by resource_edit resource }
 {
-    Ok(Made {
-        edit: Edit::Object(Object::Resource(resource?)),
-        draws,
-    })
+    Ok(Edit::Object(Object::Resource(resource?)))
 }
 
-fn of_share(share: Result<ShareObject, Refusal>) -> Result<Made, Refusal>
-    ensures { result ≡ told_as false edit.Share share }
+fn of_share(share: Result<ShareObject, Refusal>) -> Result<Edit, Refusal>
+    ensures { result ≡ told_by edit.Share share }
 {
-    Ok(Made {
-        edit: Edit::Share(share?),
-        draws: false,
-    })
+    Ok(Edit::Share(share?))
 }
 
 // The key alone, or none.
@@ -128,11 +103,10 @@ pub(crate) fn carry_out<S: Alter>(
     number: Number,
     meta: &mut Meta,
     command: &Command,
-) -> Result<Made, Refusal>
+) -> Result<Edit, Refusal>
     ensures same_reference { tx.new.conn.ghost_name ≡ tx.old.conn.ghost_name }
     ensures stays { Stays S.Store tx.old.conn.now tx.new.conn.now result }
-    ensures decides { Decides S.Store tx.old.conn.now tx.new.conn.now (λ base. decided limits.now now number base command.now) meta.old meta.new result }
-    ensures refuses { RefusesOn S.Store tx.old.conn.now tx.new.conn.now (λ base. decided limits.now now number base command.now) meta.old result }
+    ensures carries { CarriesOut S.Store tx.old.conn.now tx.new.conn.now (λ base. decided limits.now now number base command.now) meta.old meta.new result }
 {
     match command {
         Command::Evidence { found, polled } => raised(put_evidence(
@@ -147,22 +121,21 @@ pub(crate) fn carry_out<S: Alter>(
         Command::ScanBegin => begun(scan_begin(tx, meta)),
         Command::ScanEnd => missed(scan_end(alloc, tx, meta)),
         Command::VenAdd { ven, .. } => {
-            of_ven(true, ven_add(alloc, tx, limits, now, number, &ven.name))
+            of_ven(ven_add(alloc, tx, limits, now, number, &ven.name))
         }
-        Command::VenPut { id, ven, .. } => of_ven(false, ven_put(alloc, tx, now, id, &ven.name)),
-        Command::VenRemove { id, .. } => of_ven(false, ven_remove(alloc, tx, id)),
-        Command::ResourceAdd { ven, resource, .. } => of_resource(
-            true,
-            resource_add(alloc, tx, limits, now, number, ven, &resource.name),
-        ),
+        Command::VenPut { id, ven, .. } => of_ven(ven_put(alloc, tx, now, id, &ven.name)),
+        Command::VenRemove { id, .. } => of_ven(ven_remove(alloc, tx, id)),
+        Command::ResourceAdd { ven, resource, .. } => {
+            of_resource(resource_add(alloc, tx, limits, now, number, ven, &resource.name))
+        }
         Command::ResourcePut {
             ven,
             id,
             resource,
             ..
-        } => of_resource(false, resource_put(alloc, tx, now, ven, id, &resource.name)),
+        } => of_resource(resource_put(alloc, tx, now, ven, id, &resource.name)),
         Command::ResourceRemove { ven, id, .. } => {
-            of_resource(false, resource_remove(alloc, tx, ven, id))
+            of_resource(resource_remove(alloc, tx, ven, id))
         }
         Command::ShareSet {
             program,

@@ -7,8 +7,8 @@ ghost use Rattle.adr_sql.specs.Calls.{Stays, Commits};
 ghost use Rattle.adr_db.specs.Kept.{Kept, Keeps, with_meta};
 ghost use Rattle.adr_db.specs.Bases.{HoldsBase};
 ghost use Rattle.adr_db.specs.Calls.{IsOfStore};
-ghost use Rattle.adr_machine.specs.Edits.{edit_of};
-ghost use Rattle.adr_desk.specs.Edits.{edit_by, EditsTables, RefusesEdit, HoldsEdited, LeftEdited, told};
+ghost use Rattle.adr_machine.specs.Edits.{told_by, edit_of};
+ghost use Rattle.adr_desk.specs.Edits.{edit_by, EditsTables, RefusesEdit, HoldsEdited, LeftEdited};
 
 use crate::decided::carry_out;
 use crate::frame::{begin, commit};
@@ -70,7 +70,7 @@ fn numbered<S: Alter>(
 {
     let before = read_meta(tx)?;
     let mut meta = before;
-    let made = carry_out(
+    let edit = carry_out(
         alloc,
         tx,
         limits,
@@ -79,9 +79,9 @@ fn numbered<S: Alter>(
         &mut meta,
         command,
     )?;
-    meta.serial.draw(limits, made.draws)?;
+    meta.serial.draw(limits, command.draws_number())?;
     put_changed(tx, &before, &meta)?;
-    Ok(Some(made.edit))
+    Ok(Some(edit))
 }
 
 /// The command on a lent transaction.
@@ -106,12 +106,10 @@ fn edited<S: Alter>(
 
 // The answer, where the commit went well.
 fn told(ended: Result<(), Refusal>, edit: Option<Edit>) -> Result<Option<Edit>, Refusal>
-    ensures { result ≡ told ended edit }
+    ensures { result ≡ told_by (λ _. edit) ended }
 {
-    match ended {
-        Ok(()) => Ok(edit),
-        Err(refusal) => Err(refusal),
-    }
+    ended?;
+    Ok(edit)
 }
 
 /// The command in a transaction of its own: all of it is committed, or nothing is left of it.

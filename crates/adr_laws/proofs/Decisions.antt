@@ -34,7 +34,7 @@ use Rattle.adr_machine.specs.declared.command.Command.TheVariants.{Evidence, Gon
 use Rattle.adr_state.specs.Serials.{drawn}
 use Rattle.adr_state.specs.declared.limits.Settings.{Settings}
 use Rattle.adr_state.specs.declared.state.State.{State}
-use Rattle.adr_machine.specs.Edits.{Decision, is_allowed, counted, of_portfolio, decided, numbered, edit_of, edit}
+use Rattle.adr_machine.specs.Edits.{Decision, is_allowed, counted, of_portfolio, draws_number, decided, numbered, edit_of, edit}
 use Rattle.adr_machine.specs.Steps.{committed}
 use Rattle.adr_machine.specs.Runs.{step_at}
 use Rattle.adr_laws.specs.Laws.{HasVen, HasResource, evidence_in}
@@ -59,8 +59,8 @@ abbrev pub marks_in : BaseChange → List (MirrorKey × Mark)
 marks_in (JoinMarks marks scan) = marks
 marks_in _ = []
 
-pub record Fits (next : ℕ) (base : Base) (marks : List (MirrorKey × Mark)) (d : Decision) : Type 0 where
-  pub fits : FitsBase next d.draws base d.change
+pub record Fits (next : ℕ) (draws : Bool) (base : Base) (marks : List (MirrorKey × Mark)) (d : Decision) : Type 0 where
+  pub fits : FitsBase next draws base d.change
   pub tells : marks_in d.change ≡ marks
 
 -- ---- what an id names is there
@@ -108,15 +108,15 @@ under_there ven id p =
 -- ---- each command
 
 module _ (limits : Limits) (now next : ℕ) (base : Base) where
-  joining_fits : (marks : List (MirrorKey × Mark)) (scan : Option (List MirrorKey)) → IfOk (joining limits base marks scan) (λ change. Fits next base marks (counted change))
+  joining_fits : (marks : List (MirrorKey × Mark)) (scan : Option (List MirrorKey)) → IfOk (joining limits base marks scan) (λ change. Fits next false base marks (counted change))
   joining_fits marks scan =
-      tested (λ change. Fits next base marks (counted change)) (adds_beyond limits.keys base.mirror (joined base.mirror marks)) refusal.LimitReached (Ok (JoinMarks marks scan)) (λ within. record { fits = tt; tells = refl })
+      tested (λ change. Fits next false base marks (counted change)) (adds_beyond limits.keys base.mirror (joined base.mirror marks)) refusal.LimitReached (Ok (JoinMarks marks scan)) (λ within. record { fits = tt; tells = refl })
 
-  counted_fits : (marks : List (MirrorKey × Mark)) (r : Result BaseChange Refusal) → IfOk r (λ change. Fits next base marks (counted change)) → IfOk (r >>= λ change. Ok (counted change)) (Fits next base marks)
-  counted_fits marks r h = first_then (Fits next base marks) (λ change. Fits next base marks (counted change)) r (λ change. Ok (counted change)) h (λ change fits. fits)
+  counted_fits : (marks : List (MirrorKey × Mark)) (r : Result BaseChange Refusal) → IfOk r (λ change. Fits next false base marks (counted change)) → IfOk (r >>= λ change. Ok (counted change)) (Fits next false base marks)
+  counted_fits marks r h = first_then (Fits next false base marks) (λ change. Fits next false base marks (counted change)) r (λ change. Ok (counted change)) h (λ change fits. fits)
 
   -- of the portfolio
-  portfolio_fits : {A : Type 0} (draws : Bool) (told : A → Answer) (r : Result (A × PortfolioChange) Refusal) → IfOk r (λ d. FitsPortfolio next draws base.portfolio d.1) → IfOk (of_portfolio draws told r) (Fits next base [])
+  portfolio_fits : {A : Type 0} (draws : Bool) (told : A → Answer) (r : Result (A × PortfolioChange) Refusal) → IfOk r (λ d. FitsPortfolio next draws base.portfolio d.1) → IfOk (of_portfolio told r) (Fits next draws base [])
   portfolio_fits draws told (Ok d) h = record { fits = h; tells = refl }
   portfolio_fits draws told (Err e) h = tt
 
@@ -130,12 +130,12 @@ module _ (limits : Limits) (now next : ℕ) (base : Base) where
       first_then (Draws false) fits (weight_set limits key weight base.portfolio) _
       (cond_both (weight == 0) (Ok (DropShare key)) _ (λ r. IfOk r fits) (λ none. tt) (λ some. tested fits (is_beyond limits key base.portfolio.shares) refusal.LimitReached (Ok (PutShare key weight)) (λ room. there))) (λ change h. h))
 
-  pub decided_fits : (c : Command) → IfOk (decided limits now next base c) (Fits next base (evidence_in c))
+  pub decided_fits : (c : Command) → IfOk (decided limits now next base c) (Fits next (draws_number c) base (evidence_in c))
   decided_fits (Evidence founds polled) = counted_fits (evidence_of founds) _ (joining_fits (evidence_of founds) (scan_with base.scan founds polled))
   decided_fits (Gone kind id) = let marks : List (MirrorKey × Mark) = (record { kind = kind; id = id }, Dead) ∷ [] in counted_fits marks _ (joining_fits marks base.scan)
   decided_fits ScanBegin = record { fits = tt; tells = refl }
   decided_fits ScanEnd =
-      first_then (Fits next base []) (λ d. FitsBase next false base d.1 × (marks_in d.1 ≡ [])) (scan_end base) _
+      first_then (Fits next false base []) (λ d. FitsBase next false base d.1 × (marks_in d.1 ≡ [])) (scan_end base) _
       (first_then (λ d. FitsBase next false base d.1 × (marks_in d.1 ≡ [])) (λ polled. Unit {0}) (open_scan base.scan) _ (whatever (open_scan base.scan)) (λ polled h. (tt, refl))) (λ d h. record { fits = h.0; tells = h.1 })
   decided_fits (VenAdd role ven) =
       let p = base.portfolio in
@@ -165,7 +165,7 @@ module _ (limits : Limits) (now next : ℕ) (base : Base) where
 
 -- what every refusal leaves so, and the commit of every decision that fits makes so, is so after a step
 pub after_step : (settings : Settings) (s : State) (c : ℕ × Command) (P : Result (Answer × State) Refusal → Type 0) → ((refusal : Refusal) → P (Err refusal))
-    → ((d : Decision) → Fits (s.base.serial + 1) s.base (evidence_in c.1) d → P (Ok (committed s c.0 d.answer (record (changed d.change s.base) { serial = serial_then s.base.serial d.draws })))) → P (step_at settings s c)
+    → ((d : Decision) → Fits (s.base.serial + 1) (draws_number c.1) s.base (evidence_in c.1) d → P (Ok (committed s c.0 d.answer (record (changed d.change s.base) { serial = serial_then s.base.serial (draws_number c.1) })))) → P (step_at settings s c)
 unfolding edit
 after_step settings s c P refused made =
     cond_both (is_allowed c.1) (edit_of settings.limits c.0 s.base c.1) (Err refusal.Forbidden) (λ e. P (e >>= commit)) (λ allowed. by_decision _ (decided_fits settings.limits c.0 (s.base.serial + 1) s.base c.1)) (λ forbidden. refused refusal.Forbidden)
@@ -180,6 +180,6 @@ after_step settings s c P refused made =
     by_drawn d false is = is
     by_drawn d true is = cond_both (nat_le settings.limits.serial s.base.serial) (Err refusal.Exhausted) (Ok (s.base.serial + 1)) (λ r. P (ending d r)) (λ none. refused refusal.Exhausted) (λ left. is)
 
-    by_decision : (r : Result Decision Refusal) → IfOk r (Fits (s.base.serial + 1) s.base (evidence_in c.1)) → P ((r >>= numbered settings.limits s.base) >>= commit)
-    by_decision (Ok d) fits = by_drawn d d.draws (made d fits)
+    by_decision : (r : Result Decision Refusal) → IfOk r (Fits (s.base.serial + 1) (draws_number c.1) s.base (evidence_in c.1)) → P ((r >>= numbered settings.limits (draws_number c.1) s.base) >>= commit)
+    by_decision (Ok d) fits = by_drawn d (draws_number c.1) (made d fits)
     by_decision (Err refusal) fits = refused refusal

@@ -22,6 +22,7 @@ use Rattle.adr_state.specs.Names.{ven_name, resource_name}
 use Rattle.adr_state.specs.Portfolios.{is_of_ven, PortfolioChange, PutVen, DropVen, PutResource, DropResource, PutShare, DropShare, portfolio_after}
 use Rattle.adr_state.specs.BaseChanges.{BaseChange, JoinMarks, SetScan, ChangePortfolio, changed}
 use Rattle.adr_machine.specs.declared.command.Command.{Command}
+use Rattle.adr_machine.specs.Edits.{draws_number}
 use Rattle.adr_machine.specs.Runs.{state_after, step_at}
 use Rattle.adr_laws.specs.Standing.{state_of}
 use Rattle.adr_laws.specs.Laws.{HasVen, HasResource, NamesDiffer, PortfolioIsWhole, AreDrawnOnce, NumbersAreOwn, NumbersAreDrawnOnce}
@@ -101,7 +102,7 @@ module _ (first : Base) where
 
   run_whole : (settings : Settings) (s : State) (cs : List (ℕ × Command)) → Whole s.base → Whole (state_of (step_at settings) s cs).base
   run_whole settings =
-      run_keeps (step_at settings) (λ s. Whole s.base) (λ s c h. after_step settings s c (λ r. Whole (state_after s r).base) (λ refusal. h) (λ d fits. base_whole d.draws s.base d.change fits.fits h))
+      run_keeps (step_at settings) (λ s. Whole s.base) (λ s c h. after_step settings s c (λ r. Whole (state_after s r).base) (λ refusal. h) (λ d fits. base_whole (draws_number c.1) s.base d.change fits.fits h))
 
 -- the state after a run from an empty start
 abbrev after : Settings → List (ℕ × Command) → State

@@ -18,7 +18,6 @@ use Rattle.adr_objects.specs.declared.shown.ResourceObject.{ResourceObject}
 use Rattle.adr_machine.specs.declared.role.Role.{Role}
 use Rattle.adr_machine.specs.declared.command.Command.{Command}
 use Rattle.adr_machine.specs.declared.command.Command.TheVariants.{Evidence, Gone, ScanBegin, ScanEnd, VenAdd, VenPut, VenRemove, ResourceAdd, ResourcePut, ResourceRemove, ShareSet}
-use Rattle.adr_machine.specs.declared.decided.Decided.{Decided}
 use Rattle.adr_machine.specs.declared.answer.Object.TheVariants as object
 use Rattle.adr_machine.specs.declared.answer.Answer.{Answer}
 use Rattle.adr_machine.specs.declared.answer.Answer.TheVariants as answer
@@ -45,22 +44,27 @@ is_allowed command = option_map_or is_operator (giver_of command) true
 
 -- ---- what it decides
 
--- the answer, none where it is the number of changes; the change of the base; and whether the next number is drawn
+-- whether what it makes is new, so that the next number is drawn for it
+abbrev pub draws_number : Command → Bool
+draws_number (VenAdd role ven) = true
+draws_number (ResourceAdd role ven resource) = true
+draws_number _ = false
+
+-- the answer, none where it is the number of changes; and the change of the base
 pub record Decision : Type 0 where
   pub answer : Option Answer
   pub change : BaseChange
-  pub draws : Bool
 
 -- the changes are counted, and that is the answer
 abbrev pub counted : BaseChange → Decision
-counted change = record { answer = None; change = change; draws = false }
+counted change = record { answer = None; change = change }
 
 abbrev pub answered : Answer → BaseChange → Decision
-answered a change = record { answer = Some a; change = change; draws = false }
+answered a change = record { answer = Some a; change = change }
 
--- the portfolio is changed, and what is answered of it told so; what is new draws the next number
-abbrev pub of_portfolio : {A : Type 0} → Bool → (A → Answer) → Result (A × PortfolioChange) Refusal → Result Decision Refusal
-of_portfolio draws told decision = decision >>= λ d. Ok (record { answer = Some (told d.0); change = ChangePortfolio d.1; draws = draws })
+-- the portfolio is changed, and what is answered of it told so
+abbrev pub of_portfolio : {A : Type 0} → (A → Answer) → Result (A × PortfolioChange) Refusal → Result Decision Refusal
+of_portfolio told decision = decision >>= λ d. Ok (answered (told d.0) (ChangePortfolio d.1))
 
 abbrev pub ven_answer : VenObject → Answer
 ven_answer ven = answer.Object (object.Ven ven)
@@ -74,35 +78,31 @@ decided limits now n base (Evidence founds polled) = evidence limits founds poll
 decided limits now n base (Gone kind id) = gone limits (record { kind = kind; id = id }) base >>= λ change. Ok (counted change)
 decided limits now n base ScanBegin = Ok (answered answer.Done scan_begin)
 decided limits now n base ScanEnd = scan_end base >>= λ d. Ok (answered (answer.Probes d.0) d.1)
-decided limits now n base (VenAdd role ven) = of_portfolio true ven_answer (ven_add limits now n ven.name base.portfolio)
-decided limits now n base (VenPut role id ven) = of_portfolio false ven_answer (ven_put now id ven.name base.portfolio)
-decided limits now n base (VenRemove role id) = of_portfolio false ven_answer (ven_remove id base.portfolio)
-decided limits now n base (ResourceAdd role ven resource) = of_portfolio true resource_answer (resource_add limits now n ven resource.name base.portfolio)
-decided limits now n base (ResourcePut role ven id resource) = of_portfolio false resource_answer (resource_put now ven id resource.name base.portfolio)
-decided limits now n base (ResourceRemove role ven id) = of_portfolio false resource_answer (resource_remove ven id base.portfolio)
-decided limits now n base (ShareSet role program resource share) = of_portfolio false answer.Share (share_set limits program resource share.share base.portfolio)
+decided limits now n base (VenAdd role ven) = of_portfolio ven_answer (ven_add limits now n ven.name base.portfolio)
+decided limits now n base (VenPut role id ven) = of_portfolio ven_answer (ven_put now id ven.name base.portfolio)
+decided limits now n base (VenRemove role id) = of_portfolio ven_answer (ven_remove id base.portfolio)
+decided limits now n base (ResourceAdd role ven resource) = of_portfolio resource_answer (resource_add limits now n ven resource.name base.portfolio)
+decided limits now n base (ResourcePut role ven id resource) = of_portfolio resource_answer (resource_put now ven id resource.name base.portfolio)
+decided limits now n base (ResourceRemove role ven id) = of_portfolio resource_answer (resource_remove ven id base.portfolio)
+decided limits now n base (ShareSet role program resource share) = of_portfolio answer.Share (share_set limits program resource share.share base.portfolio)
 
--- what is told of a decision that was carried out: the answer, and whether a number is drawn
-abbrev pub told_by : {A : Type 0} → Bool → (A → Answer) → Result A Refusal → Result Decided Refusal
-told_by draws told (Ok x) = Ok (record { answer = Some (told x); draws = draws })
-told_by draws told (Err refusal) = Err refusal
+-- what is told of what was carried out
+abbrev pub told_by : {A B : Type 0} → (A → B) → Result A Refusal → Result B Refusal
+told_by told (Ok x) = Ok (told x)
+told_by told (Err refusal) = Err refusal
 
-abbrev pub count_told : Result Unit Refusal → Result Decided Refusal
-count_told (Ok done) = Ok (record { answer = None; draws = false })
-count_told (Err refusal) = Err refusal
-
--- the same, with the base after the change
-abbrev pub carried_out_on : Base → Result Decision Refusal → Result (Decided × Base) Refusal
-carried_out_on base decision = decision >>= λ d. Ok (record { answer = d.answer; draws = d.draws }, changed d.change base)
+-- the answer of a decision, with the base after its change
+abbrev pub carried_out_on : Base → Result Decision Refusal → Result (Option Answer × Base) Refusal
+carried_out_on base decision = decision >>= λ d. Ok (d.answer, changed d.change base)
 
 -- ---- what its edit makes
 
 -- the change is made, and the number is drawn, where one is left
-abbrev pub numbered : Limits → Base → Decision → Result (Option Answer × Base) Refusal
-numbered limits base d = drawn limits base.serial d.draws >>= λ serial. Ok (d.answer, record (changed d.change base) { serial = serial })
+abbrev pub numbered : Limits → Bool → Base → Decision → Result (Option Answer × Base) Refusal
+numbered limits draws base d = drawn limits base.serial draws >>= λ serial. Ok (d.answer, record (changed d.change base) { serial = serial })
 
 abbrev pub edit_of : Limits → ℕ → Base → Command → Result (Option Answer × Base) Refusal
-edit_of limits now base command = decided limits now (base.serial + 1) base command >>= numbered limits base
+edit_of limits now base command = decided limits now (base.serial + 1) base command >>= numbered limits (draws_number command) base
 
 unfoldable pub edit : Limits → ℕ → Base → Command → Result (Option Answer × Base) Refusal
 edit limits now base command = if is_allowed command then edit_of limits now base command else Err Forbidden

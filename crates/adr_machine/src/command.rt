@@ -76,7 +76,7 @@ pub enum Command {
 }
 
 impl Command {
-    ghost use Rattle.adr_machine.specs.Edits.{giver_of, is_allowed};
+    ghost use Rattle.adr_machine.specs.Edits.{giver_of, is_allowed, draws_number};
 
     /// Who gives it, where the operator alone may.
     fn giver(&self) -> Option<&Role>
@@ -105,5 +105,12 @@ impl Command {
             Some(role) => is_operator(role),
             None => true,
         }
+    }
+
+    /// Whether what it makes is new, so that the next number is drawn for it.
+    pub fn draws_number(&self) -> bool
+        ensures { result ≡ draws_number self.now }
+    {
+        matches!(self, Command::VenAdd { .. } | Command::ResourceAdd { .. })
     }
 }

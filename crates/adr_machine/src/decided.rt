@@ -1,10 +1,10 @@
 //! What a command decides, carried out on the base. After a refusal the base is left anyhow.
-ghost use Rattle.std.specs.Prelude.{◌≡◌, ◌≢◌, false, Ok, Err, IfOk, IfErr};
+ghost use Rattle.std.specs.Prelude.{◌≡◌, ◌≢◌, Some, None, Ok, Err, IfOk, IfErr};
 ghost use Rattle.adr_text.specs.declared.refusal.Refusal.TheVariants.{Store};
 ghost use Rattle.adr_text.specs.Refusals.{IsRefusalOf};
 ghost use Rattle.adr_machine.specs.declared.answer.Answer.TheVariants as answer;
 ghost use Rattle.adr_state.specs.Evidence.{scan_begin};
-ghost use Rattle.adr_machine.specs.Edits.{ven_answer, resource_answer, told_by, count_told, answered, decided, carried_out_on};
+ghost use Rattle.adr_machine.specs.Edits.{ven_answer, resource_answer, told_by, answered, decided, carried_out_on};
 
 use crate::answer::{Answer, Object};
 use crate::command::Command;
@@ -18,70 +18,46 @@ use adr_state::{Base, Limits, MirrorKey};
 use adr_text::{Moment, Refusal, Rows};
 use std::alloc::Global;
 
-/// The answer, none where it is the number of changes, and whether the next number is drawn.
-#[derive(Drop)]
-pub(crate) struct Decided {
-    pub answer: Option<Answer>,
-    pub draws: bool,
-}
-
-fn counted(decided: Result<(), Refusal>) -> Result<Decided, Refusal>
-    ensures { result ≡ count_told decided }
+fn counted(decided: Result<(), Refusal>) -> Result<Option<Answer>, Refusal>
+    ensures { result ≡ told_by (λ _. None) decided }
 {
     decided?;
-    Ok(Decided {
-        answer: None,
-        draws: false,
-    })
+    Ok(None)
 }
 
-fn of_scan(decided: Result<Rows<MirrorKey>, Refusal>) -> Result<Decided, Refusal>
-    ensures { result ≡ told_by false answer.Probes decided }
+fn of_scan(decided: Result<Rows<MirrorKey>, Refusal>) -> Result<Option<Answer>, Refusal>
+    ensures { result ≡ told_by (λ keys. Some (answer.Probes keys)) decided }
 {
-    Ok(Decided {
-        answer: Some(Answer::Probes(decided?)),
-        draws: false,
-    })
+    Ok(Some(Answer::Probes(decided?)))
 }
 
-fn of_ven(draws: bool, decided: Result<VenObject, Refusal>) -> Result<Decided, Refusal>
-    ensures { result ≡ told_by draws ven_answer decided }
+fn of_ven(decided: Result<VenObject, Refusal>) -> Result<Option<Answer>, Refusal>
+    ensures { result ≡ told_by (λ ven. Some (ven_answer ven)) decided }
 {
-    Ok(Decided {
-        answer: Some(Answer::Object(Object::Ven(decided?))),
-        draws,
-    })
+    Ok(Some(Answer::Object(Object::Ven(decided?))))
 }
 
-fn of_resource(draws: bool, decided: Result<ResourceObject, Refusal>) -> Result<Decided, Refusal>
-    ensures { result ≡ told_by draws resource_answer decided }
+fn of_resource(decided: Result<ResourceObject, Refusal>) -> Result<Option<Answer>, Refusal>
+    ensures { result ≡ told_by (λ resource. Some (resource_answer resource)) decided }
 {
-    Ok(Decided {
-        answer: Some(Answer::Object(Object::Resource(decided?))),
-        draws,
-    })
+    Ok(Some(Answer::Object(Object::Resource(decided?))))
 }
 
-fn of_share(decided: Result<ShareObject, Refusal>) -> Result<Decided, Refusal>
-    ensures { result ≡ told_by false answer.Share decided }
+fn of_share(decided: Result<ShareObject, Refusal>) -> Result<Option<Answer>, Refusal>
+    ensures { result ≡ told_by (λ share. Some (answer.Share share)) decided }
 {
-    Ok(Decided {
-        answer: Some(Answer::Share(decided?)),
-        draws: false,
-    })
+    Ok(Some(Answer::Share(decided?)))
 }
 
-fn begun(alloc: Global, base: &mut Base) -> Decided
+fn begun(alloc: Global, base: &mut Base) -> Option<Answer>
     ensures { carried_out_on base.old (Ok (answered answer.Done scan_begin)) ≡ Ok (result, base.new) }
 {
     begin_scan(alloc, base);
-    Decided {
-        answer: Some(Answer::Done),
-        draws: false,
-    }
+    Some(Answer::Done)
 }
 
-/// What the command decides, where that is the next number.
+/// What the command decides, where that is the next number: the answer, or none where it is the number of
+/// changes.
 pub(crate) fn carry_out(
     alloc: Global,
     limits: &Limits,
@@ -89,8 +65,8 @@ pub(crate) fn carry_out(
     number: Number,
     base: &mut Base,
     command: &Command,
-) -> Result<Decided, Refusal>
-    ensures ok { IfOk result (λ made. carried_out_on base.old (decided limits.now now number base.old command.now) ≡ Ok (made, base.new)) }
+) -> Result<Option<Answer>, Refusal>
+    ensures ok { IfOk result (λ answer. carried_out_on base.old (decided limits.now now number base.old command.now) ≡ Ok (answer, base.new)) }
     ensures refused { IfErr result (λ refusal. IsRefusalOf refusal (decided limits.now now number base.old command.now)) }
     ensures no_store { result ≢ Err Store }
 {
@@ -102,36 +78,29 @@ pub(crate) fn carry_out(
         Command::Gone { kind, id } => counted(take_deletion(alloc, limits, base, *kind, id)),
         Command::ScanBegin => Ok(begun(alloc, base)),
         Command::ScanEnd => of_scan(end_scan(alloc, base)),
-        Command::VenAdd { ven, .. } => of_ven(
-            true,
-            ven_add(limits, now, number, &mut base.portfolio, &ven.name),
-        ),
-        Command::VenPut { id, ven, .. } => {
-            of_ven(false, ven_put(now, &mut base.portfolio, id, &ven.name))
+        Command::VenAdd { ven, .. } => {
+            of_ven(ven_add(limits, now, number, &mut base.portfolio, &ven.name))
         }
-        Command::VenRemove { id, .. } => of_ven(false, ven_remove(&mut base.portfolio, id)),
-        Command::ResourceAdd { ven, resource, .. } => of_resource(
-            true,
-            resource_add(
-                limits,
-                now,
-                number,
-                &mut base.portfolio,
-                ven,
-                &resource.name,
-            ),
-        ),
+        Command::VenPut { id, ven, .. } => {
+            of_ven(ven_put(now, &mut base.portfolio, id, &ven.name))
+        }
+        Command::VenRemove { id, .. } => of_ven(ven_remove(&mut base.portfolio, id)),
+        Command::ResourceAdd { ven, resource, .. } => of_resource(resource_add(
+            limits,
+            now,
+            number,
+            &mut base.portfolio,
+            ven,
+            &resource.name,
+        )),
         Command::ResourcePut {
             ven,
             id,
             resource,
             ..
-        } => of_resource(
-            false,
-            resource_put(now, &mut base.portfolio, ven, id, &resource.name),
-        ),
+        } => of_resource(resource_put(now, &mut base.portfolio, ven, id, &resource.name)),
         Command::ResourceRemove { ven, id, .. } => {
-            of_resource(false, resource_remove(&mut base.portfolio, ven, id))
+            of_resource(resource_remove(&mut base.portfolio, ven, id))
         }
         Command::ShareSet {
             program,

@@ -24,9 +24,9 @@ fn numbered(
     ensures no_store { result ≢ Err Store }
 {
     let number = base.serial.next();
-    let made = carry_out(alloc, limits, now, number, base, command)?;
-    base.serial.draw(limits, made.draws)?;
-    Ok(made.answer)
+    let answer = carry_out(alloc, limits, now, number, base, command)?;
+    base.serial.draw(limits, command.draws_number())?;
+    Ok(answer)
 }
 
 /// What the command makes of the base: the answer, or none where it is the number of changes.
