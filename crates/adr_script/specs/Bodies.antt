@@ -1,5 +1,5 @@
 -- What is printed: the texts of answers, and of refusals.
-use Rattle.std.specs.Prelude.{ℕ, List, [], ◌∷◌, ◌++◌, codes, Option, Some, None, Result, Ok, Err}
+use Rattle.std.specs.Prelude.{ℕ, List, [], ◌∷◌, ◌++◌, codes, bytes_eq, Result, Ok, Err, if◌then◌else◌}
 use Rattle.std.specs.List.{flat_map}
 use Rattle.std.specs.Fmt.{decimal}
 use Rattle.adr_text.specs.Refusals.{number_of, title_of, status_of}
@@ -14,8 +14,7 @@ use Rattle.adr_machine.specs.declared.answer.Answer.{Answer}
 use Rattle.adr_machine.specs.declared.answer.Answer.TheVariants as answer
 use Rattle.adr_script.specs.declared.asked.Asked.{Asked}
 use Rattle.adr_script.specs.declared.asked.Asked.TheVariants as asked
-use Rattle.adr_machine.specs.declared.command.Command.{Command}
-use Rattle.adr_machine.specs.declared.command.Command.TheVariants.{VenAdd, ResourceAdd}
+use Rattle.adr_machine.specs.Edits.{draws_number}
 
 -- an object
 abbrev pub object_text : Object → List ℕ
@@ -43,23 +42,17 @@ answer_text (answer.List objects) = list_text objects
 answer_text (answer.Share s) = share_text s
 
 -- 201 where an object was posted, else 200
-abbrev pub command_status : Command → ℕ
-command_status (VenAdd role ven) = 201
-command_status (ResourceAdd role ven resource) = 201
-command_status _ = 200
-
 abbrev pub status_for : Asked → ℕ
-status_for (asked.Command c) = command_status c
-status_for (asked.Query q) = 200
-status_for asked.Nothing = 200
+status_for (asked.Command c) = if draws_number c then 201 else 200
+status_for _ = 200
 
 -- `STATUS BODY`
 abbrev pub reply_line : ℕ → List ℕ → List ℕ
-reply_line status body = decimal status ++ codes " " ++ body ++ codes "\n"
+reply_line status body = decimal status ++ (codes " " ++ (body ++ codes "\n"))
 
 -- `changes N skipped M`
 unfoldable pub changes_line : ℕ → ℕ → List ℕ
-changes_line changes skipped = codes "changes " ++ decimal changes ++ codes " skipped " ++ decimal skipped ++ codes "\n"
+changes_line changes skipped = codes "changes " ++ (decimal changes ++ (codes " skipped " ++ (decimal skipped ++ codes "\n")))
 
 unfoldable pub bad_line : List ℕ
 bad_line = codes "bad line\n"
@@ -68,16 +61,13 @@ bad_line = codes "bad line\n"
 unfoldable pub problem_line : Refusal → List ℕ
 problem_line r = reply_line (status_of r) (problem_text r)
 
-abbrev pub refused_by : ℕ → List ℕ → List ℕ
-refused_by number title = codes "refused " ++ decimal number ++ codes " " ++ title ++ codes "\n"
-
 -- a refused step of the node: `refused N TITLE`
 unfoldable pub refused_line : Refusal → List ℕ
-refused_line r = refused_by (number_of r) (title_of r)
+refused_line r = codes "refused " ++ (decimal (number_of r) ++ (codes " " ++ (title_of r ++ codes "\n")))
 
 -- `changes N`
 unfoldable pub count_line : ℕ → List ℕ
-count_line changes = codes "changes " ++ decimal changes ++ codes "\n"
+count_line changes = codes "changes " ++ (decimal changes ++ codes "\n")
 
 unfoldable pub done_line : List ℕ
 done_line = codes "done\n"
@@ -97,19 +87,22 @@ keys_text keys = flat_map key_text keys
 unfoldable pub probes_line : List MirrorKey → List ℕ
 probes_line keys = codes "probes" ++ keys_text keys ++ codes "\n"
 
--- what a request prints
-abbrev pub request_text : ℕ → Result Answer Refusal → List ℕ
-request_text status (Ok answer) = reply_line status (answer_text answer)
-request_text status (Err refusal) = problem_line refusal
+-- how many keys changed; of a page also how many elements were skipped
+abbrev pub count_text : ℕ → Asked → List ℕ
+count_text n (asked.Page command skipped) = changes_line n skipped
+count_text n _ = count_line n
 
--- what an answer to a step of the node prints; of a page also how many elements were skipped
-abbrev pub step_line : Option ℕ → Answer → List ℕ
-step_line (Some skipped) (answer.Changes n) = changes_line n skipped
-step_line None (answer.Changes n) = count_line n
-step_line skipped (answer.Probes keys) = probes_line keys
-step_line skipped _ = done_line
+-- what an answer to a step of the node prints
+abbrev pub step_line : Asked → Answer → List ℕ
+step_line a (answer.Changes n) = count_text n a
+step_line a (answer.Probes keys) = probes_line keys
+step_line a _ = done_line
 
--- what a step of the node prints
-abbrev pub step_text : Option ℕ → Result Answer Refusal → List ℕ
-step_text skipped (Ok answer) = step_line skipped answer
-step_text skipped (Err refusal) = refused_line refusal
+-- what is printed of a refusal: to the node itself, or to a role
+unfoldable pub want_by : List ℕ → Refusal → List ℕ
+want_by role refusal = if bytes_eq role (codes "node") then refused_line refusal else problem_line refusal
+
+-- what is printed of the machine's answer to what was asked
+abbrev pub outcome_text : List ℕ → Asked → Result Answer Refusal → List ℕ
+outcome_text role a (Ok answer) = if bytes_eq role (codes "node") then step_line a answer else reply_line (status_for a) (answer_text answer)
+outcome_text role a (Err refusal) = want_by role refusal

@@ -1,5 +1,5 @@
 -- What the words of a request ask of the machine: none where they ask for nothing that there is.
-use Rattle.std.specs.Prelude.{ℕ, List, [], ◌∷◌, false, codes, Option, Some, None, is_none, unwrap_or, bytes_eq, Result, Ok, Err, if◌then◌else◌}
+use Rattle.std.specs.Prelude.{ℕ, List, [], ◌∷◌, false, codes, Option, Some, None, unwrap_or, bytes_eq, Result, Ok, Err, if◌then◌else◌}
 use Rattle.adr_text.specs.Refusals.{◌>>=◌}
 use Rattle.adr_text.specs.declared.refusal.Refusal.{Refusal}
 use Rattle.adr_schema.specs.Sites.{ven_of, resource_of, share_of}
@@ -14,7 +14,7 @@ use Rattle.adr_machine.specs.declared.query.Query.TheVariants.{Events, Vens, Ven
 use Rattle.adr_script.specs.declared.asked.Asked.{Asked}
 use Rattle.adr_script.specs.declared.asked.Asked.TheVariants as asked
 use Rattle.adr_script.specs.Cuts.{cut}
-use Rattle.adr_script.specs.Words.{text_from, role_from}
+use Rattle.adr_script.specs.Words.{text_from, role_from, if_there}
 use Rattle.adr_script.specs.Queries.{page_asked}
 use Rattle.adr_script.specs.declared.paths.Path.{Path}
 use Rattle.adr_script.specs.declared.paths.Path.TheVariants as path
@@ -75,29 +75,12 @@ asked_by role method path query body =
     else (if bytes_eq method (codes "DELETE") then Ok (asked_by_delete role path)
     else Ok None)))
 
-abbrev pub asked_at : Role → List ℕ → Option Path → List ℕ → List ℕ → Result (Option Asked) Refusal
-asked_at role method None query body = Ok None
-asked_at role method (Some path) query body = asked_by role method path query body
-
--- a path, and behind `?` a query
-abbrev pub asked_on : Role → List ℕ → List ℕ × Option (List ℕ) → List ℕ → Result (Option Asked) Refusal
-asked_on role method (path, query) body = asked_at role method (path_of path) (unwrap_or query []) body
-
-abbrev pub asked_as : Option Role → List ℕ → List ℕ → List ℕ → Result (Option Asked) Refusal
-asked_as None method target body = Ok None
-asked_as (Some role) method target body = asked_on role method (cut 63 target) body
-
--- a role, a method, a target and a body
+-- a role, a method, a path, behind `?` a query, and a body
 unfoldable pub asked_of : List ℕ → List ℕ → List ℕ → List ℕ → Result (Option Asked) Refusal
-asked_of role method target body = if is_none (text_from target) then Ok None else asked_as (role_from role) method target body
-
-abbrev pub targeted : List ℕ → List ℕ → List ℕ × Option (List ℕ) → Result (Option Asked) Refusal
-targeted role method (target, body) = asked_of role method target (unwrap_or body [])
-
-abbrev pub after_method : List ℕ → List ℕ × Option (List ℕ) → Result (Option Asked) Refusal
-after_method role (method, None) = Ok None
-after_method role (method, Some rest) = targeted role method (cut 32 rest)
+asked_of role method target body =
+    if_there (text_from target) (λ text. if_there (role_from role) (λ role.
+    if_there (path_of (cut 63 target).0) (λ path. asked_by role method path (unwrap_or (cut 63 target).1 []) body)))
 
 -- a role, and then `METHOD TARGET` or `METHOD TARGET BODY`
 unfoldable pub request_of : List ℕ → List ℕ → Result (Option Asked) Refusal
-request_of role rest = after_method role (cut 32 rest)
+request_of role rest = if_there (cut 32 rest).1 (λ words. asked_of role (cut 32 rest).0 (cut 32 words).0 (unwrap_or (cut 32 words).1 []))

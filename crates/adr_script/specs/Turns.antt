@@ -11,51 +11,39 @@ use Rattle.adr_machine.specs.Steps.{step, reply}
 use Rattle.adr_machine.specs.Runs.{told, state_after, stands}
 use Rattle.adr_script.specs.declared.asked.Asked.{Asked}
 use Rattle.adr_script.specs.declared.asked.Asked.TheVariants as asked
-use Rattle.adr_script.specs.declared.step.NodeStep.{NodeStep}
 use Rattle.adr_script.specs.Cuts.{cut}
 use Rattle.adr_script.specs.Words.{moment_from}
 use Rattle.adr_script.specs.Requests.{request_of}
 use Rattle.adr_script.specs.Steps.{step_of}
-use Rattle.adr_script.specs.Bodies.{status_for, bad_line, problem_line, refused_line, request_text, step_text}
-
--- what is printed of the machine's answer, and the state after it
-abbrev pub turn_by : (Result Answer Refusal → List ℕ) → State → Result (Answer × State) Refusal → List ℕ × State
-turn_by text s r = (text (told r), state_after s r)
-
--- ---- requests
+use Rattle.adr_script.specs.Bodies.{bad_line, want_by, outcome_text}
 
 -- the machine's answer to what is asked, and the state after it; a query leaves the state
 abbrev pub asked_step : Settings → State → ℕ → Asked → Result (Answer × State) Refusal
 asked_step settings s now (asked.Command c) = step settings s now c
+asked_step settings s now (asked.Page c skipped) = step settings s now c
 asked_step settings s now (asked.Query q) = reply s q >>= λ a. Ok (a, s)
 asked_step settings s now asked.Nothing = Ok (answer.Done, s)
 
--- as the words of the request were read
-abbrev pub request_turn : Settings → State → ℕ → Result (Option Asked) Refusal → List ℕ × State
-request_turn settings s now (Ok None) = (bad_line, s)
-request_turn settings s now (Ok (Some a)) = turn_by (request_text (status_for a)) s (asked_step settings s now a)
-request_turn settings s now (Err refusal) = (problem_line refusal, s)
+-- what is printed of the machine's answer to what is asked, and the state after it
+abbrev pub turn_by : (Result Answer Refusal → List ℕ) → State → Result (Answer × State) Refusal → List ℕ × State
+turn_by text s r = (text (told r), state_after s r)
 
--- ---- steps of the node
+-- what the words of a role, or of the node itself, ask
+unfoldable pub words_asked : List ℕ → List ℕ → Result (Option Asked) Refusal
+words_asked role rest = if bytes_eq role (codes "node") then step_of rest else request_of role rest
 
--- as the words of the step were read
-abbrev pub node_turn : Settings → State → ℕ → Result (Option NodeStep) Refusal → List ℕ × State
-node_turn settings s now (Ok None) = (bad_line, s)
-node_turn settings s now (Ok (Some n)) = turn_by (step_text n.skipped) s (asked_step settings s now n.asked)
-node_turn settings s now (Err refusal) = (refused_line refusal, s)
+-- the turn of a role, or of the node itself, as those words were read
+abbrev pub turn_of : Settings → State → ℕ → List ℕ → Result (Option Asked) Refusal → List ℕ × State
+turn_of settings s now role (Ok None) = (bad_line, s)
+turn_of settings s now role (Ok (Some a)) = turn_by (outcome_text role a) s (asked_step settings s now a)
+turn_of settings s now role (Err refusal) = (want_by role refusal, s)
 
 -- ---- lines
-
--- the step of a role, or of the node itself
-unfoldable pub turn_of : Settings → State → ℕ → List ℕ → List ℕ → List ℕ × State
-turn_of settings s now role rest =
-    if bytes_eq role (codes "node") then node_turn settings s now (step_of rest)
-    else request_turn settings s now (request_of role rest)
 
 abbrev pub turn_at : Settings → State → Option ℕ → List ℕ × Option (List ℕ) → List ℕ × State
 turn_at settings s None role = (bad_line, s)
 turn_at settings s (Some now) (role, None) = (bad_line, s)
-turn_at settings s (Some now) (role, Some rest) = turn_of settings s now role rest
+turn_at settings s (Some now) (role, Some rest) = turn_of settings s now role (words_asked role rest)
 
 abbrev pub turn_behind : Settings → State → List ℕ × Option (List ℕ) → List ℕ × State
 turn_behind settings s (moment, None) = (bad_line, s)
@@ -66,10 +54,6 @@ unfoldable pub line_turn : Settings → State → List ℕ → List ℕ × State
 line_turn settings s line = turn_behind settings s (cut 32 line)
 
 -- ---- want of memory
-
--- what a refused step prints: of the node itself, or of a role
-unfoldable pub want_by : List ℕ → Refusal → List ℕ
-want_by role refusal = if bytes_eq role (codes "node") then refused_line refusal else problem_line refusal
 
 -- the word behind the moment
 abbrev pub role_behind : List ℕ × Option (List ℕ) → List ℕ

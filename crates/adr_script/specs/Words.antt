@@ -1,7 +1,8 @@
 -- The words of a line: moments, ids and roles.
-use Rattle.std.specs.Prelude.{ℕ, List, codes, Option, Some, None, option_map, option_and_then, bytes_eq, if◌then◌else◌}
+use Rattle.std.specs.Prelude.{ℕ, List, codes, Option, Some, None, option_map, option_and_then, bytes_eq, Result, Ok, if◌then◌else◌}
 use Rattle.std.specs.Result.{result_ok}
 use Rattle.std.specs.Str.{is_utf8}
+use Rattle.adr_text.specs.declared.refusal.Refusal.{Refusal}
 use Rattle.adr_text.specs.Ids.{id_of}
 use Rattle.adr_text.specs.Moments.{moment_of}
 use Rattle.adr_machine.specs.declared.role.Role.{Role}
@@ -26,3 +27,8 @@ role_from bytes =
     if bytes_eq bytes (codes "operator") then Some Operator
     else (if bytes_eq bytes (codes "utility") then Some Utility
     else option_map Ven (option_and_then id_from (behind (codes "ven:") bytes)))
+
+-- what is asked by what is there, and nothing where it isn't
+abbrev pub if_there : {A B : Type 0} → Option A → (A → Result (Option B) Refusal) → Result (Option B) Refusal
+if_there None ask = Ok None
+if_there (Some x) ask = ask x

@@ -1,6 +1,6 @@
-//! What a request asks of the machine.
+//! What a line asks of the machine.
 ghost use Rattle.std.specs.Prelude.{◌≡◌};
-ghost use Rattle.adr_script.specs.Bodies.{command_status, status_for};
+ghost use Rattle.adr_script.specs.Bodies.{status_for};
 
 use adr_machine::{Command, Query};
 
@@ -9,16 +9,9 @@ use adr_machine::{Command, Query};
 pub enum Asked {
     Nothing,
     Command(Command),
+    /// A page as a command, and how many of its elements were no versions.
+    Page(Command, u64),
     Query(Query),
-}
-
-fn command_status(command: &Command) -> u16
-    ensures { result ≡ command_status command.now }
-{
-    match command {
-        Command::VenAdd { .. } | Command::ResourceAdd { .. } => 201,
-        _ => 200,
-    }
 }
 
 /// The status of a reply that is no refusal: 201 where an object was posted, else 200.
@@ -26,7 +19,7 @@ pub(crate) fn status_for(asked: &Asked) -> u16
     ensures { result ≡ status_for asked.now }
 {
     match asked {
-        Asked::Command(command) => command_status(command),
-        Asked::Query(_) | Asked::Nothing => 200,
+        Asked::Command(command) if command.draws_number() => 201,
+        _ => 200,
     }
 }

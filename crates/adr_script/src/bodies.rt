@@ -1,7 +1,8 @@
 //! The texts of answers and refusals.
 ghost use Rattle.std.specs.Prelude.{◌≡◌, ◌++◌, IfOk, OnOk, string_bytes};
-ghost use Rattle.adr_script.specs.Bodies.{object_text, list_text, answer_text, reply_line, changes_line, bad_line, problem_line, refused_by, refused_line, count_line, done_line, kind_word, key_text, probes_line, request_text, step_line, step_text};
+ghost use Rattle.adr_script.specs.Bodies.{object_text, list_text, answer_text, reply_line, changes_line, bad_line, problem_line, refused_line, count_line, done_line, kind_word, key_text, probes_line, step_line, want_by, outcome_text};
 
+use crate::asked::{Asked, status_for};
 use adr_machine::{Answer, Object};
 use adr_objects::Kind;
 use adr_schema::{write_event, write_problem, write_resource, write_share, write_ven};
@@ -59,7 +60,7 @@ fn reply_line(alloc: Global, status: u16, body: &str) -> Result<String, AllocErr
 
 /// The line of a refused request: its status and the problem.
 #[tactic(auto, unfolding(crate::specs::Bodies::problem_line))]
-pub(crate) fn problem_line(alloc: Global, refusal: Refusal) -> Result<String, AllocError>
+fn problem_line(alloc: Global, refusal: Refusal) -> Result<String, AllocError>
     ensures { IfOk result (λ text. string_bytes text ≡ problem_line refusal) }
 {
     let body = write_problem(alloc, refusal)?;
@@ -68,16 +69,24 @@ pub(crate) fn problem_line(alloc: Global, refusal: Refusal) -> Result<String, Al
 
 /// `refused N TITLE`.
 #[tactic(auto, unfolding(crate::specs::Bodies::refused_line))]
-pub(crate) fn refused_line(alloc: Global, refusal: Refusal) -> Result<String, AllocError>
+fn refused_line(alloc: Global, refusal: Refusal) -> Result<String, AllocError>
     ensures { IfOk result (λ text. string_bytes text ≡ refused_line refusal) }
 {
-    refused_by(alloc, refusal.number(), refusal.title())
+    let number = refusal.number();
+    let title = refusal.title();
+    format!(in alloc; "refused {number} {title}\n")
 }
 
-fn refused_by(alloc: Global, number: u8, title: &str) -> Result<String, AllocError>
-    ensures { IfOk result (λ text. string_bytes text ≡ refused_by number title.now) }
+/// What is printed of a refusal: to the node itself, or to a role.
+#[tactic(auto, unfolding(crate::specs::Bodies::want_by))]
+pub(crate) fn want_by(alloc: Global, role: &[u8], refusal: Refusal) -> Result<String, AllocError>
+    ensures { IfOk result (λ text. string_bytes text ≡ want_by role.now refusal) }
 {
-    format!(in alloc; "refused {number} {title}\n")
+    if role == b"node".as_slice() {
+        refused_line(alloc, refusal)
+    } else {
+        problem_line(alloc, refusal)
+    }
 }
 
 /// `changes N skipped M`.
@@ -144,41 +153,36 @@ pub(crate) fn bad_line(alloc: Global) -> Result<String, AllocError>
     String::from_str(alloc, "bad line\n")
 }
 
-/// What a request prints.
-pub(crate) fn request_text(
-    alloc: Global,
-    status: u16,
-    outcome: &Result<Answer, Refusal>,
-) -> Result<String, AllocError>
-    ensures { IfOk result (λ text. string_bytes text ≡ request_text status outcome.now) }
+/// What an answer to a step of the node prints; of a page also how many of its elements were skipped.
+fn step_line(alloc: Global, asked: &Asked, answer: &Answer) -> Result<String, AllocError>
+    ensures { IfOk result (λ text. string_bytes text ≡ step_line asked.now answer.now) }
 {
-    match outcome {
-        Ok(answer) => reply_line(alloc, status, answer_text(alloc, answer)?.as_str()),
-        Err(refusal) => problem_line(alloc, *refusal),
-    }
-}
-
-fn step_line(alloc: Global, skipped: Option<u64>, answer: &Answer) -> Result<String, AllocError>
-    ensures { IfOk result (λ text. string_bytes text ≡ step_line skipped answer.now) }
-{
-    match (skipped, answer) {
-        (Some(skipped), Answer::Changes(changes)) => changes_line(alloc, *changes, skipped),
-        (None, Answer::Changes(changes)) => count_line(alloc, *changes),
-        (_, Answer::Probes(keys)) => probes_line(alloc, keys.as_slice()),
+    match answer {
+        Answer::Changes(changes) => match asked {
+            Asked::Page(_, skipped) => changes_line(alloc, *changes, *skipped),
+            _ => count_line(alloc, *changes),
+        },
+        Answer::Probes(keys) => probes_line(alloc, keys.as_slice()),
         _ => done_line(alloc),
     }
 }
 
-/// What a step of the node prints; of a page also how many of its elements were skipped.
-pub(crate) fn step_text(
+/// What is printed of the machine's answer to what was asked.
+pub(crate) fn outcome_text(
     alloc: Global,
-    skipped: Option<u64>,
+    role: &[u8],
+    asked: &Asked,
     outcome: &Result<Answer, Refusal>,
 ) -> Result<String, AllocError>
-    ensures { IfOk result (λ text. string_bytes text ≡ step_text skipped outcome.now) }
+    ensures { IfOk result (λ text. string_bytes text ≡ outcome_text role.now asked.now outcome.now) }
 {
     match outcome {
-        Ok(answer) => step_line(alloc, skipped, answer),
-        Err(refusal) => refused_line(alloc, *refusal),
+        Ok(answer) if role == b"node".as_slice() => step_line(alloc, asked, answer),
+        Ok(answer) => reply_line(
+            alloc,
+            status_for(asked),
+            answer_text(alloc, answer)?.as_str(),
+        ),
+        Err(refusal) => want_by(alloc, role, *refusal),
     }
 }

@@ -1,8 +1,7 @@
 //! Paths, and the ids in them.
 ghost use Rattle.std.specs.Prelude.{◌≡◌, IfOk, codes};
-ghost use Rattle.std.specs.Option.{option_copied};
 ghost use Rattle.adr_script.specs.Cuts.{cut, behind};
-ghost use Rattle.adr_script.specs.Paths.{both_ids, resources_path, under_ven, ven_path, share_path, longer_path, path_of};
+ghost use Rattle.adr_script.specs.Paths.{both_ids, under_ven, ven_path, share_path, longer_path, path_of};
 
 use crate::cuts::{behind, cut};
 use crate::words::id_from;
@@ -52,20 +51,7 @@ fn both_ids(
     }
 }
 
-/// The resources of a ven, or one of them.
-fn resources_path(alloc: Global, ven: &[u8], id: Option<&[u8]>) -> Result<Option<Path>, AllocError>
-    ensures { IfOk result (λ path. path ≡ resources_path ven.now (option_copied id.entry)) }
-{
-    match id {
-        None => Ok(id_from(alloc, ven)?.map(Path::Resources)),
-        Some(id) => match both_ids(alloc, ven, id)? {
-            Some((ven, id)) => Ok(Some(Path::Resource { ven, id })),
-            None => Ok(None),
-        },
-    }
-}
-
-/// What stands behind a ven's id.
+/// Behind a ven's id: its resources, or one of them.
 fn under_ven(alloc: Global, ven: &[u8], rest: &[u8]) -> Result<Option<Path>, AllocError>
     ensures { IfOk result (λ path. path ≡ under_ven ven.now (cut 47 rest.now)) }
 {
@@ -73,7 +59,13 @@ fn under_ven(alloc: Global, ven: &[u8], rest: &[u8]) -> Result<Option<Path>, All
     if word != b"resources".as_slice() {
         return Ok(None);
     }
-    resources_path(alloc, ven, id)
+    match id {
+        None => Ok(id_from(alloc, ven)?.map(Path::Resources)),
+        Some(id) => match both_ids(alloc, ven, id)? {
+            Some((ven, id)) => Ok(Some(Path::Resource { ven, id })),
+            None => Ok(None),
+        },
+    }
 }
 
 /// Behind `/vens/`: a ven, its resources, or one of them.

@@ -2,8 +2,7 @@
 ghost use Rattle.std.specs.Prelude.{◌≡◌, unwrap_or, IfOk};
 ghost use Rattle.std.specs.Option.{option_copied};
 ghost use Rattle.adr_text.specs.Refusals.{Gives};
-ghost use Rattle.adr_script.specs.Requests.{told_asked, notified, asked_by_get, asked_by_post, asked_by_put, asked_by_delete, asked_by, asked_on, asked_of, request_of};
-ghost use Rattle.adr_script.specs.Cuts.{cut};
+ghost use Rattle.adr_script.specs.Requests.{told_asked, notified, asked_by_get, asked_by_post, asked_by_put, asked_by_delete, asked_by, asked_of, request_of};
 
 use crate::asked::Asked;
 use crate::cuts::cut;
@@ -189,24 +188,7 @@ fn asked_by(
     }
 }
 
-/// A path, and behind `?` a query.
-fn asked_on(
-    alloc: Global,
-    role: Role,
-    method: &[u8],
-    target: &[u8],
-    body: &[u8],
-) -> Result<Option<Asked>, Refusal>
-    ensures { Gives (λ a. a) result (asked_on role method.now (cut 63 target.now) body.now) }
-{
-    let (path, query) = cut(b'?', target);
-    let Some(path) = path_of(alloc, path)? else {
-        return Ok(None);
-    };
-    asked_by(alloc, role, method, path, query.unwrap_or(&[]), body)
-}
-
-/// A role, a method, a target and a body.
+/// A role, a method, a path, behind `?` a query, and a body.
 #[tactic(auto, unfolding(crate::specs::Requests::asked_of))]
 fn asked_of(
     alloc: Global,
@@ -223,7 +205,11 @@ fn asked_of(
     let Some(role) = role_from(alloc, role)? else {
         return Ok(None);
     };
-    asked_on(alloc, role, method, target, body)
+    let (path, query) = cut(b'?', target);
+    let Some(path) = path_of(alloc, path)? else {
+        return Ok(None);
+    };
+    asked_by(alloc, role, method, path, query.unwrap_or(&[]), body)
 }
 
 /// What a role asks by `METHOD TARGET` or `METHOD TARGET BODY`, or none where it asks for nothing that

@@ -1,9 +1,8 @@
 //! What a step of the node asks of the machine.
 ghost use Rattle.std.specs.Prelude.{◌≡◌, IfOk};
-ghost use Rattle.std.specs.Option.{option_copied};
 ghost use Rattle.adr_text.specs.Refusals.{Gives};
 ghost use Rattle.adr_script.specs.Cuts.{cut};
-ghost use Rattle.adr_script.specs.Steps.{plain_step, kind_from, page_of_kind, page_step, gone_step, scan_step, count_from, probes_step, step_by, step_of};
+ghost use Rattle.adr_script.specs.Steps.{kind_from, page_step, gone_step, scan_step, probes_step, step_of};
 
 use crate::asked::Asked;
 use crate::cuts::cut;
@@ -13,23 +12,6 @@ use adr_objects::Kind;
 use adr_schema::read_page;
 use adr_text::Refusal;
 use std::alloc::{AllocError, Global};
-
-/// A step of the node.
-#[derive(Drop)]
-pub struct NodeStep {
-    pub asked: Asked,
-    /// Of a page: how many of its elements were no versions.
-    pub skipped: Option<u64>,
-}
-
-fn plain_step(asked: Asked) -> NodeStep
-    ensures { result ≡ plain_step asked }
-{
-    NodeStep {
-        asked,
-        skipped: None,
-    }
-}
 
 fn kind_from(word: &[u8]) -> Option<Kind>
     ensures { result ≡ kind_from word.now }
@@ -43,37 +25,27 @@ fn kind_from(word: &[u8]) -> Option<Kind>
     }
 }
 
-/// A page of objects of a kind, which counts as polled.
-fn page_of_kind(alloc: Global, kind: Option<Kind>, json: &[u8]) -> Result<Option<NodeStep>, Refusal>
-    ensures { Gives (λ s. s) result (page_of_kind kind json.now) }
+/// `page programs JSON` and `page events JSON`: a page of objects of a kind, which counts as polled.
+fn page_step(alloc: Global, rest: &[u8]) -> Result<Option<Asked>, Refusal>
+    ensures { Gives (λ a. a) result (page_step (cut 32 rest.now)) }
 {
-    let Some(kind) = kind else {
+    let (kind, Some(json)) = cut(b' ', rest) else {
+        return Ok(None);
+    };
+    let Some(kind) = kind_from(kind) else {
         return Ok(None);
     };
     let (found, skipped) = read_page(alloc, kind, json)?;
-    let asked = Asked::Command(Command::Evidence {
+    let command = Command::Evidence {
         found,
         polled: true,
-    });
-    Ok(Some(NodeStep {
-        asked,
-        skipped: Some(skipped),
-    }))
-}
-
-/// `page programs JSON` and `page events JSON`.
-fn page_step(alloc: Global, rest: &[u8]) -> Result<Option<NodeStep>, Refusal>
-    ensures { Gives (λ s. s) result (page_step (cut 32 rest.now)) }
-{
-    match cut(b' ', rest) {
-        (kind, Some(json)) => page_of_kind(alloc, kind_from(kind), json),
-        (_, None) => Ok(None),
-    }
+    };
+    Ok(Some(Asked::Page(command, skipped)))
 }
 
 /// `gone programs ID` and `gone events ID`.
-fn gone_step(alloc: Global, rest: &[u8]) -> Result<Option<NodeStep>, AllocError>
-    ensures { IfOk result (λ s. s ≡ gone_step (cut 32 rest.now)) }
+fn gone_step(alloc: Global, rest: &[u8]) -> Result<Option<Asked>, AllocError>
+    ensures { IfOk result (λ a. a ≡ gone_step (cut 32 rest.now)) }
 {
     let (kind, Some(id)) = cut(b' ', rest) else {
         return Ok(None);
@@ -82,52 +54,44 @@ fn gone_step(alloc: Global, rest: &[u8]) -> Result<Option<NodeStep>, AllocError>
         return Ok(None);
     };
     match id_from(alloc, id)? {
-        Some(id) => Ok(Some(plain_step(Asked::Command(Command::Gone { kind, id })))),
+        Some(id) => Ok(Some(Asked::Command(Command::Gone { kind, id }))),
         None => Ok(None),
     }
 }
 
 /// `scan begin` and `scan end`.
-fn scan_step(word: &[u8]) -> Option<NodeStep>
+fn scan_step(word: &[u8]) -> Option<Asked>
     ensures { result ≡ scan_step word.now }
 {
     if word == b"begin".as_slice() {
-        Some(plain_step(Asked::Command(Command::ScanBegin)))
+        Some(Asked::Command(Command::ScanBegin))
     } else if word == b"end".as_slice() {
-        Some(plain_step(Asked::Command(Command::ScanEnd)))
+        Some(Asked::Command(Command::ScanEnd))
     } else {
         None
     }
 }
 
-/// The number of 1 to 9 digits.
-fn count_from(digits: &[u8]) -> Option<u32>
-    ensures { result ≡ count_from digits.now }
+/// `probes N`, with a number of 1 to 9 digits.
+fn probes_step(digits: &[u8]) -> Option<Asked>
+    ensures { result ≡ probes_step digits.now }
 {
     if 9 < digits.len() {
         return None;
     }
-    match number_within(999_999_999, digits) {
-        Some(count) => Some(count as u32),
-        None => None,
-    }
+    let limit = number_within(999_999_999, digits)? as u32;
+    Some(Asked::Query(Query::Probes { limit }))
 }
 
-/// `probes N`.
-fn probes_step(digits: &[u8]) -> Option<NodeStep>
-    ensures { result ≡ probes_step digits.now }
+/// What the words of a step ask, or none where they ask for nothing that there is; `BadShape` where a
+/// page is no JSON array.
+#[tactic(auto, unfolding(crate::specs::Steps::step_of))]
+pub(crate) fn step_of(alloc: Global, words: &[u8]) -> Result<Option<Asked>, Refusal>
+    ensures { Gives (λ a. a) result (step_of words.now) }
 {
-    match count_from(digits) {
-        Some(limit) => Some(plain_step(Asked::Query(Query::Probes { limit }))),
-        None => None,
-    }
-}
-
-/// By the first word.
-#[tactic(auto, unfolding(crate::specs::Steps::step_by))]
-fn step_by(alloc: Global, verb: &[u8], rest: &[u8]) -> Result<Option<NodeStep>, Refusal>
-    ensures { Gives (λ s. s) result (step_by verb.now rest.now) }
-{
+    let (verb, Some(rest)) = cut(b' ', words) else {
+        return Ok(None);
+    };
     if verb == b"page".as_slice() {
         page_step(alloc, rest)
     } else if verb == b"gone".as_slice() {
@@ -138,17 +102,5 @@ fn step_by(alloc: Global, verb: &[u8], rest: &[u8]) -> Result<Option<NodeStep>, 
         Ok(probes_step(rest))
     } else {
         Ok(None)
-    }
-}
-
-/// What the words of a step ask, or none where they ask for nothing that there is; `BadShape` where a
-/// page is no JSON array.
-#[tactic(auto, unfolding(crate::specs::Steps::step_of))]
-pub(crate) fn step_of(alloc: Global, words: &[u8]) -> Result<Option<NodeStep>, Refusal>
-    ensures { Gives (λ s. s) result (step_of words.now) }
-{
-    match cut(b' ', words) {
-        (verb, Some(rest)) => step_by(alloc, verb, rest),
-        (_, None) => Ok(None),
     }
 }

@@ -1,16 +1,15 @@
 //! One line's turn: it is read, taken as a step on a desk, and answered.
-ghost use Rattle.std.specs.Prelude.{◌≡◌, codes, Ok, Some, ℕ, List, IfOk, OnErr, string_bytes};
+ghost use Rattle.std.specs.Prelude.{◌≡◌, Ok, Some, ℕ, List, IfOk, OnErr, string_bytes};
+ghost use Rattle.adr_text.specs.Refusals.{Gives};
 ghost use Rattle.adr_text.specs.declared.refusal.Refusal.TheVariants.{OutOfMemory};
-ghost use Rattle.adr_script.specs.Bodies.{problem_line, refused_line, request_text, step_text};
-ghost use Rattle.adr_script.specs.Requests.{request_of};
-ghost use Rattle.adr_script.specs.Steps.{step_of};
-ghost use Rattle.adr_script.specs.Turns.{asked_step, request_turn, node_turn, turn_of, line_turn, want_by, want_line, Outcome, Takes, MayLeave, IsTurn};
+ghost use Rattle.adr_script.specs.Bodies.{want_by};
+ghost use Rattle.adr_script.specs.Turns.{asked_step, words_asked, turn_of, line_turn, want_line, Outcome, Takes, MayLeave, IsTurn};
 
-use crate::asked::{Asked, status_for};
-use crate::bodies::{bad_line, problem_line, refused_line, request_text, step_text};
+use crate::asked::Asked;
+use crate::bodies::{bad_line, outcome_text, want_by};
 use crate::cuts::cut;
 use crate::request::request_of;
-use crate::step::{NodeStep, step_of};
+use crate::step::step_of;
 use crate::words::moment_from;
 use adr_machine::{Answer, Desk};
 use adr_text::{Moment, Refusal};
@@ -23,7 +22,7 @@ fn take_asked<D: Desk>(desk: &mut D, now: Moment, asked: &Asked) -> Result<Answe
     ensures same_settings { D.settings desk.new ≡ D.settings desk.old }
 {
     match asked {
-        Asked::Command(command) => desk.apply(now, command),
+        Asked::Command(command) | Asked::Page(command, _) => desk.apply(now, command),
         Asked::Query(query) => desk.ask(query),
         Asked::Nothing => Ok(Answer::Done),
     }
@@ -34,75 +33,31 @@ fn answer_asked<D: Desk>(
     alloc: Global,
     desk: &mut D,
     now: Moment,
+    role: &[u8],
     asked: &Asked,
 ) -> Result<String, AllocError>
-    ensures ok { IfOk result (λ out. D.is_sound desk.new → Takes problem_line (D.state desk.old) (request_turn (D.settings desk.old) (D.state desk.old) now (Ok (Some asked.now))) (string_bytes out) (D.state desk.new)) }
-    ensures err { OnErr result (D.is_sound desk.new → MayLeave (D.state desk.old) (request_turn (D.settings desk.old) (D.state desk.old) now (Ok (Some asked.now))) (D.state desk.new)) }
+    ensures ok { IfOk result (λ out. D.is_sound desk.new → Takes (want_by role.now) (D.state desk.old) (turn_of (D.settings desk.old) (D.state desk.old) now role.now (Ok (Some asked.now))) (string_bytes out) (D.state desk.new)) }
+    ensures err { OnErr result (D.is_sound desk.new → MayLeave (D.state desk.old) (turn_of (D.settings desk.old) (D.state desk.old) now role.now (Ok (Some asked.now))) (D.state desk.new)) }
     ensures was_sound { D.is_sound desk.new → D.is_sound desk.old }
     ensures same_settings { D.settings desk.new ≡ D.settings desk.old }
 {
-    let status = status_for(asked);
     let outcome = take_asked(desk, now, asked);
-    request_text(alloc, status, &outcome)
+    outcome_text(alloc, role, asked, &outcome)
 }
 
-/// The turn of a request.
-fn answer_request<D: Desk>(
-    alloc: Global,
-    desk: &mut D,
-    now: Moment,
-    role: &[u8],
-    rest: &[u8],
-) -> Result<String, AllocError>
-    ensures ok { IfOk result (λ out. D.is_sound desk.new → Takes problem_line (D.state desk.old) (request_turn (D.settings desk.old) (D.state desk.old) now (request_of role.now rest.now)) (string_bytes out) (D.state desk.new)) }
-    ensures err { OnErr result (D.is_sound desk.new → MayLeave (D.state desk.old) (request_turn (D.settings desk.old) (D.state desk.old) now (request_of role.now rest.now)) (D.state desk.new)) }
-    ensures was_sound { D.is_sound desk.new → D.is_sound desk.old }
-    ensures same_settings { D.settings desk.new ≡ D.settings desk.old }
+/// What the words of a role, or of the node itself, ask.
+#[tactic(auto, unfolding(crate::specs::Turns::words_asked))]
+fn words_asked(alloc: Global, role: &[u8], rest: &[u8]) -> Result<Option<Asked>, Refusal>
+    ensures { Gives (λ a. a) result (words_asked role.now rest.now) }
 {
-    match request_of(alloc, role, rest) {
-        Ok(Some(asked)) => answer_asked(alloc, desk, now, &asked),
-        Ok(None) => bad_line(alloc),
-        Err(refusal) => problem_line(alloc, refusal),
-    }
-}
-
-/// Takes a step of the node, and prints it.
-fn answer_step<D: Desk>(
-    alloc: Global,
-    desk: &mut D,
-    now: Moment,
-    step: &NodeStep,
-) -> Result<String, AllocError>
-    ensures ok { IfOk result (λ out. D.is_sound desk.new → Takes refused_line (D.state desk.old) (node_turn (D.settings desk.old) (D.state desk.old) now (Ok (Some step.now))) (string_bytes out) (D.state desk.new)) }
-    ensures err { OnErr result (D.is_sound desk.new → MayLeave (D.state desk.old) (node_turn (D.settings desk.old) (D.state desk.old) now (Ok (Some step.now))) (D.state desk.new)) }
-    ensures was_sound { D.is_sound desk.new → D.is_sound desk.old }
-    ensures same_settings { D.settings desk.new ≡ D.settings desk.old }
-{
-    let outcome = take_asked(desk, now, &step.asked);
-    step_text(alloc, step.skipped, &outcome)
-}
-
-/// The turn of a step of the node.
-fn answer_node<D: Desk>(
-    alloc: Global,
-    desk: &mut D,
-    now: Moment,
-    words: &[u8],
-) -> Result<String, AllocError>
-    ensures ok { IfOk result (λ out. D.is_sound desk.new → Takes refused_line (D.state desk.old) (node_turn (D.settings desk.old) (D.state desk.old) now (step_of words.now)) (string_bytes out) (D.state desk.new)) }
-    ensures err { OnErr result (D.is_sound desk.new → MayLeave (D.state desk.old) (node_turn (D.settings desk.old) (D.state desk.old) now (step_of words.now)) (D.state desk.new)) }
-    ensures was_sound { D.is_sound desk.new → D.is_sound desk.old }
-    ensures same_settings { D.settings desk.new ≡ D.settings desk.old }
-{
-    match step_of(alloc, words) {
-        Ok(Some(step)) => answer_step(alloc, desk, now, &step),
-        Ok(None) => bad_line(alloc),
-        Err(refusal) => refused_line(alloc, refusal),
+    if role == b"node".as_slice() {
+        step_of(alloc, rest)
+    } else {
+        request_of(alloc, role, rest)
     }
 }
 
 /// The turn of a role, or of the node itself.
-#[tactic(auto, unfolding(crate::specs::Turns::turn_of, crate::specs::Turns::want_by))]
 fn answer_role<D: Desk>(
     alloc: Global,
     desk: &mut D,
@@ -110,15 +65,15 @@ fn answer_role<D: Desk>(
     role: &[u8],
     rest: &[u8],
 ) -> Result<String, AllocError>
-    ensures ok { IfOk result (λ out. D.is_sound desk.new → Takes (want_by role.now) (D.state desk.old) (turn_of (D.settings desk.old) (D.state desk.old) now role.now rest.now) (string_bytes out) (D.state desk.new)) }
-    ensures err { OnErr result (D.is_sound desk.new → MayLeave (D.state desk.old) (turn_of (D.settings desk.old) (D.state desk.old) now role.now rest.now) (D.state desk.new)) }
+    ensures ok { IfOk result (λ out. D.is_sound desk.new → Takes (want_by role.now) (D.state desk.old) (turn_of (D.settings desk.old) (D.state desk.old) now role.now (words_asked role.now rest.now)) (string_bytes out) (D.state desk.new)) }
+    ensures err { OnErr result (D.is_sound desk.new → MayLeave (D.state desk.old) (turn_of (D.settings desk.old) (D.state desk.old) now role.now (words_asked role.now rest.now)) (D.state desk.new)) }
     ensures was_sound { D.is_sound desk.new → D.is_sound desk.old }
     ensures same_settings { D.settings desk.new ≡ D.settings desk.old }
 {
-    if role == b"node".as_slice() {
-        answer_node(alloc, desk, now, rest)
-    } else {
-        answer_request(alloc, desk, now, role, rest)
+    match words_asked(alloc, role, rest) {
+        Ok(Some(asked)) => answer_asked(alloc, desk, now, role, &asked),
+        Ok(None) => bad_line(alloc),
+        Err(refusal) => want_by(alloc, role, refusal),
     }
 }
 
@@ -144,16 +99,14 @@ fn take_line<D: Desk>(alloc: Global, desk: &mut D, line: &[u8]) -> Result<String
 }
 
 /// What a line prints where memory ran out.
-#[tactic(auto, unfolding(crate::specs::Turns::want_line, crate::specs::Turns::want_by))]
+#[tactic(auto, unfolding(crate::specs::Turns::want_line))]
 fn want_of_memory(alloc: Global, line: &[u8]) -> Result<String, AllocError>
     ensures { IfOk result (λ out. string_bytes out ≡ want_line line.now OutOfMemory) }
 {
-    if let (_, Some(rest)) = cut(b' ', line) {
-        if cut(b' ', rest).0 == b"node".as_slice() {
-            return refused_line(alloc, Refusal::OutOfMemory);
-        }
+    match cut(b' ', line) {
+        (_, Some(rest)) => want_by(alloc, cut(b' ', rest).0, Refusal::OutOfMemory),
+        (_, None) => want_by(alloc, &[], Refusal::OutOfMemory),
     }
-    problem_line(alloc, Refusal::OutOfMemory)
 }
 
 /// Takes the turn of a line that isn't empty, and gives what it prints, with its LF. Where memory runs

@@ -10,7 +10,7 @@ use std::alloc::{AllocError, Global};
 use std::str::from_utf8;
 
 /// The bytes, where they are text.
-#[tactic(auto, using(crate::proofs::Utf8::is_text), unfolding(crate::specs::Words::text_from))]
+#[tactic(auto, using(crate::proofs::Utf8::utf8_tests), unfolding(crate::specs::Words::text_from))]
 pub(crate) fn text_from(bytes: &[u8]) -> Option<&str>
     ensures { option_copied result ≡ text_from bytes.now }
 {
