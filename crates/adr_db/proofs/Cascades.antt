@@ -20,11 +20,12 @@ use Rattle.adr_state.specs.declared.portfolio.Resource.{Resource}
 use Rattle.adr_state.specs.Keys.{at}
 use Rattle.adr_sql.specs.Keys.{key_order, has_key}
 use Rattle.adr_sql.specs.Contents.{Contents, with_table, Holds}
-use Rattle.adr_sql.proofs.Keys.{same_bool, has_map, ties}
+use Rattle.adr_sql.proofs.Keys.{same_bool, ties}
 use Rattle.adr_sql.proofs.Places.{stores_at}
 use Rattle.adr_sql.proofs.Maps.{entry_found}
 use Rattle.adr_sql.proofs.KeyedMaps.{rows_left}
-use Rattle.adr_sql.proofs.Cascades.{Losses, IsChain, cascade_runs}
+use Rattle.adr_sql.proofs.Cascades.{Losses, IsChain, linked, cascade_runs}
+use Rattle.sqlite_rules.proofs.ProbeLemmas.{has_mapped}
 use Rattle.adr_db.specs.Tables.{schema}
 use Rattle.adr_db.specs.Rows.{number, number_row, ven_columns, resource_columns, resource_row, share_row}
 use Rattle.adr_state.specs.Portfolios.{is_of_ven}
@@ -44,11 +45,7 @@ use Rattle.adr_db.proofs.ResourceStatements as resources
 -- whether a value is a number that passes
 abbrev pub is_number : (ℕ → Bool) → Value → Bool
 is_number p (Int (pos n)) = p n
-is_number p (Int (negsuc n)) = false
-is_number p Null = false
-is_number p (Real x) = false
-is_number p (Text t) = false
-is_number p (Blob b) = false
+is_number p _ = false
 
 same_number : (m n : ℕ) → value_cmp (number m) (number n) ≡ Equal → m ≡ n
 same_number m n h = number_same_is m n (sym (numbers_as_values m n) ∙ sym (value_cmp-Int (pos m) (pos n)) ∙ h)
@@ -68,7 +65,7 @@ module _ {V : Type 0} (columns : V → Row) (es : List (ℕ × V)) where
 
   row_named : IsAscending (λ a b. key_order 1 a b ≡ Less) (map row_of es) → (n : ℕ) (row : Row) → Has (map row_of es) row → value_cmp (column row 0) (number n) ≡ Equal → (v : V) × (at nat_cmp n es ≡ Some v) × (row ≡ row_of (n, v))
   row_named up n row has tie =
-      let e = has_map row_of es row has in
+      let e = has_mapped row_of es row has in
       let same : e.0.0 ≡ n = same_number e.0.0 n (ap (λ r. value_cmp (column r 0) (number n)) (sym e.2) ∙ tie) in
       entry_found 1 nat_cmp row_of number_row (number_codec columns) n es up row has (ap (has_key 1 (number_row n)) e.2 ∙ ap (λ m. has_key 1 (number_row n) (number m ∷ columns e.0.1)) same ∙ key_itself n (columns e.0.1))
 
@@ -80,14 +77,14 @@ module _ {V : Type 0} (columns : V → Row) (es : List (ℕ × V)) where
     -- those that a number names are those of the parent with that number
     child_same : (n : ℕ) (r m : Row) → Has (map child_of cs) r → Has (map row_of es) m → value_cmp (column m 0) (column r 1) ≡ Equal → has_key 1 (number_row n) m ≡ is_number (λ p. p == n) (column r 1)
     child_same n r m child parent tie =
-        let c = has_map child_of cs r child in
-        let e = has_map row_of es m parent in
+        let c = has_mapped child_of cs r child in
+        let e = has_mapped row_of es m parent in
         let same : e.0.0 ≡ parent_of c.0 = same_number e.0.0 (parent_of c.0) (ap (λ row. value_cmp (column row 0) (number (parent_of c.0))) (sym e.2) ∙ tie_of r m c.0 c.2 tie) in
         ap (has_key 1 (number_row n)) e.2 ∙ ap is_eq (numbers_as_rows n e.0.0 [] (columns e.0.1)) ∙ same_is n e.0.0 ∙ ap (λ k. k == n) same
         ∙ sym (ap (λ row. is_number (λ p. p == n) (column row 1)) c.2 ∙ ap (is_number (λ p. p == n)) (names c.0))
 
-    child_full : (p : ℕ → Bool) (r : Row) → Has (map child_of cs) r → is_null (column r 1) ≡ false
-    child_full p r child = let c = has_map child_of cs r child in ap (λ row. is_null (column row 1)) c.2 ∙ ap is_null (names c.0)
+    child_full : (r : Row) → Has (map child_of cs) r → is_null (column r 1) ≡ false
+    child_full r child = let c = has_mapped child_of cs r child in ap (λ row. is_null (column row 1)) c.2 ∙ ap is_null (names c.0)
 
 -- ---- a ven goes, with its resources and their shares
 
@@ -99,7 +96,7 @@ module _ (kept : Kept) (s : State) (held : Holds schema (contents_of kept) s) wh
   share_same : (n : ℕ) (r m : Row) → Has (map share_row kept.portfolio.shares) r → Has (map resource_row kept.portfolio.resources) m → value_cmp (column m 0) (column r 1) ≡ Equal
       → is_number (λ v. v == n) (column m 1) ≡ is_number (is_of_ven n kept.portfolio.resources) (column r 1)
   share_same n r m child parent tie =
-      let c = has_map share_row kept.portfolio.shares r child in
+      let c = has_mapped share_row kept.portfolio.shares r child in
       let named = row_named resource_columns kept.portfolio.resources rows_of_resources_rise c.0.0.resource m parent (ap (λ row. value_cmp (column m 0) (column row 1)) (sym c.2) ∙ tie) in
       ap (λ row. is_number (λ v. v == n) (column row 1)) named.2 ∙ ap (λ found. option_map_or (λ (v : Resource). v.ven == n) found false) (sym named.1)
       ∙ ap (λ row. is_number (is_of_ven n kept.portfolio.resources) (column row 1)) (sym c.2)
@@ -110,43 +107,16 @@ module _ (kept : Kept) (s : State) (held : Holds schema (contents_of kept) s) wh
 
   ven_chain : (n : ℕ) → IsChain schema ven (with_ven_gone n) (contents_of kept)
   unfolding same_name joined
-  ven_chain n = record {
-    cascading = refl;
-    along = (
-      record { at = 1; simple = record { columns = refl; places = refl; order = refl }; along = λ r m child parent tie go. sym (child_same ven_columns kept.portfolio.vens resource_row (λ r. r.1.ven) (λ r. refl) kept.portfolio.resources n r m child parent tie) ∙ go },
-      (record { at = 1; simple = record { columns = refl; places = refl; order = refl }; along = λ r m child parent tie go. sym (share_same n r m child parent tie) ∙ go }, tt),
-    );
-    because = (
-      (λ r has go. inl refl),
-      (
-        (λ r has go. inr (record {
-          ref = cascades_to 2 (codes "ven") (codes "id");
-          listed = inl refl;
-          key = (ven.tree, 1 ∷ [], plain);
-          parent = refl;
-          before = omega arith;
-          at = 1;
-          simple = record { columns = refl; places = refl; order = refl };
-          full = child_full ven_columns kept.portfolio.vens resource_row (λ e. e.1.ven) (λ e. refl) kept.portfolio.resources (λ v. v == n) r has;
-          alone = λ m parent tie. child_same ven_columns kept.portfolio.vens resource_row (λ e. e.1.ven) (λ e. refl) kept.portfolio.resources n r m has parent tie ∙ go;
-        })),
-        (
-          (λ r has go. inr (record {
-            ref = cascades_to 2 (codes "resource") (codes "id");
-            listed = inl refl;
-            key = (resource.tree, 1 ∷ [], plain);
-            parent = refl;
-            before = omega arith;
-            at = 1;
-            simple = record { columns = refl; places = refl; order = refl };
-            full = child_full resource_columns kept.portfolio.resources share_row (λ e. e.0.resource) (λ e. refl) kept.portfolio.shares (λ v. v == n) r has;
-            alone = λ m parent tie. share_same n r m has parent tie ∙ go;
-          })),
-          tt,
-        ),
-      ),
-    );
-  }
+  ven_chain n =
+      let resources = linked schema ven (with_ven_gone n) (contents_of kept) resource (cascades_to 2 (codes "ven") (codes "id")) (ven.tree, 1 ∷ [], plain) 1 (record { columns = refl; places = refl; order = refl }) (inl refl) refl (omega arith)
+      (child_full ven_columns kept.portfolio.vens resource_row (λ e. e.1.ven) (λ e. refl) kept.portfolio.resources) (child_same ven_columns kept.portfolio.vens resource_row (λ e. e.1.ven) (λ e. refl) kept.portfolio.resources n) in
+      let shares = linked schema ven (with_ven_gone n) (contents_of kept) share (cascades_to 2 (codes "resource") (codes "id")) (resource.tree, 1 ∷ [], plain) 1 (record { columns = refl; places = refl; order = refl }) (inl refl) refl (omega arith)
+      (child_full resource_columns kept.portfolio.resources share_row (λ e. e.0.resource) (λ e. refl) kept.portfolio.shares) (share_same n) in
+      record {
+        cascading = refl;
+        along = (tt, (tt, (tt, (tt, ((resources.0, tt), ((shares.0, tt), tt))))));
+        because = (tt, (tt, (tt, ((λ r has go. inl refl), (resources.1, (shares.1, tt))))));
+      }
 
   -- the shares of the resource
   abbrev with_resource_gone : ℕ → Losses
@@ -154,27 +124,14 @@ module _ (kept : Kept) (s : State) (held : Holds schema (contents_of kept) s) wh
 
   resource_chain : (n : ℕ) → IsChain schema resource (with_resource_gone n) (contents_of kept)
   unfolding same_name joined
-  resource_chain n = record {
-    cascading = refl;
-    along = (record { at = 1; simple = record { columns = refl; places = refl; order = refl }; along = λ r m child parent tie go. sym (child_same resource_columns kept.portfolio.resources share_row (λ e. e.0.resource) (λ e. refl) kept.portfolio.shares n r m child parent tie) ∙ go }, tt);
-    because = (
-      (λ r has go. inl refl),
-      (
-        (λ r has go. inr (record {
-          ref = cascades_to 2 (codes "resource") (codes "id");
-          listed = inl refl;
-          key = (resource.tree, 1 ∷ [], plain);
-          parent = refl;
-          before = omega arith;
-          at = 1;
-          simple = record { columns = refl; places = refl; order = refl };
-          full = child_full resource_columns kept.portfolio.resources share_row (λ e. e.0.resource) (λ e. refl) kept.portfolio.shares (λ v. v == n) r has;
-          alone = λ m parent tie. child_same resource_columns kept.portfolio.resources share_row (λ e. e.0.resource) (λ e. refl) kept.portfolio.shares n r m has parent tie ∙ go;
-        })),
-        tt,
-      ),
-    );
-  }
+  resource_chain n =
+      let shares = linked schema resource (with_resource_gone n) (contents_of kept) share (cascades_to 2 (codes "resource") (codes "id")) (resource.tree, 1 ∷ [], plain) 1 (record { columns = refl; places = refl; order = refl }) (inl refl) refl (omega arith)
+      (child_full resource_columns kept.portfolio.resources share_row (λ e. e.0.resource) (λ e. refl) kept.portfolio.shares) (child_same resource_columns kept.portfolio.resources share_row (λ e. e.0.resource) (λ e. refl) kept.portfolio.shares n) in
+      record {
+        cascading = refl;
+        along = (tt, (tt, (tt, (tt, ((tt, tt), ((shares.0, tt), tt))))));
+        because = (tt, (tt, (tt, (tt, ((λ r has go. inl refl), (shares.1, tt))))));
+      }
 
 -- a table with other rows, by its name
 abbrev with_rows : {K V : Type 0} → KeptMap K V → List Row → Contents → Contents
@@ -187,7 +144,7 @@ ven_removed n old new count h kept was =
     let shares_left = filter-map (λ row. not (is_number (is_of_ven n kept.portfolio.resources) (column row 1))) share_row kept.portfolio.shares in
     record {
       rows = subst (λ all. Holds schema all new) (λ i. with_rows ven_map (left i) (with_rows resource_map (resources_left i) (with_rows share_map (shares_left i) (contents_of kept))))
-          (cascade_runs schema ven_map.rows.at 1 ven ven_keyed.place VEN_REMOVE.now (number_row n) vens.removes refl (with_ven_gone kept old was.rows n) old new count (contents_of kept) (ven_chain kept old was.rows n) (λ row. refl) h was.rows);
+          (cascade_runs schema ven_map.rows.at 1 ven ven_keyed.place VEN_REMOVE.now (number_row n) vens.texts.removes refl (with_ven_gone kept old was.rows n) old new count (contents_of kept) (ven_chain kept old was.rows n) (λ row. refl) h was.rows);
       marks = was.marks;
     }
 
@@ -197,6 +154,6 @@ resource_removed n old new count h kept was =
     let shares_left = filter-map (λ row. not (is_number (λ r. r == n) (column row 1))) share_row kept.portfolio.shares in
     record {
       rows = subst (λ all. Holds schema all new) (λ i. with_rows resource_map (left i) (with_rows share_map (shares_left i) (contents_of kept)))
-          (cascade_runs schema resource_map.rows.at 1 resource resource_keyed.place RESOURCE_REMOVE.now (number_row n) resources.removes refl (with_resource_gone kept old was.rows n) old new count (contents_of kept) (resource_chain kept old was.rows n) (λ row. refl) h was.rows);
+          (cascade_runs schema resource_map.rows.at 1 resource resource_keyed.place RESOURCE_REMOVE.now (number_row n) resources.texts.removes refl (with_resource_gone kept old was.rows n) old new count (contents_of kept) (resource_chain kept old was.rows n) (λ row. refl) h was.rows);
       marks = was.marks;
     }

@@ -12,7 +12,8 @@ use Rattle.adr_sql.specs.Keys.{with_row}
 use Rattle.adr_sql.specs.Contents.{Contents, rows_of_table, with_table, Holds}
 use Rattle.adr_sql.proofs.Values.{AreValues}
 use Rattle.adr_sql.proofs.Upserts.{IsUpsertText, upsert_runs}
-use Rattle.adr_sql.proofs.Selections.{IsSelectText, whole_rows, read_runs}
+use Rattle.adr_sql.proofs.Joins.{IsSelectText}
+use Rattle.adr_sql.proofs.Selections.{whole_rows, read_runs}
 use Rattle.adr_sql.proofs.Maps.{number_key}
 use Rattle.adr_db.specs.declared.meta.Meta.{Meta}
 use Rattle.adr_db.specs.declared.meta.TheConstants.{PUT, READ}
@@ -59,7 +60,6 @@ reads = record {
   alone = (refl, refl);
   unlisted = refl;
   from = refl;
-  flat = refl;
   order = refl;
   ungrouped = refl;
   undistinct = refl;

@@ -13,7 +13,8 @@ use Rattle.adr_state.specs.declared.keys.MirrorKey.{MirrorKey}
 use Rattle.adr_state.specs.Keys.{mirror_cmp}
 use Rattle.adr_sql.proofs.Values.{AreValues}
 use Rattle.adr_sql.proofs.Upserts.{IsUpsertText}
-use Rattle.adr_sql.proofs.Selections.{IsSelectText, whole_rows}
+use Rattle.adr_sql.proofs.Joins.{IsSelectText}
+use Rattle.adr_sql.proofs.Selections.{whole_rows}
 use Rattle.adr_db.specs.declared.mirror.TheConstants.{PUT, READ_ONE, READ_ALL}
 use Rattle.adr_db.specs.Tables.{schema}
 use Rattle.adr_db.specs.Rows.{number}
@@ -37,11 +38,11 @@ module _ (kind : ℕ) (id : List ℕ) (state moment : ℕ) (body : List ℕ) whe
 
 pub reads_one : IsSelectText schema mirror (whole_rows 2 mirror) end READ_ONE.now
 unfolding understood everything
-reads_one = record { names = columns; command = refl; alone = (refl, refl); unlisted = refl; from = refl; flat = refl; order = refl; ungrouped = refl; undistinct = refl; joins = refl; sorts = refl; shows = refl }
+reads_one = record { names = columns; command = refl; alone = (refl, refl); unlisted = refl; from = refl; order = refl; ungrouped = refl; undistinct = refl; joins = refl; sorts = refl; shows = refl }
 
 pub reads_all : IsSelectText schema mirror (whole_rows 0 mirror) end READ_ALL.now
 unfolding understood everything
-reads_all = record { names = columns; command = refl; alone = (refl, refl); unlisted = refl; from = refl; flat = refl; order = refl; ungrouped = refl; undistinct = refl; joins = refl; sorts = refl; shows = refl }
+reads_all = record { names = columns; command = refl; alone = (refl, refl); unlisted = refl; from = refl; order = refl; ungrouped = refl; undistinct = refl; joins = refl; sorts = refl; shows = refl }
 
 -- a mark that is put joins those that are kept
 pub marks_put : (es : List (MirrorKey × Mark)) (k : MirrorKey) (v : Mark) → AreMarks es → IsMark v → AreMarks (insert_entry mirror_cmp es k v)

@@ -9,7 +9,8 @@ use Rattle.sqlite_sql.specs.Query.{end}
 use Rattle.sqlite.specs.Store.{Ghosts}
 use Rattle.sqlite.specs.Held.{Held, state}
 use Rattle.adr_sql.specs.Keys.{cells}
-use Rattle.adr_sql.proofs.Selections.{IsSelectText, first_columns, first_runs, passes}
+use Rattle.adr_sql.proofs.Joins.{IsSelectText}
+use Rattle.adr_sql.proofs.Selections.{first_columns, first_runs, passes}
 use Rattle.adr_sql.proofs.Maps.{is_text, text_passes}
 use Rattle.adr_db.specs.Tables.{schema}
 use Rattle.adr_db.specs.Rows.{number, number_row}

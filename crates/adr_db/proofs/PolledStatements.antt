@@ -9,7 +9,8 @@ use Rattle.adr_state.specs.declared.keys.MirrorKey.{MirrorKey}
 use Rattle.adr_sql.proofs.Values.{AreValues}
 use Rattle.adr_sql.proofs.Upserts.{IsUpsertText}
 use Rattle.adr_sql.proofs.Removals.{IsRemoveText}
-use Rattle.adr_sql.proofs.Selections.{IsSelectText, whole_rows}
+use Rattle.adr_sql.proofs.Joins.{IsSelectText}
+use Rattle.adr_sql.proofs.Selections.{whole_rows}
 use Rattle.adr_db.specs.declared.polled.TheConstants.{PUT, CLEAR, READ_ALL}
 use Rattle.adr_db.specs.Tables.{schema}
 use Rattle.adr_db.specs.Rows.{key_row}
@@ -29,4 +30,4 @@ clears = record { command = refl; alone = (refl, refl); flat = refl; joins = ref
 
 pub reads : IsSelectText schema polled (whole_rows 0 polled) end READ_ALL.now
 unfolding understood everything
-reads = record { names = codes "kind" ∷ codes "id" ∷ []; command = refl; alone = (refl, refl); unlisted = refl; from = refl; flat = refl; order = refl; ungrouped = refl; undistinct = refl; joins = refl; sorts = refl; shows = refl }
+reads = record { names = codes "kind" ∷ codes "id" ∷ []; command = refl; alone = (refl, refl); unlisted = refl; from = refl; order = refl; ungrouped = refl; undistinct = refl; joins = refl; sorts = refl; shows = refl }

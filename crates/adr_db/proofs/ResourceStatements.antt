@@ -10,40 +10,30 @@ use Rattle.adr_sql.proofs.Values.{AreValues}
 use Rattle.adr_sql.proofs.Upserts.{IsUpsertText}
 use Rattle.adr_sql.proofs.Removals.{IsRemoveText}
 use Rattle.adr_sql.proofs.Counts.{IsCountText}
-use Rattle.adr_sql.proofs.Selections.{IsSelectText, first_columns, whole_rows, equalities}
+use Rattle.adr_sql.proofs.Joins.{IsSelectText}
+use Rattle.adr_sql.proofs.Selections.{first_columns, whole_rows, equalities}
 use Rattle.adr_sql.proofs.Maps.{is_text}
 use Rattle.adr_db.specs.declared.resource.TheConstants.{PUT, REMOVE, READ_ONE, READ_ALL, READ_NAMED, COUNT}
 use Rattle.adr_db.specs.Tables.{schema}
 use Rattle.adr_db.specs.Rows.{resource_row}
 use Rattle.adr_db.proofs.Tables.{resource}
 use Rattle.adr_db.proofs.Maps.{resource_map}
+use Rattle.adr_db.proofs.KeptMaps.{HasTexts}
 
 abbrev columns : List (List ℕ)
 columns = codes "id" ∷ codes "ven" ∷ codes "name" ∷ codes "created" ∷ codes "modified" ∷ []
 
-pub puts : (e : ℕ × Resource) → IsUpsertText schema resource_map.rows.at resource PUT.now (resource_row e) (resource_row e)
+pub texts : HasTexts resource_map PUT.now REMOVE.now READ_ONE.now READ_ALL.now COUNT.now
 unfolding understood everything
-puts e = record { terms = lit Null ∷ col 0 0 ∷ col 0 1 ∷ col 0 2 ∷ col 0 3 ∷ col 0 4 ∷ []; met = 5; sets = col 0 7 ∷ col 0 8 ∷ col 0 9 ∷ col 0 10 ∷ col 0 11 ∷ []; command = refl; alone = (refl, refl); given = refl; meets = λ id next r. refl; writes = λ id next r. refl }
-
-pub values : (e : ℕ × Resource) → AreValues resource (resource_row e)
-values e = record { fits = refl; full = refl; width = refl }
-
-pub removes : IsRemoveText schema resource_map.rows.at resource end (equalities 0 1) REMOVE.now
-unfolding understood everything
-removes = record { command = refl; alone = (refl, refl); flat = refl; joins = refl }
-
-pub reads_one : IsSelectText schema resource (whole_rows 1 resource) end READ_ONE.now
-unfolding understood everything
-reads_one = record { names = columns; command = refl; alone = (refl, refl); unlisted = refl; from = refl; flat = refl; order = refl; ungrouped = refl; undistinct = refl; joins = refl; sorts = refl; shows = refl }
-
-pub reads_all : IsSelectText schema resource (whole_rows 0 resource) end READ_ALL.now
-unfolding understood everything
-reads_all = record { names = columns; command = refl; alone = (refl, refl); unlisted = refl; from = refl; flat = refl; order = refl; ungrouped = refl; undistinct = refl; joins = refl; sorts = refl; shows = refl }
+texts = record {
+  puts = λ e. record { terms = lit Null ∷ col 0 0 ∷ col 0 1 ∷ col 0 2 ∷ col 0 3 ∷ col 0 4 ∷ []; met = 5; sets = col 0 7 ∷ col 0 8 ∷ col 0 9 ∷ col 0 10 ∷ col 0 11 ∷ []; command = refl; alone = (refl, refl); given = refl; meets = λ id next r. refl; writes = λ id next r. refl };
+  fit = λ e. record { fits = refl; full = refl; width = refl };
+  removes = record { command = refl; alone = (refl, refl); flat = refl; joins = refl };
+  reads_one = record { names = columns; command = refl; alone = (refl, refl); unlisted = refl; from = refl; order = refl; ungrouped = refl; undistinct = refl; joins = refl; sorts = refl; shows = refl };
+  reads_all = record { names = columns; command = refl; alone = (refl, refl); unlisted = refl; from = refl; order = refl; ungrouped = refl; undistinct = refl; joins = refl; sorts = refl; shows = refl };
+  counts = record { names = codes "count(*)" ∷ []; command = refl; alone = (refl, refl); unlisted = refl };
+}
 
 pub reads_named : IsSelectText schema resource (first_columns 1 (is_text 2) resource) end READ_NAMED.now
 unfolding understood everything
-reads_named = record { names = codes "id" ∷ []; command = refl; alone = (refl, refl); unlisted = refl; from = refl; flat = refl; order = refl; ungrouped = refl; undistinct = refl; joins = refl; sorts = refl; shows = refl }
-
-pub counts : IsCountText schema 0 resource COUNT.now
-unfolding understood everything
-counts = record { names = codes "count(*)" ∷ []; command = refl; alone = (refl, refl); unlisted = refl }
+reads_named = record { names = codes "id" ∷ []; command = refl; alone = (refl, refl); unlisted = refl; from = refl; order = refl; ungrouped = refl; undistinct = refl; joins = refl; sorts = refl; shows = refl }

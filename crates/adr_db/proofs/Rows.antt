@@ -5,7 +5,8 @@ use Rattle.std.specs.Cmp.{int_cmp_is}
 use Rattle.std.proofs.lemmas.Cmp.{ranked}
 use Rattle.std.proofs.lemmas.Int.{ints}
 use Rattle.sqlite_value.specs.declared.value.Value.TheVariants.{Int, Text}
-use Rattle.sqlite_value.specs.Order.{Row}
+use Rattle.sqlite_value.specs.declared.value.Value.{Value}
+use Rattle.sqlite_value.specs.Order.{Row, column}
 use Rattle.adr_objects.specs.declared.kind.Kind.{Kind}
 use Rattle.adr_objects.specs.declared.kind.Kind.TheVariants.{Program, Event}
 use Rattle.adr_state.specs.declared.base.Mark.{Mark}
@@ -113,11 +114,17 @@ kind_kept Program Event h = absurd (let e : 1 ≡ 2 = number_kept 1 2 h in omega
 kind_kept Event Program h = absurd (let e : 2 ≡ 1 = number_kept 2 1 h in omega arith)
 kind_kept Event Event h = refl
 
+-- the number or the text that a value is
+abbrev number_of : Value → ℕ
+number_of (Int (pos n)) = n
+number_of _ = 0
+
+abbrev text_of : Value → List ℕ
+text_of (Text t) = t
+text_of _ = []
+
 pub key_kept : (j k : MirrorKey) → key_row j ≡ key_row k → j ≡ k
-key_kept j k h =
-    let kind : number (kind_number j.kind) ≡ number (kind_number k.kind) = cc in
-    let id : j.id ≡ k.id = cc in
-    λ i. record { kind = kind_kept j.kind k.kind kind i; id = id i }
+key_kept j k h = λ i. record { kind = kind_kept j.kind k.kind (ap (λ (row : Row). column row 0) h) i; id = text_of (column (h i) 1) }
 
 flag_kept : (a b : Bool) → Int (cond a (pos 1) (pos 0)) ≡ Int (cond b (pos 1) (pos 0)) → a ≡ b
 flag_kept true true h = refl
@@ -126,15 +133,15 @@ flag_kept false true h = absurd (let e : 0 ≡ 1 = number_kept 0 1 h in omega ar
 flag_kept false false h = refl
 
 pub meta_kept : (a b : Meta) → meta_row a ≡ meta_row b → a ≡ b
-meta_kept a b h =
-    let scan : Int (cond a.scan (pos 1) (pos 0)) ≡ Int (cond b.scan (pos 1) (pos 0)) = cc in
-    let serial : a.serial ≡ b.serial = cc in
-    let made : a.made ≡ b.made = cc in
-    let sent : a.sent ≡ b.sent = cc in
-    let given_up : a.given_up ≡ b.given_up = cc in
-    let dropped : a.dropped ≡ b.dropped = cc in
-    let keys : a.keys ≡ b.keys = cc in
-    λ i. record { serial = serial i; scan = flag_kept a.scan b.scan scan i; made = made i; sent = sent i; given_up = given_up i; dropped = dropped i; keys = keys i }
+meta_kept a b h = λ i. record {
+  serial = number_of (column (h i) 2);
+  scan = flag_kept a.scan b.scan (ap (λ (row : Row). column row 3) h) i;
+  made = number_of (column (h i) 4);
+  sent = number_of (column (h i) 5);
+  given_up = number_of (column (h i) 6);
+  dropped = number_of (column (h i) 7);
+  keys = number_of (column (h i) 8);
+}
 
 -- ---- a row as it is read
 
@@ -149,30 +156,13 @@ columns_are key Dead = refl
 -- ---- vens, resources and shares as they are read
 
 pub ven_kept : (a b : Ven) → ven_columns a ≡ ven_columns b → a ≡ b
-ven_kept a b h =
-    let name : a.name ≡ b.name = cc in
-    let created : a.stamps.created ≡ b.stamps.created = cc in
-    let modified : a.stamps.modified ≡ b.stamps.modified = cc in
-    λ i. record { name = name i; stamps = record { created = created i; modified = modified i } }
+ven_kept a b h = λ i. record { name = text_of (column (h i) 0); stamps = record { created = number_of (column (h i) 1); modified = number_of (column (h i) 2) } }
 
 pub resource_kept : (a b : Resource) → resource_columns a ≡ resource_columns b → a ≡ b
-resource_kept a b h =
-    let ven : a.ven ≡ b.ven = cc in
-    let name : a.name ≡ b.name = cc in
-    let created : a.stamps.created ≡ b.stamps.created = cc in
-    let modified : a.stamps.modified ≡ b.stamps.modified = cc in
-    λ i. record { ven = ven i; name = name i; stamps = record { created = created i; modified = modified i } }
+resource_kept a b h = λ i. record { ven = number_of (column (h i) 0); name = text_of (column (h i) 1); stamps = record { created = number_of (column (h i) 2); modified = number_of (column (h i) 3) } }
 
 pub share_key_kept : (j k : ShareKey) → share_key_row j ≡ share_key_row k → j ≡ k
-share_key_kept j k h =
-    let program : j.program ≡ k.program = cc in
-    let resource : j.resource ≡ k.resource = cc in
-    λ i. record { program = program i; resource = resource i }
+share_key_kept j k h = λ i. record { program = text_of (column (h i) 0); resource = number_of (column (h i) 1) }
 
 pub participant_kept : (p q : Participant) → participant_row p ≡ participant_row q → p ≡ q
-participant_kept p q h =
-    let resource : p.resource ≡ q.resource = cc in
-    let weight : p.weight ≡ q.weight = cc in
-    let name : p.name ≡ q.name = cc in
-    let ven_name : p.ven_name ≡ q.ven_name = cc in
-    λ i. record { resource = resource i; weight = weight i; name = name i; ven_name = ven_name i }
+participant_kept p q h = λ i. record { resource = number_of (column (h i) 0); weight = number_of (column (h i) 1); name = text_of (column (h i) 2); ven_name = text_of (column (h i) 3) }

@@ -10,35 +10,25 @@ use Rattle.adr_sql.proofs.Values.{AreValues}
 use Rattle.adr_sql.proofs.Upserts.{IsUpsertText}
 use Rattle.adr_sql.proofs.Removals.{IsRemoveText}
 use Rattle.adr_sql.proofs.Counts.{IsCountText}
-use Rattle.adr_sql.proofs.Selections.{IsSelectText, whole_rows, equalities}
+use Rattle.adr_sql.proofs.Joins.{IsSelectText}
+use Rattle.adr_sql.proofs.Selections.{whole_rows, equalities}
 use Rattle.adr_db.specs.declared.share.TheConstants.{PUT, REMOVE, READ_ONE, READ_ALL, COUNT}
 use Rattle.adr_db.specs.Tables.{schema}
 use Rattle.adr_db.specs.Rows.{share_row}
 use Rattle.adr_db.proofs.Tables.{share}
 use Rattle.adr_db.proofs.Maps.{share_map}
+use Rattle.adr_db.proofs.KeptMaps.{HasTexts}
 
 abbrev columns : List (List ℕ)
 columns = codes "program" ∷ codes "resource" ∷ codes "weight" ∷ []
 
-pub puts : (e : ShareKey × ℕ) → IsUpsertText schema share_map.rows.at share PUT.now (share_row e) (share_row e)
+pub texts : HasTexts share_map PUT.now REMOVE.now READ_ONE.now READ_ALL.now COUNT.now
 unfolding understood everything
-puts e = record { terms = lit Null ∷ col 0 0 ∷ col 0 1 ∷ col 0 2 ∷ []; met = 3; sets = col 0 5 ∷ col 0 6 ∷ col 0 7 ∷ []; command = refl; alone = (refl, refl); given = refl; meets = λ id next r. refl; writes = λ id next r. refl }
-
-pub values : (e : ShareKey × ℕ) → AreValues share (share_row e)
-values e = record { fits = refl; full = refl; width = refl }
-
-pub removes : IsRemoveText schema share_map.rows.at share end (equalities 0 2) REMOVE.now
-unfolding understood everything
-removes = record { command = refl; alone = (refl, refl); flat = refl; joins = refl }
-
-pub reads_one : IsSelectText schema share (whole_rows 2 share) end READ_ONE.now
-unfolding understood everything
-reads_one = record { names = columns; command = refl; alone = (refl, refl); unlisted = refl; from = refl; flat = refl; order = refl; ungrouped = refl; undistinct = refl; joins = refl; sorts = refl; shows = refl }
-
-pub reads_all : IsSelectText schema share (whole_rows 0 share) end READ_ALL.now
-unfolding understood everything
-reads_all = record { names = columns; command = refl; alone = (refl, refl); unlisted = refl; from = refl; flat = refl; order = refl; ungrouped = refl; undistinct = refl; joins = refl; sorts = refl; shows = refl }
-
-pub counts : IsCountText schema 0 share COUNT.now
-unfolding understood everything
-counts = record { names = codes "count(*)" ∷ []; command = refl; alone = (refl, refl); unlisted = refl }
+texts = record {
+  puts = λ e. record { terms = lit Null ∷ col 0 0 ∷ col 0 1 ∷ col 0 2 ∷ []; met = 3; sets = col 0 5 ∷ col 0 6 ∷ col 0 7 ∷ []; command = refl; alone = (refl, refl); given = refl; meets = λ id next r. refl; writes = λ id next r. refl };
+  fit = λ e. record { fits = refl; full = refl; width = refl };
+  removes = record { command = refl; alone = (refl, refl); flat = refl; joins = refl };
+  reads_one = record { names = columns; command = refl; alone = (refl, refl); unlisted = refl; from = refl; order = refl; ungrouped = refl; undistinct = refl; joins = refl; sorts = refl; shows = refl };
+  reads_all = record { names = columns; command = refl; alone = (refl, refl); unlisted = refl; from = refl; order = refl; ungrouped = refl; undistinct = refl; joins = refl; sorts = refl; shows = refl };
+  counts = record { names = codes "count(*)" ∷ []; command = refl; alone = (refl, refl); unlisted = refl };
+}

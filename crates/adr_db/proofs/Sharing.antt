@@ -23,8 +23,8 @@ use Rattle.adr_state.specs.declared.participants.Participant.{Participant}
 use Rattle.adr_state.specs.Keys.{at}
 use Rattle.adr_sql.proofs.Keys.{and_true, equal_is}
 use Rattle.adr_sql.proofs.Places.{seen}
-use Rattle.adr_sql.proofs.Selections.{IsQueryText, order_from}
-use Rattle.adr_sql.proofs.Joins.{IsJoinText, with_row, join_runs, named_is}
+use Rattle.adr_sql.proofs.Joins.{IsSelectText, order_from, with_row, join_runs, named_is}
+use Rattle.adr_sql.proofs.Selections.{selection}
 use Rattle.adr_db.specs.declared.sharers.TheConstants.{READ_SHARERS}
 use Rattle.adr_db.specs.Tables.{schema}
 use Rattle.adr_db.specs.Rows.{number, ven_row, resource_row, share_row, participant_row}
@@ -42,24 +42,11 @@ abbrev equals : Term → Term → Term
 equals a b = op2 (Compare Eq Binary) a b
 
 abbrev query : Query
-query = record {
-  from = inner share.tree rest;
-  filter = equals (col 2 1) (col 1 2) ∷ equals (col 3 1) (col 2 2) ∷ equals (col 1 1) (col 0 0) ∷ [];
-  group = None;
-  project = col 1 2 ∷ col 1 3 ∷ col 2 3 ∷ col 3 2 ∷ [];
-  distinct = false;
-  collations = [];
-  order = order_from 0 2;
-  limit = lit (Int (negsuc 0));
-  offset = lit (Int (pos 0));
-}
+query = selection share.tree rest (equals (col 2 1) (col 1 2) ∷ equals (col 3 1) (col 2 2) ∷ equals (col 1 1) (col 0 0) ∷ []) (col 1 2 ∷ col 1 3 ∷ col 2 3 ∷ col 3 2 ∷ []) (order_from 0 2)
 
-pub reads : IsQueryText schema query READ_SHARERS.now
+pub reads : IsSelectText schema share query rest READ_SHARERS.now
 unfolding understood everything
-reads = record { names = codes "resource" ∷ codes "weight" ∷ codes "name" ∷ codes "name" ∷ []; command = refl; alone = (refl, refl); unlisted = refl; ungrouped = refl; undistinct = refl; joins = refl; sorts = refl; shows = refl }
-
-joins : IsJoinText schema share query rest READ_SHARERS.now
-joins = record { reads = reads; from = refl; order = refl }
+reads = record { names = codes "resource" ∷ codes "weight" ∷ codes "name" ∷ codes "name" ∷ []; command = refl; alone = (refl, refl); unlisted = refl; from = refl; order = refl; ungrouped = refl; undistinct = refl; joins = refl; sorts = refl; shows = refl }
 
 -- ---- the tests
 
@@ -112,7 +99,7 @@ module _ (program : List ℕ) (kept : Kept) (e : ShareKey × ℕ) where
   abbrev with_resource_of : List Env
   with_resource_of = option_map_or (λ r. cond (is_in program e) (with_ven_of (e.0.resource, r)) []) named []
 
-  found_is : (s : State) → Keeps kept s → with_row schema share_map.rows.at share share_keyed.place query rest READ_SHARERS.now (Text program ∷ []) joins (contents_of kept) (share_row e) ≡ with_resource_of
+  found_is : (s : State) → Keeps kept s → with_row schema share_map.rows.at share share_keyed.place query rest READ_SHARERS.now (Text program ∷ []) reads (contents_of kept) (share_row e) ≡ with_resource_of
   found_is s was =
       let them = seen schema.tables (contents_of kept) in
       let a : Row = Null ∷ share_row e in
@@ -160,8 +147,8 @@ module _ (program : List ℕ) (kept : Kept) (e : ShareKey × ℕ) where
 
 pub sharers_read : (program : List ℕ) (old new : State) (rows : List Row) (kept : Kept) → Shown READ_SHARERS.now (Text program ∷ []) old new rows → Keeps kept old → rows ≡ map participant_row (sharers program kept)
 sharers_read program old new rows kept h was =
-    let found : Row → List Env = with_row schema share_map.rows.at share share_keyed.place query rest READ_SHARERS.now (Text program ∷ []) joins (contents_of kept) in
-    join_runs schema share_map.rows.at share share_keyed.place query rest READ_SHARERS.now (Text program ∷ []) joins old new rows (contents_of kept) h was.rows
+    let found : Row → List Env = with_row schema share_map.rows.at share share_keyed.place query rest READ_SHARERS.now (Text program ∷ []) reads (contents_of kept) in
+    join_runs schema share_map.rows.at share share_keyed.place query rest READ_SHARERS.now (Text program ∷ []) reads old new rows (contents_of kept) h was.rows
     (all-map (λ a. length (found a) ≤ 1) share_row kept.portfolio.shares (all_of (λ e. length (found (share_row e)) ≤ 1) (λ e. subst (λ l. length l ≤ 1) (sym (found_is program kept e old was)) (few program kept e)) kept.portfolio.shares))
     ∙ flat_map-map (λ a. map (eval_all query.project) (found a)) share_row kept.portfolio.shares
     ∙ ap (λ (f : ShareKey × ℕ → List Row). flat_map f kept.portfolio.shares) (λ i e. (ap (map (eval_all query.project)) (found_is program kept e old was) ∙ shown_is program kept e) i)

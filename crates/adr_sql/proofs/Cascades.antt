@@ -2,8 +2,8 @@
 -- any chain of tables, and no other row goes.
 use Rattle.std.proofs.Common.{◌≡◌, ◌≢◌, ◌⊎◌, inl, inr, ℕ, zero, suc, ◌<◌, ℤ, Bool, true, false, not, ◌&&◌, ◌||◌, ◌==◌, cond, List, [], ◌∷◌, ◌++◌, map, filter, drop, length, slice_get, Option, Some, None, Ok, Result, MatchBool, IsTrue, true≢false, refl, sym, ap, ap₂, subst, ◌∙◌, Equal, is_eq, arith, length-append, eqb-true, IsPermutation, fold, ◌+◌}
 use Rattle.std.specs.Prelude.{nat_lt, is_some}
-use Rattle.std.specs.List.{AllByRecursion, list_all, list_any, flat_map, filter_map}
-use Rattle.std.proofs.lemmas.Bool.{eq-eqb, cases_Bool, both_ways, not-true, and_parts}
+use Rattle.std.specs.List.{AllByRecursion, list_all, list_any, flat_map, filter_map, cons_option}
+use Rattle.std.proofs.lemmas.Bool.{eq-eqb, cases_Bool, both_ways, not-true, and_parts, or_parts}
 use Rattle.std.proofs.lemmas.Cmp.{tied_back, tied_itself}
 use Rattle.sqlite_value.specs.declared.value.Value.{Value}
 use Rattle.sqlite_value.specs.declared.value.Value.TheVariants.{Null, Int, Real, Text, Blob}
@@ -14,7 +14,7 @@ use Rattle.sqlite_value.proofs.KeyLemmas.{first_key-plain}
 use Rattle.sqlite_value.proofs.OrderLemmas.{value_cmp_total}
 use Rattle.sqlite_trees.specs.Tree.{Trees, rowid, has_rowid, IsTable}
 use Rattle.sqlite_trees.specs.View.{is_int}
-use Rattle.sqlite_trees.proofs.ListLemmas.{filter_same}
+use Rattle.sqlite_trees.proofs.ListLemmas.{filter_same, filter_all, all_of, all-flat_map, all-append}
 use Rattle.sqlite_sql.specs.Ops.{binary, is_null}
 use Rattle.sqlite_sql.specs.Query.{end as no_join}
 use Rattle.sqlite_schema.specs.declared.schema.Action.{Action}
@@ -33,32 +33,29 @@ use Rattle.sqlite_rules.specs.Edit.{edit_of, taken_by, row_at, without_all, Appl
 use Rattle.sqlite_rules.proofs.ListLemmas.{all_has, all_from, test_has, some_has, some_from, has_kept, has_filtered, has_got, has_either, has_left, has_right}
 use Rattle.sqlite_rules.proofs.PlaceLemmas.{tied_same, row_at_is, named_parent}
 use Rattle.sqlite_rules.proofs.TableLemmas.{without_all_has, int_is}
-use Rattle.sqlite_rules.proofs.ProbeLemmas.{mapped_has}
+use Rattle.sqlite_rules.proofs.ProbeLemmas.{mapped_has, has_mapped}
 use Rattle.sqlite_rules.specs.Calls.{ids_of}
 use Rattle.sqlite.specs.Effect.{Database, IsDatabase}
 use Rattle.sqlite.specs.State.{State, Executes}
 use Rattle.adr_sql.specs.Keys.{has_key}
 use Rattle.adr_sql.specs.Contents.{Contents, Stores, StoresEach, Holds}
-use Rattle.adr_sql.proofs.Keys.{same_bool, equal_is, column_drop, are_full, has_map, ties}
+use Rattle.adr_sql.proofs.Keys.{same_bool, equal_is, column_drop, are_full, ties}
 use Rattle.adr_sql.proofs.Rows.{without_all_is, stores_filter}
 use Rattle.adr_sql.proofs.Places.{IsFound, by_tree, is_tree, bare, stored_is_seen, stores_at}
 use Rattle.adr_sql.proofs.Selections.{equalities, passes_is}
-use Rattle.adr_sql.proofs.Removals.{IsRemoveText, has_along, chosen, chosen_from, removal}
+use Rattle.adr_sql.proofs.Removals.{IsRemoveText, has_along, chosen, chosen_from, removal, taken_out}
+use Rattle.std.proofs.lemmas.Bool.Decides.{when_true}
+use Rattle.sqlite_rules.proofs.KeyLemmas.{agree_back, agree_whole}
 
 -- ---- lists
 
-has_some : {X Y : Type 0} (f : X → Option Y) (xs : List X) (y : Y) → Has (filter_map f xs) y → (x : X) × Has xs x × (f x ≡ Some y)
-has_some f [] y h = absurd h
-has_some {X} {Y} f (x ∷ xs) y h = go (f x) refl h (has_some f xs y)
+all_found : {X Y : Type 0} (P : Y → Type 0) (f : X → Option Y) (xs : List X) → ((x : X) → Has xs x → (y : Y) → f x ≡ Some y → P y) → AllByRecursion P (filter_map f xs)
+all_found P f [] each = tt
+all_found {Y = Y} P f (x ∷ xs) each = by (f x) refl (all_found P f xs (λ z has. each z (inr has)))
   where
-    go : (o : Option Y) → f x ≡ o → Has (Rattle.std.specs.List.cons_option o (filter_map f xs)) y → (Has (filter_map f xs) y → (z : X) × Has xs z × (f z ≡ Some y)) → (z : X) × Has (x ∷ xs) z × (f z ≡ Some y)
-    go None is h more = let r = more h in (r.0, inr r.1, r.2)
-    go (Some v) is (inl same) more = (x, inl refl, is ∙ ap Some (sym same))
-    go (Some v) is (inr later) more = let r = more later in (r.0, inr r.1, r.2)
-
-has_each : {X Y : Type 0} (f : X → List Y) (xs : List X) (y : Y) → Has (flat_map f xs) y → (x : X) × Has xs x × Has (f x) y
-has_each f [] y h = absurd h
-has_each f (x ∷ xs) y h = elim (has_either (f x) (flat_map f xs) y h) [ inl here ↦ (x, inl refl, here) | inr later ↦ let r = has_each f xs y later in (r.0, inr r.1, r.2) ]
+    by : (o : Option Y) → f x ≡ o → AllByRecursion P (filter_map f xs) → AllByRecursion P (cons_option o (filter_map f xs))
+    by None is more = more
+    by (Some y) is more = (each x (inl refl) y is, more)
 
 old_of : (olds : List Row) (move : Row × Row) → Has (pairs olds []) move → Has olds move.0
 old_of [] move h = absurd h
@@ -84,7 +81,7 @@ module _ (schema : Schema) (root : Table) (goes : ℕ → Row → Bool) (db : Tr
     pub alone : (m : Row) → Has (db key.0) m → agree key.2 key.1 m ref.columns r ≡ true → goes key.0 m ≡ true
 
   pub record IsCascade : Type 0 where
-    pub cascading : AllByRecursion (λ t. AllByRecursion (λ ref. ref.on_delete ≡ Cascade) t.references) schema.tables
+    pub cascading : (t : Table) → Has schema.tables t → (ref : Reference) → Has t.references ref → ref.on_delete ≡ Cascade
     pub along : (t : Table) → Has schema.tables t → (ref : Reference) → Has t.references ref → IsAlong t ref (parent_key schema.tables ref)
     pub because : (t : Table) → Has schema.tables t → (r : Row) → Has (db t.tree) r → goes t.tree r ≡ true → (t.tree ≡ root.tree) ⊎ IsBecause t r
     pub listed : (t : Table) → Has schema.tables t → IsTable (db t.tree)
@@ -115,15 +112,14 @@ module _ (schema : Schema) (root : Table) (goes : ℕ → Row → Bool) (db : Tr
     had now t less r has = without_all_has less.ids (db t.tree) r (subst (λ rows. Has rows r) less.rows has)
 
     -- what is set off by the rows that went
-    due : (depth : ℕ) (t : Table) (olds : List Row) → ((r : Row) → Has olds r → Has (db t.tree) r × (goes t.tree r ≡ true)) → (w : Work) → Has (works schema Enforced depth t.tree olds []) w → IsDue w
-    due depth t olds all w h =
-        let child = has_each (λ child. filter_map (work_for schema Enforced depth t.tree olds [] child) child.references) schema.tables w h in
-        let ref = has_some (work_for schema Enforced depth t.tree olds [] child.0) child.0.references w child.2 in
-        go child.0 child.1 ref.0 ref.1 (all_has _ child.0.references ref.0 (all_has _ schema.tables child.0 it.cascading child.1) ref.1) (parent_key schema.tables ref.0) refl ref.2
+    due : (depth : ℕ) (t : Table) (olds : List Row) → ((r : Row) → Has olds r → Has (db t.tree) r × (goes t.tree r ≡ true)) → AllByRecursion IsDue (works schema Enforced depth t.tree olds [])
+    due depth t olds all =
+        all-flat_map IsDue (λ child. filter_map (work_for schema Enforced depth t.tree olds [] child) child.references) schema.tables (all_from _ schema.tables (λ child listed.
+        all_found IsDue (work_for schema Enforced depth t.tree olds [] child) child.references (λ ref refers w. go child listed ref refers (it.cascading child listed ref refers) w (parent_key schema.tables ref) refl)))
       where
-        go : (child : Table) → Has schema.tables child → (ref : Reference) → Has child.references ref → ref.on_delete ≡ Cascade → (key : Option ParentKey) → parent_key schema.tables ref ≡ key
+        go : (child : Table) → Has schema.tables child → (ref : Reference) → Has child.references ref → ref.on_delete ≡ Cascade → (w : Work) (key : Option ParentKey) → parent_key schema.tables ref ≡ key
             → work_by depth t.tree (pairs olds []) child ref (deed_for Enforced true ref) key ≡ Some w → IsDue w
-        go child listed ref refers cascade key parent made = by key parent (subst (λ action. work_by depth t.tree (pairs olds []) child ref (Rattle.sqlite_rules.specs.Action.deed_of Enforced true action) key ≡ Some w) cascade made)
+        go child listed ref refers cascade w key parent made = by key parent (subst (λ action. work_by depth t.tree (pairs olds []) child ref (Rattle.sqlite_rules.specs.Action.deed_of Enforced true action) key ≡ Some w) cascade made)
           where
             by : (key : Option ParentKey) → parent_key schema.tables ref ≡ key → work_by depth t.tree (pairs olds []) child ref (Some Delete) key ≡ Some w → IsDue w
             by None parent made = absurd cc
@@ -153,7 +149,7 @@ module _ (schema : Schema) (root : Table) (goes : ℕ → Row → Bool) (db : Tr
 
       taken : (r : Row) → Has (taken_by now (edit_of now t ids Given 0 [])) r → Has (db t.tree) r × (goes t.tree r ≡ true)
       taken r h =
-          let id = has_map (row_at (now t.tree)) ids r h in
+          let id = has_mapped (row_at (now t.tree)) ids r h in
           let s = sound id.0 id.1 in
           let there : has_rowid id.0 s.0 ≡ true = ap (λ x. is_eq (value_cmp (rowid s.0) x)) (sym s.3) ∙ ap is_eq (tied_itself value_cmp_total (rowid s.0)) in
           let up : IsTable (now t.tree) = subst IsTable (sym (less_now.rows ∙ without_all_is less_now.ids (db t.tree))) (Rattle.sqlite_trees.proofs.ListLemmas.ascending-filter _ _ (db t.tree) (it.listed t listed)) in
@@ -190,12 +186,14 @@ module _ (schema : Schema) (root : Table) (goes : ℕ → Row → Bool) (db : Tr
 
     module _ (here : Has schema.tables root) where
       -- all that is due is done
-      led : (n : ℕ) (now end : Trees) (stack : List Work) → IsUnderWay now → ((w : Work) → Has stack w → IsDue w) → Leads schema Enforced n now stack (Ok end) → IsUnderWay end
+      led : (n : ℕ) (now end : Trees) (stack : List Work) → IsUnderWay now → AllByRecursion IsDue stack → Leads schema Enforced n now stack (Ok end) → IsUnderWay end
       led zero now end stack way dues h = subst IsUnderWay (let e = h.1 in cc) way
       led (suc n) now end stack way dues (below, w, is, acts) =
-          acted (λ now stack way dues h. led n now end stack way dues h) (nat_lt w.depth max_depth) (dues w (subst (λ l. Has l w) (sym is) (Rattle.sqlite_rules.proofs.ListLemmas.has_right below (w ∷ []) w (inl refl)))) (λ v has. dues v (subst (λ l. Has l v) (sym is) (Rattle.sqlite_rules.proofs.ListLemmas.has_left below (w ∷ []) v has))) acts
+          let each = subst (AllByRecursion IsDue) is dues in
+          acted (λ now stack way dues h. led n now end stack way dues h) (nat_lt w.depth max_depth) (all_has IsDue _ w each (has_right below (w ∷ []) w (inl refl)))
+          (all_from IsDue below (λ v has. all_has IsDue _ v each (has_left below (w ∷ []) v has))) acts
         where
-          acted : ((now : Trees) (stack : List Work) → IsUnderWay now → ((w : Work) → Has stack w → IsDue w) → Leads schema Enforced n now stack (Ok end) → IsUnderWay end) → (b : Bool) → IsDue w → ((v : Work) → Has below v → IsDue v)
+          acted : ((now : Trees) (stack : List Work) → IsUnderWay now → AllByRecursion IsDue stack → Leads schema Enforced n now stack (Ok end) → IsUnderWay end) → (b : Bool) → IsDue w → AllByRecursion IsDue below
               → MatchBool b ((ids : List ℤ) × AreChildren now w ids × ActsOn schema Enforced (Leads schema Enforced n) now w below (Ok end) ids) (◌≡◌ {A = Rattle.sqlite_rules.specs.Action.End} (Ok end) (Rattle.std.proofs.Common.Err (Some Rattle.sqlite_rules.specs.declared.error.Refusal.TheVariants.TooDeep))) → IsUnderWay end
           acted more false one others h = absurd (let e = h in cc)
           acted more true one others (ids, children, on) = on_children ids children on
@@ -222,10 +220,7 @@ module _ (schema : Schema) (root : Table) (goes : ℕ → Row → Bool) (db : Tr
                       more next (below ++ works schema Enforced (w.depth + 1) w.child.tree (taken_by now (edit_of now w.child (id ∷ ids) Given 0 [])) []) (record {
                         less = less_then now next w.child one.listed (id ∷ ids) sound way.less a;
                         rooted = λ r has. way.rooted r (still now next w.child one.listed (id ∷ ids) sound way.less a here r has);
-                      }) (λ v has. elim (has_either below (works schema Enforced (w.depth + 1) w.child.tree (taken_by now (edit_of now w.child (id ∷ ids) Given 0 [])) []) v has) [
-                        | inl waits ↦ others v waits
-                        | inr new ↦ due (w.depth + 1) w.child (taken_by now (edit_of now w.child (id ∷ ids) Given 0 [])) (taken now next w.child one.listed (id ∷ ids) sound way.less a) v new
-                      ]) rest
+                      }) (all-append IsDue below _ others (due (w.depth + 1) w.child (taken_by now (edit_of now w.child (id ∷ ids) Given 0 [])) (taken now next w.child one.listed (id ∷ ids) sound way.less a))) rest
 
       -- from the statement on
       first : (gone : List ℤ) (end : Trees) → ((id : ℤ) → Has gone id → (r : Row) × Has (db root.tree) r × (goes root.tree r ≡ true) × (rowid r ≡ Int id))
@@ -235,7 +230,7 @@ module _ (schema : Schema) (root : Table) (goes : ℕ → Row → Bool) (db : Tr
       first gone end sound rooted (inr (inr (next, a, (n, leads)))) =
           let none : (u : Table) → Has schema.tables u → IsLess db u = λ u _. record { ids = []; rows = refl; sound = λ id h. absurd h } in
           led n next end (works schema Enforced 0 root.tree (taken_by db (edit_of db root gone Given 0 [])) []) (record { less = less_then db next root here gone sound none a; rooted = λ r has. rooted r (subst (λ rows. Has rows r) a.rows has) })
-          (λ w has. due 0 root (taken_by db (edit_of db root gone Given 0 [])) (taken db next root here gone sound none a) w has) leads
+          (due 0 root (taken_by db (edit_of db root gone Given 0 [])) (taken db next root here gone sound none a)) leads
 
       module _ (end : Trees) (way : IsUnderWay end) (keeps : Keeps ForeignKey schema end) where
         -- no row that goes is left, since none whose parents all went is left
@@ -259,15 +254,8 @@ module _ (schema : Schema) (root : Table) (goes : ℕ → Row → Bool) (db : Tr
         left_is : (t : Table) → Has schema.tables t → end t.tree ≡ filter (λ r. not (goes t.tree r)) (db t.tree)
         left_is t listed =
             let less = way.less t listed in
-            less.rows ∙ without_all_is less.ids (db t.tree) ∙ filter_same _ _ (db t.tree) (all_from _ (db t.tree) (λ r has. ap not (same_bool _ _ (there r has) (back r has))))
+            less.rows ∙ taken_out (goes t.tree) (db t.tree) less.ids (it.listed t listed) less.sound back
           where
-            there : (r : Row) → Has (db t.tree) r → list_any (λ id. has_rowid id r) (way.less t listed).ids ≡ true → goes t.tree r ≡ true
-            there r has some =
-                let id = some_has _ (way.less t listed).ids some in
-                let s = (way.less t listed).sound id.0 id.1 in
-                let same : r ≡ s.0 = tied_same (db t.tree) r s.0 (it.listed t listed) has s.1 (ap (value_cmp (rowid r)) s.3 ∙ ties _ id.2) in
-                ap (goes t.tree) same ∙ s.2
-
             back : (r : Row) → Has (db t.tree) r → goes t.tree r ≡ true → list_any (λ id. has_rowid id r) (way.less t listed).ids ≡ true
             back r has go = elim (cases_Bool (list_any (λ id. has_rowid id r) (way.less t listed).ids)) [
               | inl gone ↦ gone
@@ -284,23 +272,11 @@ module _ (schema : Schema) (root : Table) (goes : ℕ → Row → Bool) (db : Tr
 
 -- ---- as the statement, on what the tables hold
 
--- `=` is true of values that tie
-tied : (x y : Value) → equal Binary x y ≡ true → value_cmp y x ≡ Equal
-unfolding binary
-tied Null Null h = absurd cc
-tied (Int n) Null h = absurd cc
-tied (Real n) Null h = absurd cc
-tied (Text n) Null h = absurd cc
-tied (Blob n) Null h = absurd cc
-tied x (Int n) h = ties _ (sym (equal_is x (Int n) refl) ∙ h)
-tied x (Real n) h = ties _ (sym (equal_is x (Real n) refl) ∙ h)
-tied x (Text n) h = ties _ (sym (equal_is x (Text n) refl) ∙ h)
-tied x (Blob n) h = ties _ (sym (equal_is x (Blob n) refl) ∙ h)
-
 agree_tie : (p q : ℕ) (a b : Row) → agree plain (p ∷ []) a (q ∷ []) b ≡ true → value_cmp (column b q) (column a p) ≡ Equal
 agree_tie p q a b h =
-    let one = (and_parts (equal (first_key plain).collation (column a p) (column b q)) true h).0 in
-    tied (column a p) (column b q) (rw first_key-plain at one)
+    let one : equal Binary (column a p) (column b q) ≡ true = rw first_key-plain at (and_parts (equal (first_key plain).collation (column a p) (column b q)) true h).0 in
+    let full = (or_parts _ _ (agree_whole plain (q ∷ []) (p ∷ []) b a (agree_back plain (p ∷ []) (q ∷ []) a b h))).0 in
+    ties _ (sym (equal_is (column a p) (column b q) full) ∙ one)
 
 -- which rows of a table go, by its tree; of a table that is not named, none
 abbrev pub Losses : Type 0
@@ -323,58 +299,18 @@ lessened_each ls [] all = all
 lessened_each ls (t ∷ ts) [] = []
 lessened_each ls (t ∷ ts) (rows ∷ all) = lessened (loss_of ls t.tree) rows ∷ lessened_each ls ts all
 
--- the tables that lose rows
-abbrev pub losing : Losses → List Table → List Table
-losing ls = filter (λ t. is_some (loss_of ls t.tree))
-
--- the references to tables that lose rows, each with its own table and the key that it points to
-abbrev pub link_to : Losses → Table → Reference → Option ParentKey → Option (Table × Reference × ParentKey)
-link_to ls child ref None = None
-link_to ls child ref (Some key) = cond (is_some (loss_of ls key.0)) (Some (child, ref, key)) None
-
-abbrev pub links : Schema → Losses → List (Table × Reference × ParentKey)
-links schema ls = flat_map (λ t. filter_map (λ ref. link_to ls t ref (parent_key schema.tables ref)) t.references) schema.tables
-
 lost_some : (loss : Option (Row → Bool)) (row : Row) → lost_by loss row ≡ true → is_some loss ≡ true
 lost_some None row h = h
 lost_some (Some goes) row h = refl
-
-in_flat : {X Y : Type 0} (f : X → List Y) (xs : List X) (x : X) (y : Y) → Has xs x → Has (f x) y → Has (flat_map f xs) y
-in_flat f [] x y has h = absurd has
-in_flat f (z ∷ xs) x y (inl same) h = has_left (f z) (flat_map f xs) y (subst (λ x. Has (f x) y) same h)
-in_flat f (z ∷ xs) x y (inr later) h = has_right (f z) (flat_map f xs) y (in_flat f xs x y later h)
-
-in_some : {X Y : Type 0} (f : X → Option Y) (xs : List X) (x : X) (y : Y) → Has xs x → f x ≡ Some y → Has (filter_map f xs) y
-in_some f [] x y has h = absurd has
-in_some f (z ∷ xs) x y (inl same) h = subst (λ o. Has (Rattle.std.specs.List.cons_option o (filter_map f xs)) y) (sym (ap f (sym same) ∙ h)) (inl refl)
-in_some {X} {Y} f (z ∷ xs) x y (inr later) h = by (f z) (in_some f xs x y later h)
-  where
-    by : (o : Option Y) → Has (filter_map f xs) y → Has (Rattle.std.specs.List.cons_option o (filter_map f xs)) y
-    by None has = has
-    by (Some v) has = inr has
 
 -- whether a reference is ON DELETE CASCADE
 abbrev pub takes_along : Action → Bool
 takes_along Cascade = true
 takes_along _ = false
 
-abbrev pub cascades : Reference → Bool
-cascades ref = takes_along ref.on_delete
-
-is_cascading : (ref : Reference) → cascades ref ≡ true → ref.on_delete ≡ Cascade
-is_cascading ref = by ref.on_delete
-  where
-    by : (a : Action) → takes_along a ≡ true → a ≡ Cascade
-    by Cascade h = refl
-    by _ h = absurd cc
-
-each_cascades : (ts : List Table) → list_all (λ t. list_all cascades t.references) ts ≡ true → AllByRecursion (λ t. AllByRecursion (λ ref. ref.on_delete ≡ Cascade) t.references) ts
-each_cascades [] h = tt
-each_cascades (t ∷ ts) h = let both = and_parts _ _ h in (each t.references both.0, each_cascades ts both.1)
-  where
-    each : (refs : List Reference) → list_all cascades refs ≡ true → AllByRecursion (λ ref. ref.on_delete ≡ Cascade) refs
-    each [] h = tt
-    each (ref ∷ refs) h = let both = and_parts _ _ h in (is_cascading ref both.0, each refs both.1)
+does_cascade : (a : Action) → takes_along a ≡ true → a ≡ Cascade
+does_cascade Cascade h = refl
+does_cascade _ h = absurd cc
 
 module _ (schema : Schema) (root : Table) (losses : Losses) (all : Contents) where
   abbrev pub goes : ℕ → Row → Bool
@@ -404,11 +340,30 @@ module _ (schema : Schema) (root : Table) (losses : Losses) (all : Contents) whe
     pub full : is_null (column r at) ≡ false
     pub alone : (m : Row) → Has (by_tree schema.tables all key.0) m → value_cmp (column m 0) (column r at) ≡ Equal → goes key.0 m ≡ true
 
+  -- that, of a reference to a table that loses rows
+  abbrev IsAlongWith : Table → Reference → Option ParentKey → Type 0
+  IsAlongWith child ref None = Unit {0}
+  IsAlongWith child ref (Some key) = MatchBool (is_some (loss_of losses key.0)) (GoAlong child ref key) (Unit {0})
+
+  -- a row that goes, but for those of the statement, names such as go alone
+  abbrev pub HasCause : Table → Type 0
+  HasCause t = (r : Row) → Has (by_tree schema.tables all t.tree) r → goes t.tree r ≡ true → (t.tree ≡ root.tree) ⊎ NamesGone t r
+
   -- what `refl` finds of the tables, and what is to be shown of those that lose rows and of the references to them
   pub record IsChain : Type 0 where
-    pub cascading : list_all (λ t. list_all cascades t.references) schema.tables ≡ true
-    pub along : AllByRecursion (λ l. GoAlong l.0 l.1 l.2) (links schema losses)
-    pub because : AllByRecursion (λ t. (r : Row) → Has (by_tree schema.tables all t.tree) r → goes t.tree r ≡ true → (t.tree ≡ root.tree) ⊎ NamesGone t r) (losing losses schema.tables)
+    pub cascading : list_all (λ t. list_all (λ ref. takes_along ref.on_delete) t.references) schema.tables ≡ true
+    pub along : AllByRecursion (λ t. AllByRecursion (λ ref. IsAlongWith t ref (parent_key schema.tables ref)) t.references) schema.tables
+    pub because : AllByRecursion (λ t. MatchBool (is_some (loss_of losses t.tree)) (HasCause t) (Unit {0})) schema.tables
+
+  -- the rows of a table go where those do that they name by one reference
+  module _ (child : Table) (ref : Reference) (key : ParentKey) (at : ℕ) (simple : IsSimple ref key at) (refers : Has child.references ref) (parent : parent_key schema.tables ref ≡ Some key) (before : key.0 < child.tree)
+      (full : (r : Row) → Has (by_tree schema.tables all child.tree) r → is_null (column r at) ≡ false)
+      (same : (r m : Row) → Has (by_tree schema.tables all child.tree) r → Has (by_tree schema.tables all key.0) m → value_cmp (column m 0) (column r at) ≡ Equal → goes key.0 m ≡ goes child.tree r) where
+    pub linked : GoAlong child ref key × HasCause child
+    linked = (
+      record { at = at; simple = simple; along = λ r m mine theirs tie go. sym (same r m mine theirs tie) ∙ go },
+      λ r has go. inr (record { ref = ref; listed = refers; key = key; parent = parent; before = before; at = at; simple = simple; full = full r has; alone = λ m theirs tie. same r m has theirs tie ∙ go }),
+    )
 
   module _ (chain : IsChain) (db : Trees) (held : StoresEach schema.tables db all) where
     -- what is stored is a row of the table
@@ -416,7 +371,7 @@ module _ (schema : Schema) (root : Table) (losses : Losses) (all : Contents) whe
     held_row t listed r has =
         let is : is_tree schema.tables t.tree ≡ true = some_from (λ u. u.tree == t.tree) schema.tables t listed (eq-eqb t.tree t.tree refl) in
         let there = has_along (map bare (db t.tree)) _ (bare r) (stored_is_seen schema.tables db all t.tree held is) (mapped_has bare (db t.tree) r has) in
-        let row = has_map (λ row. Null ∷ row) (by_tree schema.tables all t.tree) (bare r) there in
+        let row = has_mapped (λ row. Null ∷ row) (by_tree schema.tables all t.tree) (bare r) there in
         subst (Has (by_tree schema.tables all t.tree)) (sym (ap (drop 1) row.2)) row.1
 
     -- and one of the table that a reference points to
@@ -430,25 +385,16 @@ module _ (schema : Schema) (root : Table) (losses : Losses) (all : Contents) whe
         let one : agree plain (suc at ∷ []) r (1 ∷ []) m ≡ true = rw (simple.columns, simple.places, simple.order) at h in
         ap₂ value_cmp (column_drop m 0) (column_drop r at) ∙ agree_tie (suc at) 1 r m one
 
-    agrees_back : (ref : Reference) (key : ParentKey) (at : ℕ) → IsSimple ref key at → (r m : Row) → agree key.2 key.1 m ref.columns r ≡ true → value_cmp (column (drop 1 m) 0) (column (drop 1 r) at) ≡ Equal
-    agrees_back ref key at simple r m h =
-        let one : agree plain (1 ∷ []) m (suc at ∷ []) r ≡ true = rw (simple.columns, simple.places, simple.order) at h in
-        ap₂ value_cmp (column_drop m 0) (column_drop r at) ∙ tied_back value_cmp_total (column r (suc at)) (column m 1) (agree_tie 1 (suc at) m r one)
-
     stored_along : (t : Table) → Has schema.tables t → (ref : Reference) → Has t.references ref → (key : Option ParentKey) → parent_key schema.tables ref ≡ key → IsAlong schema root (λ tree r. goes tree (drop 1 r)) db t ref key
     stored_along t listed ref refers None parent = tt
     stored_along t listed ref refers (Some key) parent = λ r m has there agree go.
-        let loses : is_some (loss_of losses key.0) ≡ true = lost_some (loss_of losses key.0) (drop 1 m) go in
-        let linked : link_to losses t ref (parent_key schema.tables ref) ≡ Some (t, ref, key) = ap (link_to losses t ref) parent ∙ ap (λ b. cond b (Some (t, ref, key)) None) loses in
-        let link = in_flat (λ t. filter_map (λ ref. link_to losses t ref (parent_key schema.tables ref)) t.references) schema.tables t (t, ref, key) listed
-        (in_some (λ ref. link_to losses t ref (parent_key schema.tables ref)) t.references ref (t, ref, key) refers linked) in
-        let h = all_has (λ l. GoAlong l.0 l.1 l.2) (links schema losses) (t, ref, key) chain.along link in
+        let each = all_has (λ ref. IsAlongWith t ref (parent_key schema.tables ref)) t.references ref (all_has _ schema.tables t chain.along listed) refers in
+        let h = when_true (GoAlong t ref key) (Unit {0}) (lost_some (loss_of losses key.0) (drop 1 m) go) (subst (IsAlongWith t ref) parent each) in
         h.along (drop 1 r) (drop 1 m) (held_row t listed r has) (held_parent ref key parent m there) (agrees ref key h.at h.simple r m agree) go
 
     stored_because : (t : Table) → Has schema.tables t → (r : Row) → Has (db t.tree) r → goes t.tree (drop 1 r) ≡ true → (t.tree ≡ root.tree) ⊎ IsBecause schema root (λ tree r. goes tree (drop 1 r)) db t r
     stored_because t listed r has go =
-        let loses = has_kept (λ t. is_some (loss_of losses t.tree)) schema.tables t listed (lost_some (loss_of losses t.tree) (drop 1 r) go) in
-        elim (all_has _ (losing losses schema.tables) t chain.because loses (drop 1 r) (held_row t listed r has) go) [
+        elim (when_true (HasCause t) (Unit {0}) (lost_some (loss_of losses t.tree) (drop 1 r) go) (all_has _ schema.tables t chain.because listed) (drop 1 r) (held_row t listed r has) go) [
           | inl is_root ↦ inl is_root
           | inr why ↦ inr (record {
             ref = why.ref;
@@ -457,7 +403,7 @@ module _ (schema : Schema) (root : Table) (losses : Losses) (all : Contents) whe
             parent = why.parent;
             before = why.before;
             full = subst (λ columns. has_null columns r ≡ false) (sym why.simple.columns) (ap (λ b. b || false) (ap is_null (sym (column_drop r why.at)) ∙ why.full));
-            alone = λ m there agree. why.alone (drop 1 m) (held_parent why.ref why.key why.parent m there) (agrees_back why.ref why.key why.at why.simple r m agree);
+            alone = λ m there agree. why.alone (drop 1 m) (held_parent why.ref why.key why.parent m there) (agrees why.ref why.key why.at why.simple r m (agree_back why.key.2 why.key.1 why.ref.columns m r agree));
           })
         ]
 
@@ -468,7 +414,7 @@ module _ (schema : Schema) (root : Table) (losses : Losses) (all : Contents) whe
 
     pub is_cascade : IsCascade schema root (λ tree r. goes tree (drop 1 r)) db
     is_cascade = record {
-      cascading = each_cascades schema.tables chain.cascading;
+      cascading = λ t listed ref refers. does_cascade ref.on_delete (test_has (λ ref. takes_along ref.on_delete) t.references ref (test_has _ schema.tables t chain.cascading listed) refers);
       along = λ t listed ref refers. stored_along t listed ref refers (parent_key schema.tables ref) refl;
       because = stored_because;
       listed = λ t listed. (all_has _ schema.tables t (stored_each schema.tables all held) listed).0;
@@ -478,18 +424,14 @@ module _ (schema : Schema) (root : Table) (losses : Losses) (all : Contents) whe
   stores_less : (ts : List Table) (db end : Trees) (rows : Contents) → ((t : Table) → Has ts t → end t.tree ≡ filter (λ r. not (goes t.tree (drop 1 r))) (db t.tree)) → StoresEach ts db rows → StoresEach ts end (lessened_each losses ts rows)
   stores_less [] db end rows left h = h
   stores_less (t ∷ ts) db end [] left h = absurd h
-  stores_less (t ∷ ts) db end (r ∷ rows) left h = (one (loss_of losses t.tree) refl, stores_less ts db end rows (λ u has. left u (inr has)) h.1)
+  stores_less (t ∷ ts) db end (r ∷ rows) left h = (subst (Stores (length t.primary) (length t.columns) (end t.tree)) (lessened_is (loss_of losses t.tree)) filtered, stores_less ts db end rows (λ u has. left u (inr has)) h.1)
     where
       filtered : Stores (length t.primary) (length t.columns) (end t.tree) (filter (λ row. not (goes t.tree row)) r)
       filtered = subst (λ stored. Stores (length t.primary) (length t.columns) stored (filter (λ row. not (goes t.tree row)) r)) (sym (left t (inl refl))) (stores_filter _ _ (λ row. not (goes t.tree row)) (db t.tree) r h.0)
 
-      every : (xs : List Row) → filter (λ row. not false) xs ≡ xs
-      every [] = refl
-      every (x ∷ xs) = ap (λ rest. x ∷ rest) (every xs)
-
-      one : (l : Option (Row → Bool)) → loss_of losses t.tree ≡ l → Stores (length t.primary) (length t.columns) (end t.tree) (lessened l r)
-      one None is = subst (Stores (length t.primary) (length t.columns) (end t.tree)) (ap (λ l. filter (λ row. not (lost_by l row)) r) is ∙ every r) filtered
-      one (Some go) is = subst (Stores (length t.primary) (length t.columns) (end t.tree)) (ap (λ l. filter (λ row. not (lost_by l row)) r) is) filtered
+      lessened_is : (loss : Option (Row → Bool)) → filter (λ row. not (lost_by loss row)) r ≡ lessened loss r
+      lessened_is None = filter_all _ r (all_of _ (λ row. refl) r)
+      lessened_is (Some go) = refl
 
 -- DELETE by the first k columns of the key, which are the parameters, with all that goes along
 module _ (schema : Schema) (at k : ℕ) (table : Table) (it : IsFound schema at table) (sql : List ℕ) (params : Row) (text : IsRemoveText schema at table no_join (equalities 0 k) sql) (full : are_full 0 k params ≡ true) where
@@ -503,10 +445,10 @@ module _ (schema : Schema) (at k : ℕ) (table : Table) (it : IsFound schema at 
       let listed : Has schema.tables table = has_got schema.tables at table it.found in
       let here = stores_at schema.tables at table db all it.found was.each in
       let found = λ (r : Row). passes_is k params r full in
-      let left = chosen db table.tree no_join (equalities 0 k) params gone.rows text.flat gone.found here.listed here.numbered in
+      let left = chosen db table.tree no_join (equalities 0 k) params gone.rows text.flat gone.found here.numbered here.listed in
       let sound : (id : ℤ) → Has (ids_of gone.rows) id → (r : Row) × Has (db table.tree) r × (lost_by (loss_of losses table.tree) (drop 1 r) ≡ true) × (rowid r ≡ Int id) = λ id has.
-      let r = chosen_from db table.tree no_join (equalities 0 k) params gone.rows text.flat gone.found id has in
-      (r.0, r.1, rooted (drop 1 r.0) ∙ sym (found r.0) ∙ r.2, int_is (rowid r.0) (all_has _ (db table.tree) r.0 here.numbered r.1) ∙ ap Int (sym r.3)) in
+      let r = chosen_from db table.tree no_join (equalities 0 k) params gone.rows text.flat gone.found here.numbered id has in
+      (r.0, r.1, rooted (drop 1 r.0) ∙ sym (found r.0) ∙ r.2, r.3) in
       let none : (r : Row) → Has (without_all (db table.tree) (ids_of gone.rows)) r → lost_by (loss_of losses table.tree) (drop 1 r) ≡ false = λ r has.
       let stays = has_filtered _ (db table.tree) r (subst (λ rows. Has rows r) left has) in
       rooted (drop 1 r) ∙ sym (found r) ∙ not-true _ stays.1 in

@@ -34,34 +34,32 @@ module _ {S : Type 0} (g : Ghosts S) (old last end : Held S) where
       → (HasCleanDisk (state g end) → IfErr r (FailsToCommit (state g last) (state g end)))
       → Survives (state g last) (state g end) (λ db. db ≡ (state g last).now.trees)
       → Commits g old end IsDone IsLeft r
-  committed {T = T} x r IsDone IsLeft stays made moves leaves over ok err survives = record {
-    done = λ clean. shown r (early clean) (ok clean);
-    is_open = λ clean. stays_open r (ok clean);
-    undone = λ clean is_open. failed r (early clean) is_open (err clean);
-    over = over;
-    crash = survives_then (state g old) (state g last) (state g end) _ _ IsLeft (λ _ db none. absurd none)
-        (λ late db is. subst IsLeft (sym is) (leaves (state g last) (made (early late)))) (survives_begin g old (state g last) _ stays.crash) survives;
-  }
+  committed x r IsDone IsLeft stays made moves leaves over ok err survives = by r ok err
     where
       early : HasCleanDisk (state g end) → HasCleanDisk (state g last)
       early clean = omega (arith, survives.clean)
 
-      shown : (r : Result T Error) → HasCleanDisk (state g last)
-          → OnOk r (IsTrue (state g last).in_transaction × Shows (state g last) (state g end) (state g last).now (state g last).now false × KeepsCounts (state g last) (state g end) × ((state g end).marks ≡ []))
-          → OnOk r (IsDone (state g end) × ((state g end).committed ≡ (state g end).now))
-      shown (Ok y) clean h = (moves (state g last) (state g end) h.1.now_is (made clean), h.1.committed_is ∙ sym h.1.now_is)
-      shown (Err e) clean h = tt
+      crash : Survives (state g old) (state g end) IsLeft
+      crash = survives_then (state g old) (state g last) (state g end) _ _ IsLeft (λ _ db none. absurd none)
+          (λ late db is. subst IsLeft (sym is) (leaves (state g last) (made (early late)))) (survives_begin g old (state g last) _ stays.crash) survives
 
-      stays_open : (r : Result T Error)
-          → OnOk r (IsTrue (state g last).in_transaction × Shows (state g last) (state g end) (state g last).now (state g last).now false × KeepsCounts (state g last) (state g end) × ((state g end).marks ≡ []))
-          → OnOk r (IsTrue (state g end).is_open)
-      stays_open (Ok y) h = h.1.is_open
-      stays_open (Err e) h = tt
-
-      failed : (r : Result T Error) → HasCleanDisk (state g last) → IsTrue (state g end).is_open → IfErr r (FailsToCommit (state g last) (state g end))
-          → OnErr r (((state g end).now ≡ (state g old).committed) × ((state g end).committed ≡ (state g old).committed))
-      failed (Ok y) clean is_open h = tt
-      failed (Err e) clean is_open h = uncommitted (state g begun) (state g last) (state g end) e (stays.commit clean refl) (stays.inside clean refl) h is_open
+      by : {T : Type 0} (r : Result T Error)
+          → (HasCleanDisk (state g end) → OnOk r (IsTrue (state g last).in_transaction × Shows (state g last) (state g end) (state g last).now (state g last).now false × KeepsCounts (state g last) (state g end) × ((state g end).marks ≡ [])))
+          → (HasCleanDisk (state g end) → IfErr r (FailsToCommit (state g last) (state g end))) → Commits g old end IsDone IsLeft r
+      by (Ok y) ok err = record {
+        done = λ clean. let shows = (ok clean).1 in (moves (state g last) (state g end) shows.now_is (made (early clean)), shows.committed_is ∙ sym shows.now_is);
+        is_open = λ clean. (ok clean).1.is_open;
+        undone = λ clean is_open. tt;
+        over = over;
+        crash = crash;
+      }
+      by (Err e) ok err = record {
+        done = λ clean. tt;
+        is_open = λ clean. tt;
+        undone = λ clean is_open. uncommitted (state g begun) (state g last) (state g end) e (stays.commit (early clean) refl) (stays.inside (early clean) refl) (err clean) is_open;
+        over = over;
+        crash = crash;
+      }
 
   -- a call failed, and the transaction was dropped
   pub dropped : {A F T E : Type 0} (q : Result A F) (e : E) (IsDone : State → Type 0) (IsLeft : Trees → Type 0)

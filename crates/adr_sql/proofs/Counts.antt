@@ -1,5 +1,5 @@
 -- SELECT count(*) of the rows with a leading part of the key.
-use Rattle.std.proofs.Common.{◌≡◌, ℕ, pos, negsuc, true, false, List, [], ◌∷◌, map, filter, drop, length, Some, sym, ap, subst, ◌∙◌, IsPermutation, Bool}
+use Rattle.std.proofs.Common.{◌≡◌, ℕ, pos, negsuc, true, false, refl, List, [], ◌∷◌, map, filter, drop, length, Some, sym, ap, subst, ◌∙◌, IsPermutation, Bool}
 use Rattle.std.specs.List.{AllZip}
 use Rattle.std.proofs.lemmas.List.Sorted.{length_permutation}
 use Rattle.std.proofs.lemmas.List.{length-map}
@@ -25,23 +25,13 @@ use Rattle.adr_sql.specs.Keys.{has_key, rows_at}
 use Rattle.adr_sql.specs.Contents.{Contents, rows_of_table, Holds}
 use Rattle.adr_sql.proofs.Keys.{are_full}
 use Rattle.adr_sql.proofs.Places.{IsFound, stores_at}
-use Rattle.adr_sql.proofs.Selections.{equalities, passes, passes_is, picked, overlay_none}
+use Rattle.adr_sql.proofs.Selections.{equalities, passes, passes_is, selection, matched}
 
 abbrev pub all_rows : Grouping
 all_rows = record { keys = []; collations = []; aggregates = (record { op = CountRows; distinct = false; collation = Binary; argument = lit Null }) ∷ []; having = [] }
 
 abbrev pub counting : ℕ → ℕ → Query
-counting tree k = record {
-  from = inner tree end;
-  filter = equalities 0 k;
-  group = Some all_rows;
-  project = col 1 0 ∷ [];
-  distinct = false;
-  collations = [];
-  order = [];
-  limit = lit (Int (negsuc 0));
-  offset = lit (Int (pos 0));
-}
+counting tree k = record (selection tree end (equalities 0 k) (col 1 0 ∷ []) []) { group = Some all_rows }
 
 one_value : (group : List Env) (values : Row) → AllZip (λ a v. value_over group a ≡ Some v) (all_rows.aggregates) values → values ≡ count (length group) ∷ []
 one_value group [] h = absurd h
@@ -54,10 +44,6 @@ one_row group [] h = absurd h
 one_row group (r ∷ []) h = ap (λ x. x ∷ []) (h.0.2 ∙ one_value group h.0.0 h.0.1)
 one_row group (r ∷ s ∷ rows) h = absurd h.1
 
-matched : (db : Trees) (tree k : ℕ) (params : Row) → matches (overlay db []) (equalities 0 k) (inner tree end) (params ∷ []) ≡ map (λ r. params ∷ r ∷ []) (filter (passes params (equalities 0 k)) (db tree))
-matched db tree k params =
-    ap (Rattle.std.proofs.Common.flat_map (λ r. Rattle.std.proofs.Common.cond (passes params (equalities 0 k) r) ((params ∷ r ∷ []) ∷ []) [])) (overlay_none db tree) ∙ picked (passes params (equalities 0 k)) (λ r. params ∷ r ∷ []) (db tree)
-
 counted : (db : Trees) (tree k : ℕ) (params : Row) (rows : List Row) → IsSureAnswer (counting tree k) (overlay db []) params rows
     → rows ≡ (count (length (filter (passes params (equalities 0 k)) (db tree))) ∷ []) ∷ []
 counted db tree k params rows sure =
@@ -68,7 +54,7 @@ counted db tree k params rows sure =
     let found = filter (passes params (equalities 0 k)) (db tree) in
     let row = count (length order) ∷ [] in
     let rows_are : s.rows ≡ row ∷ [] = one_row order s.rows (subst (λ g. AllZip (IsSummary all_rows) g s.rows) s.grouping.2 s.summaries) in
-    let size : length order ≡ length found = length_permutation _ order s.grouping.1 ∙ ap length (matched db tree k params) ∙ length-map found _ in
+    let size : length order ≡ length found = length_permutation _ order s.grouping.1 ∙ ap length (matched db tree end (equalities 0 k) params refl) ∙ length-map found _ in
     let staged : a.staged ≡ (params ∷ row ∷ []) ∷ [] = s.having ∙ ap (λ rs. filter (λ (e : Env). true) (map (λ r. params ∷ r ∷ []) rs)) rows_are in
     let o : Output = ([], row) in
     let kept : a.kept ≡ o ∷ [] = a.distinct ∙ ap (map (output q)) staged in

@@ -15,12 +15,10 @@ use Rattle.sqlite.proofs.Callers.{runs_as}
 use Rattle.adr_sql.specs.Contents.{Contents, empty_tables, StoresEach, Holds}
 use Rattle.adr_sql.specs.Calls.{FailsAmong}
 use Rattle.adr_sql.specs.Creations.{IsCreateText, Makes, IsUnderWay}
-use Rattle.adr_sql.proofs.Places.{stores_none, stores_more, stores_same}
+use Rattle.adr_sql.proofs.Places.{stores_none, stores_same}
+use Rattle.sqlite_rules.proofs.PlaceLemmas.{zip_more}
 use Rattle.adr_sql.proofs.References.{went, same_value}
-
-empty_more : (ts : List Table) (t : Table) → empty_tables (ts ++ t ∷ []) ≡ empty_tables ts ++ [] ∷ []
-empty_more [] t = refl
-empty_more (u ∷ ts) t = ap (λ (l : Contents). [] ∷ l) (empty_more ts t)
+use Rattle.std.proofs.lemmas.List.{map-append}
 
 pub create_runs : (schema : Schema) (table : Table) (sql : List ℕ) → IsCreateText schema table sql → (old new : State) (count : ℕ) → Executes sql [] old new (Ok count)
     → Holds schema (empty_tables schema.tables) old → Holds (created schema table) (empty_tables (created schema table).tables) new
@@ -37,11 +35,11 @@ create_runs schema table sql text old new count h was =
     let others = subst (λ s. AllByRecursion (λ t. first.0.trees t.tree ≡ old.now.trees t.tree) s.tables) was.has made.others in
     let before = stores_same schema.tables old.now.trees first.0.trees _ others was.each in
     let empty : first.0.trees (next_tree schema) ≡ [] = subst (λ s. first.0.trees (next_tree s) ≡ []) was.has made.empty in
-    let after = stores_more schema.tables (record table { tree = next_tree schema }) first.0.trees _ [] before (stores_none _ _ _ empty) in
+    let after = zip_more _ schema.tables (empty_tables schema.tables) (record table { tree = next_tree schema }) [] before (stores_none _ _ _ empty) in
     record {
       has = ap (λ (d : Database). d.schema) now ∙ is;
       each = subst (λ (d : Database). StoresEach (created schema table).tables d.trees (empty_tables (created schema table).tables)) (sym now)
-          (subst (StoresEach (created schema table).tables first.0.trees) (sym (empty_more schema.tables (record table { tree = next_tree schema }))) after);
+          (subst (StoresEach (created schema table).tables first.0.trees) (sym (map-append (λ (t : Table). []) schema.tables (record table { tree = next_tree schema } ∷ []))) after);
     }
 
 pub makes_one : (schema : Schema) (tables : List Table) (sql : List ℕ) (rest : List (List ℕ)) (old new : State) (count : ℕ) → IsUnderWay schema tables (sql ∷ rest) old → Executes sql [] old new (Ok count) → IsUnderWay schema tables rest new

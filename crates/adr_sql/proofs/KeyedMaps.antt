@@ -5,7 +5,7 @@ use Rattle.std.specs.Map.{remove_entry, lookup}
 use Rattle.std.proofs.lemmas.List.{length-map}
 use Rattle.sqlite_value.specs.Order.{Row}
 use Rattle.sqlite_trees.specs.Tree.{IsAscending}
-use Rattle.sqlite_trees.proofs.ListLemmas.{ascending_weaker, ascending_from_map}
+use Rattle.sqlite_trees.proofs.ListLemmas.{ascending_weaker, ascending_from_map, filter_all, filter_none, all_of}
 use Rattle.sqlite_schema.specs.declared.schema.Table.{Table}
 use Rattle.sqlite_schema.specs.declared.schema.Schema.{Schema}
 use Rattle.sqlite_sql.specs.Aggregate.{count}
@@ -21,7 +21,8 @@ use Rattle.adr_sql.proofs.References.{is_childless}
 use Rattle.adr_sql.proofs.Upserts.{IsKeyed, IsUpsertText, upsert_runs}
 use Rattle.adr_sql.proofs.Removals.{IsRemoveText, remove_at_runs}
 use Rattle.adr_sql.proofs.Counts.{IsCountText, count_runs}
-use Rattle.adr_sql.proofs.Selections.{IsSelectText, whole_rows, equalities, read_runs}
+use Rattle.adr_sql.proofs.Joins.{IsSelectText}
+use Rattle.adr_sql.proofs.Selections.{whole_rows, equalities, read_runs}
 use Rattle.adr_sql.proofs.Maps.{put_entry, remove_entry_is, read_entry}
 use Rattle.adr_sql.proofs.Rising.{map_again, rise}
 
@@ -37,12 +38,10 @@ pub record KeyedMap (schema : Schema) (K V : Type 0) : Type 0 where
 
 -- every row begins with none of a key
 rows_at_none : (key : Row) (rows : List Row) → rows_at 0 key rows ≡ rows
-rows_at_none key [] = refl
-rows_at_none key (row ∷ rows) = ap (λ l. row ∷ l) (rows_at_none key rows)
+rows_at_none key rows = filter_all _ rows (all_of _ (λ row. refl) rows)
 
 rows_without_none : (key : Row) (rows : List Row) → rows_without 0 key rows ≡ []
-rows_without_none key [] = refl
-rows_without_none key (row ∷ rows) = rows_without_none key rows
+rows_without_none key rows = filter_none _ rows (all_of _ (λ row. refl) rows)
 
 module _ {schema : Schema} {K V : Type 0} (m : KeyedMap schema K V) where
   abbrev pub key_width : ℕ

@@ -1,7 +1,7 @@
 -- The tests that SQL makes of keys are those of `has_key`.
 use Rattle.std.proofs.Common.{◌≡◌, inl, inr, ℕ, zero, suc, Bool, true, false, not, ◌&&◌, List, [], ◌∷◌, map, drop, Some, refl, sym, ap, ap₂, ◌∙◌, Ordering, Less, Equal, Greater, is_eq}
 use Rattle.std.specs.Ordering.{ordering_reverse, ordering_then}
-use Rattle.std.proofs.lemmas.Bool.{both_ways, false_from_ne_true}
+use Rattle.std.proofs.lemmas.Bool.{both_ways, false_from_ne_true, and_parts, not-true}
 use Rattle.sqlite_value.specs.declared.value.Value.{Value}
 use Rattle.sqlite_value.specs.declared.value.Value.TheVariants.{Null, Int, Real, Text, Blob}
 use Rattle.sqlite_value.specs.declared.keys.Collation.TheVariants.{Binary}
@@ -20,10 +20,6 @@ use Rattle.adr_sql.specs.Keys.{has_key}
 pub same_bool : (a b : Bool) → (a ≡ true → b ≡ true) → (b ≡ true → a ≡ true) → a ≡ b
 same_bool true b f g = sym (f refl)
 same_bool false b f g = sym (false_from_ne_true b (λ e. both_ways false refl (g e)))
-
-pub full_parts : (a b : Bool) → (not a && b) ≡ true → (a ≡ false) × (b ≡ true)
-full_parts true b h = absurd cc
-full_parts false b h = (refl, h)
 
 pub and_true : (b : Bool) → (b && true) ≡ b
 and_true true = refl
@@ -89,18 +85,11 @@ column_drop (v ∷ row) at = refl
 agree_from : (n at : ℕ) (a b : Row) → are_full at n (drop 1 b) ≡ true → agree plain (places_from at n) a (places_from at n) b ≡ is_eq (key_cmp at (rising n []) (drop 1 b) (drop 1 a))
 agree_from zero at a b full = refl
 agree_from (suc n) at a b full =
-    let parts = full_parts _ _ full in
+    let parts = and_parts _ _ full in
     let here : equal (first_key plain).collation (column a (suc at)) (column b (suc at)) ≡ is_eq (value_cmp (column (drop 1 b) at) (column (drop 1 a) at)) =
-    rw (first_key-plain, column_drop a at, column_drop b at) (equal_is (column a (suc at)) (column b (suc at)) (ap is_null (sym (column_drop b at)) ∙ parts.0)) in
+    rw (first_key-plain, column_drop a at, column_drop b at) (equal_is (column a (suc at)) (column b (suc at)) (ap is_null (sym (column_drop b at)) ∙ not-true _ parts.0)) in
     ap₂ ◌&&◌ here (agree_from n (suc at) a b parts.1) ∙ sym (then_eq _ _)
 
 -- a unique index finds the rows with the key
 pub agree_is : (n : ℕ) (a b : Row) → are_full 0 n (drop 1 b) ≡ true → agree plain (places_from 0 n) a (places_from 0 n) b ≡ has_key n (drop 1 b) (drop 1 a)
 agree_is n a b full = agree_from n 0 a b full
-
--- ---- lists
-
-pub has_map : {X Y : Type 0} (f : X → Y) (xs : List X) (y : Y) → Has (map f xs) y → (x : X) × Has xs x × (y ≡ f x)
-has_map f [] y h = absurd h
-has_map f (x ∷ xs) y (inl e) = (x, inl refl, e)
-has_map f (x ∷ xs) y (inr h) = let r = has_map f xs y h in (r.0, inr r.1, r.2)

@@ -14,7 +14,8 @@ use Rattle.sqlite_value.specs.Order.{Row, column}
 use Rattle.sqlite_value.specs.declared.keys.Collation.TheVariants.{Binary}
 use Rattle.sqlite_value.proofs.OrderLemmas.{value_cmp-Int, value_cmp-Text}
 use Rattle.sqlite_trees.specs.Tree.{IsAscending}
-use Rattle.sqlite_trees.proofs.ListLemmas.{filter_all, all_weaker}
+use Rattle.sqlite_trees.proofs.ListLemmas.{filter_all, filter_none, all_weaker}
+use Rattle.sqlite_keyed.proofs.ListLemmas.{map_back}
 use Rattle.adr_sql.specs.Keys.{key_order, has_key, with_row, rows_at, rows_without}
 use Rattle.adr_sql.specs.Codecs.{IsCodec, entry_at}
 use Rattle.sqlite_sql.specs.declared.ops.BinaryOp.TheVariants.{Compare}
@@ -48,39 +49,29 @@ module _ {K V : Type 0} (n : ℕ) (cmp : K → K → Ordering) (row_of : K × V 
           by Equal is more = ap (λ r. r ∷ map row_of es) (codec.same e.0 k v is)
           by Greater is more = ap (λ l. row_of e ∷ l) more
 
-  rest_apart : (k : K) (e : K × V) (es : List (K × V)) → has_key n (key_of k) (row_of e) ≡ true → IsAscending (λ a b. key_order n a b ≡ Less) (map row_of (e ∷ es)) → AllByRecursion (λ r. not (has_key n (key_of k) r) ≡ true) (map row_of es)
-  rest_apart k e es is up = all_weaker (λ r. key_order n (row_of e) r ≡ Less) (λ r. not (has_key n (key_of k) r) ≡ true)
-      (λ r less. ap (λ o. not (is_eq o)) ((key_order_total n).congr (key_of k) (row_of e) r (ties _ is) ∙ less)) (map row_of es) up.0
+  rest_apart : (k : K) (e : K × V) (es : List (K × V)) → has_key n (key_of k) (row_of e) ≡ true → IsAscending (λ a b. key_order n a b ≡ Less) (map row_of (e ∷ es)) → AllByRecursion (λ r. has_key n (key_of k) r ≡ false) (map row_of es)
+  rest_apart k e es is up = all_weaker (λ r. key_order n (row_of e) r ≡ Less) (λ r. has_key n (key_of k) r ≡ false)
+      (λ r less. ap is_eq ((key_order_total n).congr (key_of k) (row_of e) r (ties _ is) ∙ less)) (map row_of es) up.0
 
   -- to delete by the whole key is to remove
   pub remove_entry_is : (k : K) (es : List (K × V)) → IsAscending (λ a b. key_order n a b ≡ Less) (map row_of es) → rows_without n (key_of k) (map row_of es) ≡ map row_of (remove_entry (is_at (cmp k)) es)
   remove_entry_is k [] up = refl
-  remove_entry_is k (e ∷ es) up = go (has_key n (key_of k) (row_of e)) refl (ap is_eq (codec.named k e)) (remove_entry_is k es up.1) (λ is. rest_apart k e es is up)
+  remove_entry_is k (e ∷ es) up = go (has_key n (key_of k) (row_of e)) refl (ap is_eq (codec.named k e)) (remove_entry_is k es up.1)
     where
       go : (b : Bool) → has_key n (key_of k) (row_of e) ≡ b → has_key n (key_of k) (row_of e) ≡ is_eq (cmp k e.0) → rows_without n (key_of k) (map row_of es) ≡ map row_of (remove_entry (is_at (cmp k)) es)
-          → (has_key n (key_of k) (row_of e) ≡ true → AllByRecursion (λ r. not (has_key n (key_of k) r) ≡ true) (map row_of es))
           → cond (not (has_key n (key_of k) (row_of e))) (row_of e ∷ rows_without n (key_of k) (map row_of es)) (rows_without n (key_of k) (map row_of es)) ≡ map row_of (cond (is_eq (cmp k e.0)) es (e ∷ remove_entry (is_at (cmp k)) es))
-      go true is same more apart = rw (← same, is) (filter_all _ (map row_of es) (apart is))
-      go false is same more apart = rw (← same, is) (ap (λ l. row_of e ∷ l) more)
-
-  none_at : (key : Row) (rows : List Row) → AllByRecursion (λ r. not (has_key n key r) ≡ true) rows → rows_at n key rows ≡ []
-  none_at key [] h = refl
-  none_at key (r ∷ rows) h = go (has_key n key r) h.0 (none_at key rows h.1)
-    where
-      go : (b : Bool) → not b ≡ true → rows_at n key rows ≡ [] → cond b (r ∷ rows_at n key rows) (rows_at n key rows) ≡ []
-      go true h more = absurd cc
-      go false h more = more
+      go true is same more = rw (← same, is) (filter_all _ (map row_of es) (all_weaker (λ r. has_key n (key_of k) r ≡ false) (λ r. not (has_key n (key_of k) r) ≡ true) (λ r no. ap not no) _ (rest_apart k e es is up)))
+      go false is same more = rw (← same, is) (ap (λ l. row_of e ∷ l) more)
 
   -- to read by the whole key is to look up
   pub read_entry : (k : K) (es : List (K × V)) → IsAscending (λ a b. key_order n a b ≡ Less) (map row_of es) → rows_at n (key_of k) (map row_of es) ≡ map row_of (entry_at k (lookup (is_at (cmp k)) es))
   read_entry k [] up = refl
-  read_entry k (e ∷ es) up = go (has_key n (key_of k) (row_of e)) refl (codec.named k e) (read_entry k es up.1) (λ is. none_at (key_of k) (map row_of es) (rest_apart k e es is up))
+  read_entry k (e ∷ es) up = go (has_key n (key_of k) (row_of e)) refl (codec.named k e) (read_entry k es up.1)
     where
       go : (b : Bool) → has_key n (key_of k) (row_of e) ≡ b → key_order n (key_of k) (row_of e) ≡ cmp k e.0 → rows_at n (key_of k) (map row_of es) ≡ map row_of (entry_at k (lookup (is_at (cmp k)) es))
-          → (has_key n (key_of k) (row_of e) ≡ true → rows_at n (key_of k) (map row_of es) ≡ [])
           → cond (has_key n (key_of k) (row_of e)) (row_of e ∷ rows_at n (key_of k) (map row_of es)) (rows_at n (key_of k) (map row_of es)) ≡ map row_of (entry_at k (cond (is_eq (cmp k e.0)) (Some e.1) (lookup (is_at (cmp k)) es)))
-      go true is same more none = rw (← ap is_eq same, is) (ap₂ ◌∷◌ (sym (codec.same e.0 k e.1 (sym same ∙ ties _ is))) (none is))
-      go false is same more none = rw (← ap is_eq same, is) more
+      go true is same more = rw (← ap is_eq same, is) (ap₂ ◌∷◌ (sym (codec.same e.0 k e.1 (sym same ∙ ties _ is))) (filter_none _ (map row_of es) (rest_apart k e es is up)))
+      go false is same more = rw (← ap is_eq same, is) more
 
   -- a row with a key is that of the key's entry
   pub entry_found : (k : K) (es : List (K × V)) → IsAscending (λ a b. key_order n a b ≡ Less) (map row_of es) → (row : Row) → Has (map row_of es) row → has_key n (key_of k) row ≡ true → (v : V) × (lookup (is_at (cmp k)) es ≡ Some v) × (row ≡ row_of (k, v))
@@ -111,8 +102,7 @@ fold_keys cmp before [] = refl
 fold_keys {K} cmp before (k ∷ ks) = ap (λ (m : List (K × Unit {0})). fold (λ m e. insert_entry cmp m e.0 e.1) m (keys_alone ks)) (insert_key_is cmp k before) ∙ fold_keys cmp (insert_key cmp before k) ks
 
 pub keys_back : {K : Type 0} (ks : List K) → map (λ e. e.0) (keys_alone ks) ≡ ks
-keys_back [] = refl
-keys_back (k ∷ ks) = ap (λ l. k ∷ l) (keys_back ks)
+keys_back ks = map_back (λ k. (k, tt)) (λ e. e.0) (λ k. refl) ks
 
 -- ---- keys
 

@@ -6,7 +6,8 @@ use Rattle.std.proofs.lemmas.List.Sorted.{IsPermutation-refl, IsPermutation-sym,
 use Rattle.sqlite_value.specs.declared.value.Value.TheVariants.{Null}
 use Rattle.sqlite_value.specs.Order.{Row}
 use Rattle.sqlite_trees.specs.Tree.{Trees}
-use Rattle.sqlite_trees.proofs.ListLemmas.{map-map, IsPermutation-same}
+use Rattle.sqlite_trees.proofs.ListLemmas.{map-map, all_both, IsPermutation-same}
+use Rattle.sqlite_keyed.proofs.ListLemmas.{all_from_test}
 use Rattle.sqlite_schema.specs.declared.schema.Table.{Table}
 use Rattle.sqlite_schema.specs.declared.schema.Schema.{Schema}
 use Rattle.adr_sql.specs.Contents.{Contents, rows_of_table, with_table, Stores, StoresEach}
@@ -29,13 +30,15 @@ pub record IsFound (schema : Schema) (at : ℕ) (table : Table) : Type 0 where
 other_tree : (a b : ℕ) → not (a == b) ≡ true → a ≢ b
 other_tree a b h same = absurd (both_ways _ (not-true _ h) (eq-eqb a b same))
 
+pub stores_same : (ts : List Table) (old new : Trees) (all : Contents) → AllByRecursion (λ t. new t.tree ≡ old t.tree) ts → StoresEach ts old all → StoresEach ts new all
+stores_same [] old new [] same h = tt
+stores_same [] old new (r ∷ all) same h = h
+stores_same (t ∷ ts) old new [] same h = h
+stores_same (t ∷ ts) old new (r ∷ all) same h = (subst (λ stored. Stores (length t.primary) (length t.columns) stored r) (sym same.0) h.0, stores_same ts old new all same.1 h.1)
+
 others_stay : (ts : List Table) (tree : ℕ) (old new : Trees) (all : Contents) → list_all (λ u. not (u.tree == tree)) ts ≡ true → LeavesOthers ts tree old new → StoresEach ts old all → StoresEach ts new all
-others_stay [] tree old new [] apart others h = tt
-others_stay [] tree old new (rows ∷ all) apart others h = h
-others_stay (t ∷ ts) tree old new [] apart others h = h
-others_stay (t ∷ ts) tree old new (rows ∷ all) apart others h =
-    let p = and_parts _ _ apart in
-    (subst (λ stored. Stores (length t.primary) (length t.columns) stored rows) (sym (others.0 (other_tree t.tree tree p.0))) h.0, others_stay ts tree old new all p.1 others.1 h.1)
+others_stay ts tree old new all apart others =
+    stores_same ts old new all (all_both (λ u. not (u.tree == tree) ≡ true) (λ u. u.tree ≢ tree → new u.tree ≡ old u.tree) (λ u. new u.tree ≡ old u.tree) (λ u far same. same (other_tree u.tree tree far)) ts (all_from_test (λ u. not (u.tree == tree)) ts apart) others)
 
 -- a write to one table leaves the others as they were
 pub stores_with_table : (ts : List Table) (at : ℕ) (table : Table) (old new : Trees) (all : Contents) (rows : List Row) → slice_get ts at ≡ Some table → is_alone ts at table.tree ≡ true
@@ -103,15 +106,3 @@ by_tree_is (t ∷ ts) (suc at) table (rows ∷ all) found alone =
 
 pub stores_none : (n width : ℕ) (stored : List Row) → stored ≡ [] → Stores n width stored []
 stores_none n width stored is = rw is (record { rising = tt; whole = tt; same = IsPermutation-refl []; listed = tt; numbered = tt })
-
-pub stores_more : (ts : List Table) (t : Table) (trees : Trees) (all : Contents) (rows : List Row) → StoresEach ts trees all → Stores (length t.primary) (length t.columns) (trees t.tree) rows → StoresEach (ts ++ t ∷ []) trees (all ++ rows ∷ [])
-stores_more [] t trees [] rows h last = (last, tt)
-stores_more [] t trees (r ∷ all) rows h last = absurd h
-stores_more (u ∷ ts) t trees [] rows h last = absurd h
-stores_more (u ∷ ts) t trees (r ∷ all) rows h last = (h.0, stores_more ts t trees all rows h.1 last)
-
-pub stores_same : (ts : List Table) (old new : Trees) (all : Contents) → AllByRecursion (λ t. new t.tree ≡ old t.tree) ts → StoresEach ts old all → StoresEach ts new all
-stores_same [] old new [] same h = tt
-stores_same [] old new (r ∷ all) same h = h
-stores_same (t ∷ ts) old new [] same h = h
-stores_same (t ∷ ts) old new (r ∷ all) same h = (subst (λ stored. Stores (length t.primary) (length t.columns) stored r) (sym same.0) h.0, stores_same ts old new all same.1 h.1)

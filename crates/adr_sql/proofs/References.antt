@@ -58,18 +58,19 @@ unmoved depth tree moves child ref None key h = refl
 unmoved depth tree moves child ref (Some deed) None h = refl
 unmoved depth tree moves child ref (Some deed) (Some key) h = rw (not-true _ h) refl
 
-pub no_work : (schema : Schema) (depth tree : ℕ) → is_childless schema tree ≡ true → (keys : Keys) (olds news : List Row) → works schema keys depth tree olds news ≡ []
-no_work schema depth tree h keys olds news = each schema.tables h
-  where
-    none : (child : Table) (refs : List Reference) → list_all (λ ref. not (points tree (parent_key schema.tables ref))) refs ≡ true → filter_map (work_for schema keys depth tree olds news child) refs ≡ []
-    none child [] h = refl
-    none child (ref ∷ refs) h =
-        let parts = and_parts _ _ h in
-        ap₂ cons_option (unmoved depth tree (pairs olds news) child ref (deed_for keys (length news == 0) ref) (parent_key schema.tables ref) parts.0) (none child refs parts.1)
+-- where each reference that passes a test sets nothing off, and each does pass, nothing is set off
+module _ (schema : Schema) (depth tree : ℕ) (keys : Keys) (olds news : List Row) (is_still : Reference → Bool) (still : (child : Table) (ref : Reference) → is_still ref ≡ true → work_for schema keys depth tree olds news child ref ≡ None) where
+  none_of : (child : Table) (refs : List Reference) → list_all is_still refs ≡ true → filter_map (work_for schema keys depth tree olds news child) refs ≡ []
+  none_of child [] h = refl
+  none_of child (ref ∷ refs) h = let parts = and_parts _ _ h in ap₂ cons_option (still child ref parts.0) (none_of child refs parts.1)
 
-    each : (tables : List Table) → list_all (λ t. list_all (λ ref. not (points tree (parent_key schema.tables ref))) t.references) tables ≡ true → flat_map (λ child. filter_map (work_for schema keys depth tree olds news child) child.references) tables ≡ []
-    each [] h = refl
-    each (t ∷ tables) h = let parts = and_parts _ _ h in ap₂ ◌++◌ (none t t.references parts.0) (each tables parts.1)
+  none_set_off : (tables : List Table) → list_all (λ t. list_all is_still t.references) tables ≡ true → flat_map (λ child. filter_map (work_for schema keys depth tree olds news child) child.references) tables ≡ []
+  none_set_off [] h = refl
+  none_set_off (t ∷ tables) h = let parts = and_parts _ _ h in ap₂ ◌++◌ (none_of t t.references parts.0) (none_set_off tables parts.1)
+
+pub no_work : (schema : Schema) (depth tree : ℕ) → is_childless schema tree ≡ true → (keys : Keys) (olds news : List Row) → works schema keys depth tree olds news ≡ []
+no_work schema depth tree h keys olds news =
+    none_set_off schema depth tree keys olds news (λ ref. not (points tree (parent_key schema.tables ref))) (λ child ref. unmoved depth tree (pairs olds news) child ref (deed_for keys (length news == 0) ref) (parent_key schema.tables ref)) schema.tables h
 
 -- ---- references that follow no change of a key
 
@@ -92,18 +93,10 @@ no_deed Off ref h = refl
 
 -- so to write one row anew sets off nothing
 pub no_follow : (schema : Schema) (depth tree : ℕ) → is_unfollowed schema tree ≡ true → (keys : Keys) (olds : List Row) (new : Row) → works schema keys depth tree olds (new ∷ []) ≡ []
-no_follow schema depth tree h keys olds new = each schema.tables h
+no_follow schema depth tree h keys olds new = none_set_off schema depth tree keys olds (new ∷ []) (λ ref. is_no_action ref.on_update || not (points tree (parent_key schema.tables ref))) one schema.tables h
   where
     one : (child : Table) (ref : Reference) → (is_no_action ref.on_update || not (points tree (parent_key schema.tables ref))) ≡ true → work_for schema keys depth tree olds (new ∷ []) child ref ≡ None
     one child ref h = elim (or_cases (is_no_action ref.on_update) (not (points tree (parent_key schema.tables ref))) h) [
       | inl quiet ↦ ap (λ d. work_by depth tree (pairs olds (new ∷ [])) child ref d (parent_key schema.tables ref)) (no_deed keys ref (no_action ref.on_update quiet))
       | inr other ↦ unmoved depth tree (pairs olds (new ∷ [])) child ref (deed_for keys false ref) (parent_key schema.tables ref) other
     ]
-
-    none : (child : Table) (refs : List Reference) → list_all (λ ref. is_no_action ref.on_update || not (points tree (parent_key schema.tables ref))) refs ≡ true → filter_map (work_for schema keys depth tree olds (new ∷ []) child) refs ≡ []
-    none child [] h = refl
-    none child (ref ∷ refs) h = let parts = and_parts _ _ h in ap₂ cons_option (one child ref parts.0) (none child refs parts.1)
-
-    each : (tables : List Table) → list_all (λ t. list_all (λ ref. is_no_action ref.on_update || not (points tree (parent_key schema.tables ref))) t.references) tables ≡ true → flat_map (λ child. filter_map (work_for schema keys depth tree olds (new ∷ []) child) child.references) tables ≡ []
-    each [] h = refl
-    each (t ∷ tables) h = let parts = and_parts _ _ h in ap₂ ◌++◌ (none t t.references parts.0) (each tables parts.1)

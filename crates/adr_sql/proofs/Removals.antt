@@ -20,7 +20,7 @@ use Rattle.sqlite_rules.specs.Calls.{ids_of}
 use Rattle.sqlite_rules.specs.Edit.{Edit, edit_of, taken_by, id_in, without_all}
 use Rattle.sqlite_rules.specs.Action.{Writes}
 use Rattle.sqlite_rules.proofs.ListLemmas.{all_from, all_has, has_filtered, has_kept, has_contained, contains_had, some_has, some_from}
-use Rattle.sqlite_rules.proofs.ProbeLemmas.{mapped_has}
+use Rattle.sqlite_rules.proofs.ProbeLemmas.{mapped_has, has_mapped}
 use Rattle.sqlite_rules.proofs.TableLemmas.{int_is}
 use Rattle.sqlite_rules.proofs.PlaceLemmas.{tied_same}
 use Rattle.sqlite_sql.specs.Term.{Term, Env, col, holds}
@@ -36,88 +36,65 @@ use Rattle.sqlite.specs.Command.TheVariants.{Delete}
 use Rattle.sqlite.proofs.Callers.{one_step, runs_as, command_of, statement_of}
 use Rattle.adr_sql.specs.Keys.{rows_without}
 use Rattle.adr_sql.specs.Contents.{Contents, rows_of_table, with_table, Stores, StoresEach, Holds}
-use Rattle.adr_sql.proofs.Keys.{same_bool, are_full, has_map, ties}
+use Rattle.adr_sql.proofs.Keys.{same_bool, are_full, ties}
 use Rattle.adr_sql.proofs.Rows.{without_all_is, stores_filter}
 use Rattle.adr_sql.proofs.Places.{IsFound, is_tree, bare, seen, stored_is_seen, stores_at, stores_with_table}
 use Rattle.adr_sql.proofs.References.{is_childless, no_work, went, same_value}
-use Rattle.adr_sql.proofs.Selections.{erased, fair, sees, holds_same, erased_more, longer, grown, is_flat, flat_one, slot_kept, picked, overlay_none, equalities, passes_is}
+use Rattle.adr_sql.proofs.Joins.{erased, fair, sees, holds_same, erased_more, longer}
+use Rattle.adr_sql.proofs.Selections.{grown, is_flat, slot_kept, selection, is_found, answered, equalities, passes_is}
 
 pub has_along : {X : Type 0} (xs ys : List X) (x : X) → IsPermutation xs ys → Has xs x → Has ys x
 has_along xs ys x same h = has_contained ys x (Contains-permutation xs ys x same (contains_had xs x h))
 
+-- a row goes by its own rowid
+pub by_rowid : (r : Row) (id : ℤ) (ids : List ℤ) → rowid r ≡ Int id → Has ids id → list_any (λ i. has_rowid i r) ids ≡ true
+by_rowid r id ids is has = some_from (λ i. has_rowid i r) ids id has (ap (λ v. is_eq (value_cmp v (Int id))) is ∙ ap is_eq (tied_itself value_cmp_total (Int id)))
+
 -- to take out the rowids of the rows that pass is to filter those out
-pub taken_out : (p : Row → Bool) (rows : List Row) (ids : List ℤ) → IsTable rows → AllByRecursion (λ r. IsTrue (is_int (rowid r))) rows
-    → ((id : ℤ) → Has ids id → (r : Row) × Has rows r × (p r ≡ true) × (id ≡ id_in (rowid r))) → ((r : Row) → Has rows r → p r ≡ true → Has ids (id_in (rowid r)))
-    → without_all rows ids ≡ filter (λ r. not (p r)) rows
-taken_out p rows ids up numbered sound complete =
-    without_all_is ids rows ∙ filter_same _ _ rows (all_from _ rows (λ r has. ap not (same_bool _ _ (there r has) (back r has))))
+pub taken_out : (p : Row → Bool) (rows : List Row) (ids : List ℤ) → IsTable rows → ((id : ℤ) → Has ids id → (r : Row) × Has rows r × (p r ≡ true) × (rowid r ≡ Int id))
+    → ((r : Row) → Has rows r → p r ≡ true → list_any (λ id. has_rowid id r) ids ≡ true) → without_all rows ids ≡ filter (λ r. not (p r)) rows
+taken_out p rows ids up sound complete = without_all_is ids rows ∙ filter_same _ _ rows (all_from _ rows (λ r has. ap not (same_bool _ _ (there r has) (complete r has))))
   where
     there : (r : Row) → Has rows r → list_any (λ id. has_rowid id r) ids ≡ true → p r ≡ true
     there r has some =
         let id = some_has _ ids some in
         let s = sound id.0 id.1 in
-        let tie : value_cmp (rowid r) (rowid s.0) ≡ Equal = ap (value_cmp (rowid r)) (int_is (rowid s.0) (all_has _ rows s.0 numbered s.1) ∙ ap Int (sym s.3)) ∙ ties _ id.2 in
-        ap p (tied_same rows r s.0 up has s.1 tie) ∙ s.2
-
-    back : (r : Row) → Has rows r → p r ≡ true → list_any (λ id. has_rowid id r) ids ≡ true
-    back r has pass =
-        some_from (λ id. has_rowid id r) ids (id_in (rowid r)) (complete r has pass)
-        (ap (λ v. is_eq (value_cmp (rowid r) v)) (sym (int_is (rowid r) (all_has _ rows r numbered has))) ∙ ap is_eq (tied_itself value_cmp_total (rowid r)))
+        ap p (tied_same rows r s.0 up has s.1 (ap (value_cmp (rowid r)) s.3 ∙ ties _ id.2)) ∙ s.2
 
 -- the query that finds the rowids of the rows to remove
 abbrev pub finding : ℕ → Join → List Term → Query
-finding tree rest terms = record {
-  from = Rattle.sqlite_sql.specs.Query.inner tree rest;
-  filter = terms;
-  group = None;
-  project = col 1 0 ∷ [];
-  distinct = false;
-  collations = [];
-  order = [];
-  limit = Rattle.sqlite_sql.specs.Term.lit (Int (negsuc 0));
-  offset = Rattle.sqlite_sql.specs.Term.lit (Int (pos 0));
-}
+finding tree rest terms = selection tree rest terms (col 1 0 ∷ []) []
 
--- the test of WHERE at a row, in some trees
-abbrev pub is_found : Trees → Join → List Term → Row → Row → Bool
-is_found db rest terms params r = list_all (holds (grown db rest (params ∷ r ∷ []))) terms
-
-module _ (db : Trees) (tree : ℕ) (rest : Join) (terms : List Term) (params : Row) (rows : List Row) (flat : is_flat rest ≡ true) (sure : IsSureAnswer (finding tree rest terms) (overlay db []) params rows) where
+module _ (db : Trees) (tree : ℕ) (rest : Join) (terms : List Term) (params : Row) (rows : List Row) (flat : is_flat rest ≡ true) (sure : IsSureAnswer (finding tree rest terms) (overlay db []) params rows)
+    (numbered : AllByRecursion (λ r. IsTrue (is_int (rowid r))) (db tree)) where
   abbrev p : Row → Bool
   p = is_found db rest terms params
 
-  abbrev q : Query
-  q = finding tree rest terms
-
-  a : IsAnswer q (overlay db []) params rows
-  a = sure Null
-
-  abbrev out : Row → Output
-  out r = ([], rowid r ∷ [])
-
-  kept : a.kept ≡ map out (filter p (db tree))
-  kept =
-      a.distinct ∙ ap (map (output q)) a.grouped ∙ ap (λ (d : Trees). map (output q) (matches d terms (Rattle.sqlite_sql.specs.Query.inner tree rest) (params ∷ []))) (λ i x. overlay_none db x i)
-      ∙ ap (map (output q)) (ap (λ (f : Row → List Env). flat_map f (db tree)) (λ i r. flat_one db terms rest (params ∷ r ∷ []) flat i) ∙ picked p (λ r. grown db rest (params ∷ r ∷ [])) (db tree))
-      ∙ map-map (output q) (λ r. grown db rest (params ∷ r ∷ [])) (filter p (db tree))
-      ∙ ap (λ (f : Row → Output). map f (filter p (db tree))) (λ i r. ([], column (slot_kept db rest params r [] i) 0 ∷ []))
-
+  -- it finds the rowids of the rows that pass
   same : IsPermutation (map (λ r. rowid r ∷ []) (filter p (db tree))) rows
-  same = subst (IsPermutation _) (sym a.shown) (subst (λ l. IsPermutation l (map (λ (o : Output). o.1) a.ordered)) (ap (map (λ (o : Output). o.1)) kept ∙ map-map (λ (o : Output). o.1) out (filter p (db tree))) (IsPermutation-map (λ (o : Output). o.1) _ _ a.same))
+  same =
+      let a = answered db tree rest terms params flat (col 1 0 ∷ []) rows sure in
+      let show : Row → Output = λ r. output (finding tree rest terms) (grown db rest (params ∷ r ∷ [])) in
+      subst (λ l. IsPermutation l rows) (map-map (λ (o : Output). o.1) show _ ∙ ap (λ (f : Row → Row). map f (filter p (db tree))) (λ i r. column (slot_kept db rest params r [] i) 0 ∷ []))
+      (subst (IsPermutation _) (sym a.shows) (IsPermutation-map (λ (o : Output). o.1) _ _ a.same))
+
+  named : (r : Row) → Has (db tree) r → rowid r ≡ Int (id_in (rowid r))
+  named r has = int_is (rowid r) (all_has _ (db tree) r numbered has)
 
   -- each rowid that was found is that of a row that passes
-  pub chosen_from : (id : ℤ) → Has (ids_of rows) id → (r : Row) × Has (db tree) r × (is_found db rest terms params r ≡ true) × (id ≡ id_in (rowid r))
+  pub chosen_from : (id : ℤ) → Has (ids_of rows) id → (r : Row) × Has (db tree) r × (is_found db rest terms params r ≡ true) × (rowid r ≡ Int id)
   chosen_from id h =
-      let x = has_map (λ y. id_in (rowid y)) rows id h in
-      let r = has_map (λ r. rowid r ∷ []) (filter p (db tree)) x.0 (has_along _ _ x.0 (IsPermutation-sym _ _ same) x.1) in
+      let x = has_mapped (λ y. id_in (rowid y)) rows id h in
+      let r = has_mapped (λ r. rowid r ∷ []) (filter p (db tree)) x.0 (has_along _ _ x.0 (IsPermutation-sym _ _ same) x.1) in
       let f = has_filtered p (db tree) r.0 r.1 in
-      (r.0, f.0, f.1, x.2 ∙ ap (λ y. id_in (rowid y)) r.2)
+      (r.0, f.0, f.1, named r.0 f.0 ∙ ap Int (sym (x.2 ∙ ap (λ y. id_in (rowid y)) r.2)))
 
-  complete : (r : Row) → Has (db tree) r → p r ≡ true → Has (ids_of rows) (id_in (rowid r))
-  complete r has pass = mapped_has (λ y. id_in (rowid y)) rows (rowid r ∷ []) (has_along _ _ _ same (mapped_has (λ r. rowid r ∷ []) (filter p (db tree)) r (has_kept p (db tree) r has pass)))
+  complete : (r : Row) → Has (db tree) r → p r ≡ true → list_any (λ id. has_rowid id r) (ids_of rows) ≡ true
+  complete r has pass =
+      by_rowid r _ _ (named r has) (mapped_has (λ y. id_in (rowid y)) rows (rowid r ∷ []) (has_along _ _ _ same (mapped_has (λ r. rowid r ∷ []) (filter p (db tree)) r (has_kept p (db tree) r has pass))))
 
-  pub chosen : IsTable (db tree) → AllByRecursion (λ r. IsTrue (is_int (rowid r))) (db tree) → without_all (db tree) (ids_of rows) ≡ filter (λ r. not (is_found db rest terms params r)) (db tree)
-  chosen up numbered = taken_out p (db tree) (ids_of rows) up numbered chosen_from complete
+  pub chosen : IsTable (db tree) → without_all (db tree) (ids_of rows) ≡ filter (λ r. not (is_found db rest terms params r)) (db tree)
+  chosen up = taken_out p (db tree) (ids_of rows) up chosen_from complete
 
 module _ (db them : Trees) (known : ℕ → Bool) (same : (t : ℕ) → known t ≡ true → IsPermutation (map bare (db t)) (them t)) where
   -- the test is the same of the rows without their rowids
@@ -182,7 +159,7 @@ module _ (schema : Schema) (at : ℕ) (table : Table) (it : IsFound schema at ta
       let here = stores_at schema.tables at table db all it.found was.each in
       let known : (t : ℕ) → is_tree schema.tables t ≡ true → IsPermutation (map bare (db t)) (seen schema.tables all t) = λ t is. stored_is_seen schema.tables db all t was.each is in
       let rows : gone.end table.tree ≡ filter (λ r. not (goes all (drop 1 r))) (db table.tree) =
-      a.rows ∙ chosen db table.tree rest terms params gone.rows text.flat gone.found here.listed here.numbered
+      a.rows ∙ chosen db table.tree rest terms params gone.rows text.flat gone.found here.numbered here.listed
       ∙ ap (λ (f : Row → Bool). filter f (db table.tree)) (λ i r. not (grown_same db (seen schema.tables all) (is_tree schema.tables) known rest (false ∷ true ∷ []) terms (params ∷ r ∷ []) refl text.flat text.joins i)) in
       let kept : Stores (length table.primary) (length table.columns) (gone.end table.tree) left =
       subst (λ stored. Stores (length table.primary) (length table.columns) stored left) (sym rows) (stores_filter _ _ (λ row. not (goes all row)) (db table.tree) (rows_of_table all at) here) in

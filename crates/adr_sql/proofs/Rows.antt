@@ -9,7 +9,7 @@ use Rattle.sqlite_value.specs.Order.{Row, value_cmp}
 use Rattle.sqlite_value.specs.Keys.{rising}
 use Rattle.sqlite_trees.specs.Tree.{rowid, has_rowid, put_row, without_rowid, IsAscending}
 use Rattle.sqlite_trees.specs.View.{is_int}
-use Rattle.sqlite_trees.proofs.ListLemmas.{all_weaker, all-filter, ascending-filter, filter_all, filter-map, IsPermutation-filter}
+use Rattle.sqlite_trees.proofs.ListLemmas.{all_of, all_weaker, all-filter, ascending-filter, filter_all, filter-map, IsPermutation-filter}
 use Rattle.sqlite_trees.proofs.TreeLemmas.{all-put_row, IsTable-put_row}
 use Rattle.sqlite_sql.proofs.QueryLemmas.{key_cmp_total}
 use Rattle.sqlite_rules.specs.Edit.{without_all, is_taken}
@@ -33,11 +33,7 @@ filter_twice {X} a b (x ∷ xs) = go (a x) (b x) refl refl (filter_twice a b xs)
 
 -- to take rows out by their rowids is to filter
 pub without_all_is : (ids : List ℤ) (rows : List Row) → without_all rows ids ≡ filter (λ r. not (list_any (λ id. has_rowid id r) ids)) rows
-without_all_is [] rows = sym (filter_all _ rows (none rows))
-  where
-    none : (rows : List Row) → AllByRecursion (λ r. true ≡ true) rows
-    none [] = tt
-    none (r ∷ rows) = (refl, none rows)
+without_all_is [] rows = sym (filter_all _ rows (all_of _ (λ r. refl) rows))
 without_all_is (id ∷ ids) rows = without_all_is ids (without_rowid id rows) ∙ filter_twice (has_rowid id) (λ r. list_any (λ i. has_rowid i r) ids) rows
 
 pub stores_filter : (n width : ℕ) (p : Row → Bool) (stored rows : List Row) → Stores n width stored rows → Stores n width (filter (λ r. p (drop 1 r)) stored) (filter p rows)

@@ -52,9 +52,10 @@ use Rattle.adr_sql.proofs.Keys.{same_bool, equal_is, agree_is, places_from, ties
 use Rattle.adr_sql.proofs.Rows.{stores_put, key_order_total}
 use Rattle.adr_sql.proofs.Places.{LeavesOthers, IsFound, stores_at, stores_with_table}
 use Rattle.adr_sql.proofs.References.{is_unfollowed, no_follow, went, same_value, cast_null, cast_int}
-use Rattle.adr_sql.proofs.Selections.{simple, passes, picked, overlay_none}
-use Rattle.adr_sql.proofs.Removals.{taken_out}
+use Rattle.adr_sql.proofs.Selections.{selection, passes, IsAnsweredBy, answered}
+use Rattle.adr_sql.proofs.Removals.{by_rowid, taken_out}
 use Rattle.adr_sql.proofs.Values.{AreValues, fit_kept}
+use Rattle.std.proofs.lemmas.List.Elements.{filter_passes, recursion_from_All}
 
 -- ---- the rows with a key are at most one
 
@@ -65,20 +66,12 @@ few_tied n key (x ∷ y ∷ rows) up same =
     let apart : key_order n key y ≡ Less = (key_order_total n).congr key x y (ties _ same.0) ∙ up.0.0 in
     absurd (let tie = ties _ same.1.0 in let less = apart in cc)
 
-all_kept : {X : Type 0} (p : X → Bool) (xs : List X) → AllByRecursion (λ x. p x ≡ true) (filter p xs)
-all_kept p [] = tt
-all_kept {X} p (x ∷ xs) = go (p x) refl (all_kept p xs)
-  where
-    go : (b : Bool) → p x ≡ b → AllByRecursion (λ y. p y ≡ true) (filter p xs) → AllByRecursion (λ y. p y ≡ true) (cond b (x ∷ filter p xs) (filter p xs))
-    go true is more = (is, more)
-    go false is more = more
-
 -- so are the stored rows with the key
 few : (n width : ℕ) (key : Row) (stored rows : List Row) → Stores n width stored rows → length (filter (λ r. has_key n key (drop 1 r)) stored) ≤ 1
 few n width key stored rows h =
     let bare : length (filter (λ r. has_key n key (drop 1 r)) stored) ≡ length (filter (has_key n key) (map (drop 1) stored)) = sym (length-map _ _) ∙ ap length (sym (filter-map (has_key n key) (drop 1) stored)) in
     let held : length (filter (has_key n key) (map (drop 1) stored)) ≡ length (filter (has_key n key) rows) = length_permutation _ _ (IsPermutation-filter (has_key n key) _ _ h.same) in
-    let most = few_tied n key (filter (has_key n key) rows) (ascending-filter _ (has_key n key) rows h.rising) (all_kept (has_key n key) rows) in
+    let most = few_tied n key (filter (has_key n key) rows) (ascending-filter _ (has_key n key) rows h.rising) (recursion_from_All _ _ (filter_passes (has_key n key) rows)) in
     omega (arith, bare, held, most)
 
 single : (xs : List Row) (r : Row) → Has xs r → length xs ≤ 1 → xs ≡ r ∷ []
@@ -91,25 +84,6 @@ only : {X : Type 0} (r x : X) → Has (r ∷ []) x → x ≡ r
 only r x (inl e) = e
 only r x (inr h) = absurd h
 
--- ---- what a query over one table answers, with no order
-
-record IsAnsweredBy (q : Query) (found : List Row) (params : Row) (rows : List Row) : Type 0 where
-  ordered : List Output
-  same : IsPermutation (map (λ r. output q (params ∷ r ∷ [])) found) ordered
-  shows : rows ≡ map (λ (o : Output). o.1) ordered
-
-matched : (db : Trees) (tree : ℕ) (terms : List Term) (params : Row) → matches (overlay db []) terms (inner tree end) (params ∷ []) ≡ map (λ r. params ∷ r ∷ []) (filter (passes params terms) (db tree))
-matched db tree terms params = ap (flat_map (λ r. cond (passes params terms r) ((params ∷ r ∷ []) ∷ []) [])) (overlay_none db tree) ∙ picked (passes params terms) (λ r. params ∷ r ∷ []) (db tree)
-
-answered : (db : Trees) (tree : ℕ) (terms project : List Term) (params : Row) (rows : List Row) → IsSureAnswer (simple tree terms project []) (overlay db []) params rows
-    → IsAnsweredBy (simple tree terms project []) (filter (passes params terms) (db tree)) params rows
-answered db tree terms project params rows sure =
-    let q = simple tree terms project [] in
-    let a : IsAnswer q (overlay db []) params rows = sure Null in
-    let kept : a.kept ≡ map (λ r. output q (params ∷ r ∷ [])) (filter (passes params terms) (db tree)) =
-    a.distinct ∙ ap (map (output q)) (a.grouped ∙ matched db tree terms params) ∙ map-map (output q) (λ r. params ∷ r ∷ []) (filter (passes params terms) (db tree)) in
-    record { ordered = a.ordered; same = subst (λ l. IsPermutation l a.ordered) kept a.same; shows = a.shown }
-
 -- ---- the table and the text
 
 -- the row that the new one meets, by its rowid, which stands behind the parameters
@@ -118,7 +92,7 @@ is_met place = op2 (Compare Eq Binary) (col 1 0) (col 0 place)
 
 -- the query that finds it, and what is set
 abbrev pub setting : Table → ℕ → List Term → Query
-setting table place sets = simple table.tree (is_met place ∷ []) (col 1 0 ∷ col 1 0 ∷ sets) []
+setting table place sets = selection table.tree end (is_met place ∷ []) (col 1 0 ∷ col 1 0 ∷ sets) []
 
 abbrev pub on_key : Table → ℕ → List Term → Upsert
 on_key table place sets = record { target = Some (places_from 0 (length table.primary)); update = Some (record { lets = []; body = setting table place sets }) }
@@ -199,9 +173,8 @@ module _ (schema : Schema) (at : ℕ) (table : Table) (it : IsKeyed schema at ta
       let stored : List Row = db table.tree in
       let a = one_step schema Enforced db next edit (no_follow schema 0 table.tree it.unfollowed Enforced (taken_by db edit) (cast_row table (Int id ∷ row))) h in
       let there : Has stored r × (key r ≡ true) = has_filtered key stored r (subst (λ l. Has l r) (sym found) (inl refl)) in
-      let number : id ≡ id_in (rowid r) = ap id_in (sym named) in
       let left : without_all stored (id ∷ []) ≡ filter (λ r. not (key r)) stored =
-      taken_out key stored (id ∷ []) was.listed was.numbered (λ i has. (r, there.0, there.1, only id i has ∙ number)) (λ x has is. inl (ap (λ y. id_in (rowid y)) (only r x (subst (λ l. Has l x) found (has_kept key stored x has is))) ∙ sym number)) in
+      taken_out key stored (id ∷ []) was.listed (λ i has. (r, there.0, there.1, named ∙ ap Int (sym (only id i has)))) (λ x has is. by_rowid x id (id ∷ []) (ap rowid (only r x (subst (λ l. Has l x) found (has_kept key stored x has is))) ∙ named) (inl refl)) in
       let free : is_taken (filter (λ r. not (key r)) stored) (Int id ∷ row) ≡ false = ap₂ is_taken (sym left) (sym (as_cast id)) ∙ not-true _ (and_parts _ _ a.fresh).0 in
       let now : next table.tree ≡ put_row (Int id ∷ row) (filter (λ r. not (key r)) stored) = a.rows ∙ ap₂ put_row (as_cast id) left in
       (subst (λ rs. Stores n width rs (with_row n row rows)) (sym now) (stores_put n width (Int id ∷ row) stored rows are.width refl free was), a.tables)
@@ -242,8 +215,8 @@ module _ (schema : Schema) (at : ℕ) (table : Table) (it : IsKeyed schema at ta
         ap (λ p. passes p (is_met met ∷ []) x) given_is ∙ and_true _ ∙ meets id x ∙ equal_is (rowid x) (Int id) refl
         ∙ same_bool _ _ (λ tie. ap key (tied_same stored x r was.listed there has (ap (value_cmp (rowid x)) named ∙ tied_back value_cmp_total (Int id) (rowid x) (ties _ tie))) ∙ is)
         (λ k. ap (λ y. is_eq (value_cmp (Int id) (rowid y))) (only r x (subst (λ l. Has l x) one (has_kept key stored x there k))) ∙ ap (λ v. is_eq (value_cmp (Int id) v)) named ∙ ap is_eq (tied_itself value_cmp_total (Int id))))) in
-        let a = answered db table.tree (is_met met ∷ []) (col 1 0 ∷ col 1 0 ∷ sets) given queried.0 queried.1.answer in
-        let alone : IsAnsweredBy (setting table met sets) (r ∷ []) given queried.0 = subst (λ f. IsAnsweredBy (setting table met sets) f given queried.0) (met_is ∙ one) a in
+        let a = answered db table.tree end (is_met met ∷ []) given refl (col 1 0 ∷ col 1 0 ∷ sets) queried.0 queried.1.answer in
+        let alone : IsAnsweredBy db end (setting table met sets) (r ∷ []) given queried.0 = subst (λ f. IsAnsweredBy db end (setting table met sets) f given queried.0) (met_is ∙ one) a in
         let rows_are : queried.0 ≡ (Int id ∷ Int id ∷ row) ∷ [] =
         alone.shows ∙ ap (map (λ (o : Output). o.1)) (one_permutation _ _ alone.same) ∙ ap (λ l. l ∷ []) (ap₂ (λ v l. v ∷ v ∷ l) named (ap (λ p. eval_all sets (p ∷ r ∷ [])) given_is ∙ writes id r)) in
         let end = written_anew id r db made.0 rows one named was (subst (λ l. Edited schema Enforced db (edit_of db table (ids_of l) Given 1 l) (Ok made.0)) rows_are made.1) in

@@ -1,7 +1,7 @@
 -- What the tables of a database hold. The number that the store gives each row is no part of it.
 use Rattle.std.specs.Prelude.{◌≡◌, ℕ, zero, suc, List, [], ◌∷◌, map, drop, length, IsTrue}
 use Rattle.std.specs.declared.cmp.Ordering.TheVariants.{Less}
-use Rattle.std.specs.List.{AllByRecursion}
+use Rattle.std.specs.List.{AllByRecursion, AllZip}
 use Rattle.std.specs.List.Sorted.{IsPermutation}
 use Rattle.sqlite.specs.Order.{Row}
 use Rattle.sqlite.specs.Tree.{Trees, rowid, IsTable, IsAscending}
@@ -41,10 +41,7 @@ pub record Stores (n width : ℕ) (stored rows : List Row) : Type 0 where
 
 -- each table stores its rows
 abbrev pub StoresEach : List Table → Trees → Contents → Type 0
-StoresEach [] trees [] = Unit {0}
-StoresEach [] trees (rows ∷ all) = ⊥
-StoresEach (t ∷ ts) trees [] = ⊥
-StoresEach (t ∷ ts) trees (rows ∷ all) = Stores (length t.primary) (length t.columns) (trees t.tree) rows × StoresEach ts trees all
+StoresEach ts trees all = AllZip (λ t rows. Stores (length t.primary) (length t.columns) (trees t.tree) rows) ts all
 
 -- the database has this schema, and its tables hold this
 pub record Holds (schema : Schema) (all : Contents) (s : State) : Type 0 where

@@ -5,9 +5,9 @@ use Rattle.adr_db.specs.Rows.{resource_columns}
 use Rattle.adr_db.proofs.Rows.{resource_kept}
 use Rattle.adr_db.proofs.KeptMaps.{one_finds}
 use Rattle.adr_db.proofs.Maps.{resource_map}
-use Rattle.adr_db.proofs.ResourceStatements.{reads_one}
+use Rattle.adr_db.proofs.ResourceStatements.{texts}
 use Rattle.adr_db.proofs.resource.read_resource.Goals as goal
 
 pub returns-clause-finds : goal.returns-clause-finds
 returns-clause-finds g c =
-    one_finds resource_map g.S.Store c.args.tx.now.conn.now c.first_of.new.tx.conn.now _ (λ row resource. resource_columns resource ≡ cells 1 4 row) (λ (found there : Option Resource). found ≡ there) c.args.id _ refl reads_one refl (λ a b same. ap Some (resource_kept a b same)) (rw (c.in_ok-number_of_resource.ensures.value, c.get.ensures) at c.first_of.ensures.shows)
+    one_finds resource_map g.S.Store c.args.tx.now.conn.now c.first_of.new.tx.conn.now _ (λ row resource. resource_columns resource ≡ cells 1 4 row) (λ (found there : Option Resource). found ≡ there) c.args.id _ refl texts.reads_one refl (λ a b same. ap Some (resource_kept a b same)) (rw (c.in_ok-number_of_resource.ensures.value, c.get.ensures) at c.first_of.ensures.shows)
