@@ -104,10 +104,7 @@ pub(crate) fn weight_in(row: &Row, at: usize) -> Result<Weight, Refusal>
     ensures refused { IfErr result IsOfStore }
 {
     let amount: u32 = column(row, at)?;
-    match Weight::new(amount) {
-        Some(weight) => Ok(weight),
-        None => Err(Refusal::Store),
-    }
+    Weight::new(amount).ok_or(Refusal::Store)
 }
 
 /// The stamps in two columns.
@@ -126,8 +123,7 @@ impl FromRow for Number {
     ghost reads = { λ row n. number n ≡ column row 0 };
 
     fn from_row(_: Global, row: &Row) -> Result<Number, Refusal> {
-        let number: u64 = column(row, 0)?;
-        Ok(Number::new(number))
+        Ok(Number::new(column(row, 0)?))
     }
 }
 

@@ -65,23 +65,17 @@ pub(crate) fn write_meta<S: Alter>(tx: &mut Transaction<'_, S>, meta: &Meta) -> 
     ensures changes { Changes S.Store tx.old.conn.now tx.new.conn.now schema (λ all. with_table all 0 (with_row 1 (meta_row meta.now) (rows_of_table all 0))) result }
     ensures refused { IfErr result IsOfStore }
 {
-    let serial = number(meta.serial.get())?;
-    let made = number(meta.made)?;
-    let sent = number(meta.sent)?;
-    let given_up = number(meta.given_up)?;
-    let dropped = number(meta.dropped)?;
-    let keys = number(meta.keys)?;
     run(
         tx,
         PUT,
         &[
-            serial,
+            number(meta.serial.get())?,
             meta.scan.to_sql(),
-            made,
-            sent,
-            given_up,
-            dropped,
-            keys,
+            number(meta.made)?,
+            number(meta.sent)?,
+            number(meta.given_up)?,
+            number(meta.dropped)?,
+            number(meta.keys)?,
         ],
     )
 }
@@ -127,10 +121,7 @@ fn serial_in(row: &Row, at: usize) -> Result<Serial, Refusal>
     ensures refused { IfErr result IsOfStore }
 {
     let last: u64 = column(row, at)?;
-    match Serial::at(last) {
-        Some(serial) => Ok(serial),
-        None => Err(Refusal::Store),
-    }
+    Serial::at(last).ok_or(Refusal::Store)
 }
 
 impl FromRow for Meta {

@@ -73,7 +73,6 @@ fn put_columns<S: Alter>(
     ensures leaves { LeavesKept S.Store tx.old.conn.now tx.new.conn.now (with_mark key.now mark.now) result }
     ensures refused { IfErr result IsOfStore }
 {
-    let moment = number(columns.moment)?;
     run(
         tx,
         PUT,
@@ -81,7 +80,7 @@ fn put_columns<S: Alter>(
             kind_number(key.kind).to_sql(),
             key.id.as_str().to_sql(),
             columns.state.to_sql(),
-            moment,
+            number(columns.moment)?,
             (&columns.body).to_sql(),
         ],
     )

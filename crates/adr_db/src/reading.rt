@@ -107,25 +107,16 @@ pub(crate) fn table_of<K: Ord + Drop, V: Drop>(
     Ok(table)
 }
 
-fn count_at(row: &Row) -> Result<u64, Refusal>
-    ensures counted { IfOk result (λ n. (m : ℕ) → column row.now 0 ≡ count m → n ≡ m) }
+fn count_in(rows: &[Row]) -> Result<u64, Refusal>
+    ensures counted { IfOk result (λ n. (m : ℕ) → rows.now ≡ (count m ∷ []) ∷ [] → n ≡ m) }
     ensures refused { IfErr result IsOfStore }
 {
+    let row = rows.first().ok_or(Refusal::Store)?;
     let counted: u64 = column(row, 0)?;
     if counted >= 9_223_372_036_854_775_807 {
         return Err(Refusal::Store);
     }
     Ok(counted)
-}
-
-fn count_in(rows: &[Row]) -> Result<u64, Refusal>
-    ensures counted { IfOk result (λ n. (m : ℕ) → rows.now ≡ (count m ∷ []) ∷ [] → n ≡ m) }
-    ensures refused { IfErr result IsOfStore }
-{
-    match rows.first() {
-        Some(row) => count_at(row),
-        None => Err(Refusal::Store),
-    }
 }
 
 /// The number that the query counts, which is all that it shows. SQL counts no further than

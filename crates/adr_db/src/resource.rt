@@ -47,19 +47,15 @@ pub fn put_resource<S: Alter>(
     ensures leaves { LeavesKept S.Store tx.old.conn.now tx.new.conn.now (with_portfolio (with_resource id resource.now)) result }
     ensures refused { IfErr result IsOfStore }
 {
-    let number_of_resource = number(id.get())?;
-    let ven = number(resource.ven.get())?;
-    let created = number(resource.stamps.created.nanos())?;
-    let modified = number(resource.stamps.modified.nanos())?;
     run(
         tx,
         PUT,
         &[
-            number_of_resource,
-            ven,
+            number(id.get())?,
+            number(resource.ven.get())?,
             resource.name.as_name().as_str().to_sql(),
-            created,
-            modified,
+            number(resource.stamps.created.nanos())?,
+            number(resource.stamps.modified.nanos())?,
         ],
     )
 }
@@ -71,8 +67,7 @@ pub fn remove_resource<S: Alter>(tx: &mut Transaction<'_, S>, id: Number) -> Res
     ensures leaves { LeavesKept S.Store tx.old.conn.now tx.new.conn.now (with_portfolio (without_resource id)) result }
     ensures refused { IfErr result IsOfStore }
 {
-    let number_of_resource = number(id.get())?;
-    run(tx, REMOVE, &[number_of_resource])
+    run(tx, REMOVE, &[number(id.get())?])
 }
 
 // The name in the third column.
@@ -91,9 +86,8 @@ impl FromRow for Resource {
     ghost reads = { λ row resource. resource_columns resource ≡ cells 1 4 row };
 
     fn from_row(alloc: Global, row: &Row) -> Result<Resource, Refusal> {
-        let ven: u64 = column(row, 1)?;
         Ok(Resource {
-            ven: Number::new(ven),
+            ven: Number::new(column(row, 1)?),
             name: resource_name_in(alloc, row)?,
             stamps: stamps_in(row, 3)?,
         })
@@ -126,8 +120,7 @@ pub fn read_resource<S: Alter>(
     ensures finds { Finds S.Store tx.old.conn.now tx.new.conn.now (λ kept found. found ≡ at nat_cmp id kept.portfolio.resources) result }
     ensures refused { IfErr result IsOfStore }
 {
-    let number_of_resource = number(id.get())?;
-    first_of(alloc, tx, READ_ONE, &[number_of_resource])
+    first_of(alloc, tx, READ_ONE, &[number(id.get())?])
 }
 
 /// The resources, by their numbers.

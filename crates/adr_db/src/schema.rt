@@ -33,19 +33,6 @@ const RESOURCE: &str =
 const SHARE: &str =
     "CREATE TABLE share (program TEXT NOT NULL, resource INT NOT NULL REFERENCES resource (id) ON DELETE CASCADE, weight INT NOT NULL CHECK (weight >= 1 AND weight <= 1000000), PRIMARY KEY (program, resource), UNIQUE (resource, program)) STRICT";
 
-fn create_empty<S: Alter>(tx: &mut Transaction<'_, S>) -> Result<(), Refusal>
-    ensures same_reference { tx.new.conn.ghost_name ≡ tx.old.conn.ghost_name }
-    ensures stays { Stays S.Store tx.old.conn.now tx.new.conn.now result }
-    ensures made { HasCleanDisk (state S.Store tx.new.conn.now) → OnOk result (Holds no_schema [] (state S.Store tx.old.conn.now) → Holds schema (empty_tables tables) (state S.Store tx.new.conn.now)) }
-    ensures refused { IfErr result IsOfStore }
-{
-    let texts = [META, MIRROR, POLLED, VEN, RESOURCE, SHARE];
-    match create_tables(tx, &texts) {
-        Ok(()) => Ok(()),
-        Err(error) => Err(refusal_of(error)),
-    }
-}
-
 /// Makes the tables of a new node, which keep nothing, in an empty database.
 pub fn create<S: Alter>(tx: &mut Transaction<'_, S>) -> Result<(), Refusal>
     ensures same_reference { tx.new.conn.ghost_name ≡ tx.old.conn.ghost_name }
@@ -53,6 +40,9 @@ pub fn create<S: Alter>(tx: &mut Transaction<'_, S>) -> Result<(), Refusal>
     ensures made { HasCleanDisk (state S.Store tx.new.conn.now) → OnOk result (Holds no_schema [] (state S.Store tx.old.conn.now) → Keeps nothing_kept (state S.Store tx.new.conn.now)) }
     ensures refused { IfErr result IsOfStore }
 {
-    create_empty(tx)?;
-    write_meta(tx, &Meta::first())
+    let texts = [META, MIRROR, POLLED, VEN, RESOURCE, SHARE];
+    match create_tables(tx, &texts) {
+        Ok(()) => write_meta(tx, &Meta::first()),
+        Err(error) => Err(refusal_of(error)),
+    }
 }

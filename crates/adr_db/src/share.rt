@@ -42,13 +42,12 @@ pub fn put_share<S: Alter>(
     ensures leaves { LeavesKept S.Store tx.old.conn.now tx.new.conn.now (with_portfolio (with_share key.now weight)) result }
     ensures refused { IfErr result IsOfStore }
 {
-    let resource = number(key.resource.get())?;
     run(
         tx,
         PUT,
         &[
             key.program.as_str().to_sql(),
-            resource,
+            number(key.resource.get())?,
             weight.get().to_sql(),
         ],
     )
@@ -69,10 +68,9 @@ impl FromRow for ShareKey {
     ghost reads = { λ row key. share_key_row key ≡ cells 0 2 row };
 
     fn from_row(alloc: Global, row: &Row) -> Result<ShareKey, Refusal> {
-        let resource: u64 = column(row, 1)?;
         Ok(ShareKey {
             program: id_in(alloc, row, 0)?,
-            resource: Number::new(resource),
+            resource: Number::new(column(row, 1)?),
         })
     }
 }

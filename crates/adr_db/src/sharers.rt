@@ -22,9 +22,8 @@ impl FromRow for Participant {
     ghost reads = { λ row p. participant_row p ≡ cells 0 4 row };
 
     fn from_row(alloc: Global, row: &Row) -> Result<Participant, Refusal> {
-        let resource: u64 = column(row, 0)?;
         Ok(Participant {
-            resource: Number::new(resource),
+            resource: Number::new(column(row, 0)?),
             weight: weight_in(row, 1)?,
             name: name_in(alloc, row, 2)?,
             ven_name: name_in(alloc, row, 3)?,

@@ -40,13 +40,15 @@ pub fn put_ven<S: Alter>(tx: &mut Transaction<'_, S>, id: Number, ven: &Ven) -> 
     ensures leaves { LeavesKept S.Store tx.old.conn.now tx.new.conn.now (with_portfolio (with_ven id ven.now)) result }
     ensures refused { IfErr result IsOfStore }
 {
-    let number_of_ven = number(id.get())?;
-    let created = number(ven.stamps.created.nanos())?;
-    let modified = number(ven.stamps.modified.nanos())?;
     run(
         tx,
         PUT,
-        &[number_of_ven, ven.name.as_str().to_sql(), created, modified],
+        &[
+            number(id.get())?,
+            ven.name.as_str().to_sql(),
+            number(ven.stamps.created.nanos())?,
+            number(ven.stamps.modified.nanos())?,
+        ],
     )
 }
 
@@ -57,8 +59,7 @@ pub fn remove_ven<S: Alter>(tx: &mut Transaction<'_, S>, id: Number) -> Result<(
     ensures leaves { LeavesKept S.Store tx.old.conn.now tx.new.conn.now (with_portfolio (without_ven id)) result }
     ensures refused { IfErr result IsOfStore }
 {
-    let number_of_ven = number(id.get())?;
-    run(tx, REMOVE, &[number_of_ven])
+    run(tx, REMOVE, &[number(id.get())?])
 }
 
 impl FromRow for Ven {
@@ -83,8 +84,7 @@ pub fn read_ven<S: Alter>(
     ensures finds { Finds S.Store tx.old.conn.now tx.new.conn.now (λ kept found. found ≡ at nat_cmp id kept.portfolio.vens) result }
     ensures refused { IfErr result IsOfStore }
 {
-    let number_of_ven = number(id.get())?;
-    first_of(alloc, tx, READ_ONE, &[number_of_ven])
+    first_of(alloc, tx, READ_ONE, &[number(id.get())?])
 }
 
 /// The vens, by their numbers.

@@ -20,4 +20,4 @@ returns-clause-leaves g c =
     let given = row (kind_number key.kind) key.id columns.state columns.moment (string_bytes columns.body) in
     let is = ap (λ (cells : Row). key_row key ++ cells) c.requires.same in
     put_leaves mirror_map g.S.Store c.args.tx.now.conn.now c.run.new.tx.conn.now _ given key mark _ (subst (IsUpsertText schema mirror_map.rows.at mirror PUT.now given) is (puts _ _ _ _ _)) (subst (AreValues mirror) is (values _ _ _ _ _)) (λ kept are. marks_put kept.mirror key mark are c.requires.valid)
-    (rw (c.to_sql.ensures, c.kind_number.ensures, c.to_sql-2.ensures, c.as_str.ensures.text, c.to_sql-3.ensures, c.in_ok-moment.ensures.value, c.to_sql-4.ensures) at c.run.ensures.runs)
+    (rw (c.to_sql.ensures, c.kind_number.ensures, c.to_sql-2.ensures, c.as_str.ensures.text, c.to_sql-3.ensures, c.in_ok-number.ensures.value, c.to_sql-4.ensures) at c.run.ensures.runs)

@@ -10,4 +10,4 @@ pub returns-clause-leaves : goal.returns-clause-leaves
 returns-clause-leaves g c =
     let old = c.args.tx.now.conn.now in
     let new = c.run.new.tx.conn.now in
-    run_leaves g.S.Store old new _ (number_row c.args.id) (with_portfolio (without_resource c.args.id)) _ (resource_removed c.args.id (state g.S.Store old) (state g.S.Store new)) (rw (c.in_ok-number_of_resource.ensures.value, c.get.ensures) at c.run.ensures.runs)
+    run_leaves g.S.Store old new _ (number_row c.args.id) (with_portfolio (without_resource c.args.id)) _ (resource_removed c.args.id (state g.S.Store old) (state g.S.Store new)) (rw (c.in_ok-number.ensures.value, c.get.ensures) at c.run.ensures.runs)

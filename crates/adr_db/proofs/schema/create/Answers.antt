@@ -2,12 +2,14 @@ use Rattle.std.proofs.Common.{arith, subst}
 use Rattle.sqlite.specs.Held.{state}
 use Rattle.sqlite.specs.State.{HasCleanDisk}
 use Rattle.adr_db.specs.declared.meta.Meta.{Meta}
+use Rattle.adr_db.specs.Tables.{tables}
 use Rattle.adr_db.specs.Kept.{Keeps, nothing_kept, with_meta}
 use Rattle.adr_db.proofs.Results.{on_then}
+use Rattle.adr_db.proofs.Creating.{make_tables}
 use Rattle.adr_db.proofs.schema.create.Goals as goal
 
-pub returns-clause-made : goal.returns-clause-made
-returns-clause-made g c clean =
+pub returns-in-Ok-clause-made : goal.returns-in-Ok-clause-made
+returns-in-Ok-clause-made g c clean =
     let new = state g.S.Store c.write_meta.new.tx.conn.now in
-    let early : HasCleanDisk (state g.S.Store c.create_empty.new.tx.conn.now) = omega (arith, c.write_meta.ensures.stays.crash.clean) in
-    on_then c.write_meta.result (λ change empty. subst (λ (m : Meta). Keeps (with_meta m nothing_kept) new) c.first.ensures (record { rows = change _ (c.in_ok-create_empty.ensures.made early empty); marks = tt })) (c.write_meta.ensures.changes clean)
+    let early : HasCleanDisk (state g.S.Store c.create_tables.new.tx.conn.now) = omega (arith, c.write_meta.ensures.stays.crash.clean) in
+    on_then c.write_meta.result (λ change empty. subst (λ (m : Meta). Keeps (with_meta m nothing_kept) new) c.first.ensures (record { rows = change _ (c.in-Ok.ensures.made early tables make_tables empty); marks = tt })) (c.write_meta.ensures.changes clean)
