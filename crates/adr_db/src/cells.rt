@@ -22,10 +22,7 @@ pub(crate) fn column<T: FromSql>(row: &Row, at: usize) -> Result<T, Refusal>
     ensures reads { IfOk result (λ x. T.FromSql.reads_as (column row.now at) x) }
     ensures refused { IfErr result IsOfStore }
 {
-    match row.get(at) {
-        Ok(value) => Ok(value),
-        Err(error) => Err(refusal_of(error)),
-    }
+    row.get(at).map_err(refusal_of)
 }
 
 /// A number as SQL keeps it, or the store's refusal of one above 9,223,372,036,854,775,807.

@@ -115,15 +115,6 @@ fn flag(row: &Row, at: usize) -> Result<bool, Refusal>
     }
 }
 
-/// The serial in a column. A number that no serial reaches is refused.
-fn serial_in(row: &Row, at: usize) -> Result<Serial, Refusal>
-    ensures serial { IfOk result (λ serial. column row.now at ≡ Int (pos serial)) }
-    ensures refused { IfErr result IsOfStore }
-{
-    let last: u64 = column(row, at)?;
-    Serial::at(last).ok_or(Refusal::Store)
-}
-
 impl FromRow for Meta {
     ghost use Rattle.adr_sql.specs.Keys.{cells};
     ghost use Rattle.adr_db.specs.Rows.{meta_row};
@@ -134,7 +125,7 @@ impl FromRow for Meta {
         expect(row, 0, 1)?;
         expect(row, 1, 1)?;
         Ok(Meta {
-            serial: serial_in(row, 2)?,
+            serial: Serial::at(column(row, 2)?).ok_or(Refusal::Store)?,
             scan: flag(row, 3)?,
             made: column(row, 4)?,
             sent: column(row, 5)?,

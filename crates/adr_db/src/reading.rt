@@ -107,18 +107,6 @@ pub(crate) fn table_of<K: Ord + Drop, V: Drop>(
     Ok(table)
 }
 
-fn count_in(rows: &[Row]) -> Result<u64, Refusal>
-    ensures counted { IfOk result (λ n. (m : ℕ) → rows.now ≡ (count m ∷ []) ∷ [] → n ≡ m) }
-    ensures refused { IfErr result IsOfStore }
-{
-    let row = rows.first().ok_or(Refusal::Store)?;
-    let counted: u64 = column(row, 0)?;
-    if counted >= 9_223_372_036_854_775_807 {
-        return Err(Refusal::Store);
-    }
-    Ok(counted)
-}
-
 /// The number that the query counts, which is all that it shows. SQL counts no further than
 /// 9,223,372,036,854,775,807: that is the store's refusal.
 pub(crate) fn count_of<S: Alter>(tx: &mut Transaction<'_, S>, sql: &str) -> Result<u64, Refusal>
@@ -128,5 +116,10 @@ pub(crate) fn count_of<S: Alter>(tx: &mut Transaction<'_, S>, sql: &str) -> Resu
     ensures refused { IfErr result IsOfStore }
 {
     let rows = rows_of(tx, sql, &[])?;
-    count_in(&rows)
+    let row = rows.first().ok_or(Refusal::Store)?;
+    let counted: u64 = column(row, 0)?;
+    if counted >= 9_223_372_036_854_775_807 {
+        return Err(Refusal::Store);
+    }
+    Ok(counted)
 }

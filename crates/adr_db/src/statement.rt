@@ -30,10 +30,7 @@ pub(crate) fn run<S: Alter>(
     ensures runs { Runs S.Store tx.old.conn.now tx.new.conn.now sql.now (bound params.now) result }
     ensures refused { IfErr result IsOfStore }
 {
-    match adr_sql::run(tx, sql, params) {
-        Ok(()) => Ok(()),
-        Err(error) => Err(refusal_of(error)),
-    }
+    adr_sql::run(tx, sql, params).map_err(refusal_of)
 }
 
 /// The rows that one query shows.
@@ -47,8 +44,5 @@ pub(crate) fn rows_of<S: Alter>(
     ensures answers { Answers S.Store tx.old.conn.now tx.new.conn.now sql.now (bound params.now) (λ rows. rows.items) result }
     ensures refused { IfErr result IsOfStore }
 {
-    match adr_sql::rows_of(tx, sql, params) {
-        Ok(rows) => Ok(rows),
-        Err(error) => Err(refusal_of(error)),
-    }
+    adr_sql::rows_of(tx, sql, params).map_err(refusal_of)
 }
