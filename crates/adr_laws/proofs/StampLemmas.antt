@@ -12,13 +12,13 @@ use Rattle.adr_objects.specs.declared.shown.Stamps.{Stamps}
 use Rattle.adr_state.specs.contracts.keys.ViewKeyOrd.TheImpl.Laws.{total-law}
 use Rattle.adr_state.specs.declared.base.Base.{Base}
 use Rattle.adr_state.specs.declared.keys.ViewKey.{ViewKey}
-use Rattle.adr_state.specs.declared.view.Content.{Content}
+use Rattle.adr_view.specs.declared.view.Content.{Content}
 use Rattle.adr_state.specs.declared.limits.Settings.{Settings}
 use Rattle.adr_state.specs.declared.state.State.{State}
 use Rattle.adr_state.specs.Keys.{view_cmp, at}
-use Rattle.adr_state.specs.Changes.{is_same_content, stamps_by, stamps_for, restamped}
+use Rattle.adr_view.specs.Changes.{is_same_content, stamps_by, stamps_for, restamped}
 use Rattle.adr_state.specs.States.{empty}
-use Rattle.adr_state.specs.Views.{mark_rows, view}
+use Rattle.adr_view.specs.Views.{mark_rows, view}
 use Rattle.adr_state.proofs.KeyLemmas.{view_order}
 use Rattle.adr_machine.specs.declared.command.Command.{Command}
 use Rattle.adr_machine.specs.Runs.{state_after, step_at}

@@ -18,7 +18,7 @@ use Rattle.adr_state.specs.Keys.{mirror_cmp, view_cmp, at}
 use Rattle.adr_state.specs.Marks.{is_below}
 use Rattle.adr_state.specs.Mirror.{evidence_of}
 use Rattle.adr_state.specs.States.{empty}
-use Rattle.adr_state.specs.Views.{view}
+use Rattle.adr_view.specs.Views.{view}
 use Rattle.adr_machine.specs.declared.answer.Answer.{Answer}
 use Rattle.adr_machine.specs.declared.command.Command.{Command}
 use Rattle.adr_machine.specs.declared.command.Command.TheVariants.{Evidence, Gone}

@@ -13,8 +13,8 @@ use Rattle.adr_state.specs.declared.state.State.{State}
 use Rattle.adr_state.specs.declared.keys.MirrorKey.{MirrorKey}
 use Rattle.adr_state.specs.declared.keys.ViewKey.{ViewKey}
 use Rattle.adr_state.specs.declared.keys.ViewKey.TheVariants as key
-use Rattle.adr_state.specs.declared.view.Content.{Content}
-use Rattle.adr_state.specs.declared.view.Content.TheVariants as content
+use Rattle.adr_view.specs.declared.view.Content.{Content}
+use Rattle.adr_view.specs.declared.view.Content.TheVariants as content
 use Rattle.adr_state.specs.declared.limits.Settings.{Settings}
 use Rattle.adr_machine.specs.declared.sight.Sight.{Sight}
 use Rattle.adr_machine.specs.declared.sight.Sight.TheVariants.{All, Of}
@@ -29,8 +29,8 @@ use Rattle.adr_machine.specs.declared.answer.Answer.{Answer}
 use Rattle.adr_machine.specs.declared.answer.Answer.TheVariants as answer
 use Rattle.adr_state.specs.Keys.{view_cmp, at}
 use Rattle.adr_state.specs.Scans.{probes}
-use Rattle.adr_state.specs.Views.{view}
-use Rattle.adr_state.specs.Changes.{changes, restamped}
+use Rattle.adr_view.specs.Views.{view}
+use Rattle.adr_view.specs.Changes.{changes, restamped}
 use Rattle.adr_machine.specs.Edits.{edit}
 use Rattle.adr_machine.specs.Roles.{sight_of}
 use Rattle.adr_machine.specs.Listings.{page_of, vens_reply, ven_reply, resources_reply, resource_reply, shares_reply}

@@ -8,8 +8,9 @@ use crate::answer::Answer;
 use crate::command::Command;
 use crate::edit::edited;
 use adr_objects::Stamps;
-use adr_state::{Base, Settings, State, ViewKey, changes_of, restamped, view_of};
+use adr_state::{Base, Settings, State, ViewKey};
 use adr_text::{Moment, Refusal, Table};
+use adr_view::{changes_of, restamped, view_of};
 use std::alloc::{AllocError, Global};
 
 fn answer_or_count(answer: Option<Answer>, count: usize) -> Answer

@@ -11,8 +11,9 @@ use crate::query::Page;
 use crate::role::Role;
 use crate::sight::{Sight, sees, sight_of};
 use adr_objects::{EventObject, Stamps};
-use adr_state::{Content, State, ViewKey, push_some, row_at, view_of};
+use adr_state::{State, ViewKey, push_some};
 use adr_text::{Refusal, Rows, Table};
+use adr_view::{Content, row_at, view_of};
 use std::alloc::{AllocError, Global};
 
 /// The event that is shown at a key, if there is one.

@@ -1,25 +1,14 @@
 -- Laws of the definitions: what they keep, whatever they are given.
-use Rattle.std.specs.Prelude.{◌≡◌, ◌⊎◌, ℕ, ℤ, true, false, List, Option, None, Some, IsSomeAnd}
-use Rattle.std.specs.Bool.{Decides}
+use Rattle.std.specs.Prelude.{◌≡◌, ◌⊎◌, ℕ, true, false, List, Option, None, Some}
 use Rattle.std.specs.List.{Contains}
 use Rattle.adr_objects.specs.Canonical.{canonical_text}
 use Rattle.adr_objects.specs.declared.body.Body.{Body}
-use Rattle.adr_objects.specs.declared.interval.Interval.{Interval}
-use Rattle.adr_split.specs.FairSplit.{sum_of_parts}
-use Rattle.adr_split.specs.Laws.{AreWeights}
 use Rattle.adr_state.specs.declared.base.Mark.{Mark}
 use Rattle.adr_state.specs.declared.base.Mark.TheVariants.{Live, Dead}
 use Rattle.adr_state.specs.declared.keys.MirrorKey.{MirrorKey}
-use Rattle.adr_state.specs.declared.view.Content.{Content}
-use Rattle.adr_state.specs.Changes.{is_same_content}
 use Rattle.adr_state.specs.Keys.{mirror_cmp, at}
 use Rattle.adr_state.specs.Marks.{is_below}
 use Rattle.adr_state.specs.Mirror.{joined}
-use Rattle.adr_state.specs.Views.{split_interval}
-
--- two contents count as the same exactly where they are equal
-abbrev pub SameContentsAreEqual : Type 0
-SameContentsAreEqual = (a b : Content) → Decides (is_same_content a b) (a ≡ b)
 
 -- two marks that say the same: both are deletions, or versions of one moment and one canonical text
 abbrev pub SayTheSame : Mark → Mark → Type 0
@@ -51,7 +40,3 @@ pub record IsJoined (mirror evidence : List (MirrorKey × Mark)) : Type 0 where
 
 abbrev pub JoinsAreGreatest : Type 0
 JoinsAreGreatest = (mirror evidence : List (MirrorKey × Mark)) → IsJoined mirror evidence
-
--- the parts of an interval sum to the setpoint that it carries, where there is a weight and each is at least 1
-abbrev pub PartsSumUp : Type 0
-PartsSumUp = (weights : List ℕ) (i : Interval) (v : ℤ) → AreWeights weights → i.setpoint ≡ Some v → IsSomeAnd (split_interval weights i).parts (λ parts. sum_of_parts parts ≡ v)

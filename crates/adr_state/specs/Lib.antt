@@ -7,8 +7,6 @@ pub mod Mirror
 pub mod Scans
 pub mod Portfolios
 pub mod Participants
-pub mod Views
-pub mod Changes
 pub mod Digits
 pub mod Serials
 pub mod BaseChanges

@@ -1,9 +1,8 @@
-//! What the node keeps and what it shows, as plain maps: the mirror of the utility's objects, vens,
-//! resources and shares, the view that follows from them, and the changes between two views.
+//! What the node keeps, as plain maps: the mirror of the utility's objects, vens, resources and shares;
+//! and what is decided of it.
 #![tactic(auto)]
 
 mod base;
-mod changes;
 mod digits;
 mod keys;
 pub mod laws;
@@ -13,28 +12,22 @@ mod marks;
 mod mirror;
 mod names;
 mod participants;
-mod parts;
 mod polled;
 mod portfolio;
 mod serial;
 mod stamping;
 mod state;
-mod view;
-mod view_map;
 
 pub use base::{Base, Mark};
-pub use changes::{Change, Operation, changes_of, restamped};
 pub use digits::{MOST_NUMBER, number_in, number_within};
 pub use keys::{MirrorKey, ShareKey, ViewKey};
 pub use limits::{Limit, Limits, Settings};
 pub use lists::push_some;
 pub use mirror::{join, key_of, mark_of, raise};
 pub use names::{Named, check_free, check_new, is_taken, is_taken_by_another};
-pub use participants::{Participant, is_for};
+pub use participants::{Participant, is_for, participants_of};
 pub use polled::{Polled, poll, probes};
 pub use portfolio::{Portfolio, Resource, Resources, Ven, Weight};
 pub use serial::Serial;
 pub use stamping::{fresh, modified_at};
 pub use state::{Image, State};
-pub use view::{Content, View, view_of};
-pub use view_map::row_at;

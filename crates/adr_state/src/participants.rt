@@ -71,7 +71,7 @@ fn participant_of(
 }
 
 /// The participants of an event, in the order of their numbers.
-pub(crate) fn participants(
+pub fn participants_of(
     alloc: Global,
     portfolio: &Portfolio,
     event: &EventBody,

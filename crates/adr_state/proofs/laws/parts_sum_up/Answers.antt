@@ -1,5 +1,0 @@
-use Rattle.adr_state.proofs.LawLemmas.{parts_sum}
-use Rattle.adr_state.proofs.laws.parts_sum_up.Goals as goal
-
-pub returns : goal.returns
-returns c = parts_sum

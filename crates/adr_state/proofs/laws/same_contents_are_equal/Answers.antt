@@ -1,5 +1,0 @@
-use Rattle.adr_state.proofs.LawLemmas.{contents_equal}
-use Rattle.adr_state.proofs.laws.same_contents_are_equal.Goals as goal
-
-pub returns : goal.returns
-returns c = contents_equal

@@ -1,0 +1,78 @@
+-- What is shown: each live program; and for each live event that carries a setpoint, and each of its participants, that participant's parts.
+use Rattle.std.specs.Prelude.{ℕ, Bool, List, [], ◌∷◌, map, is_some, option_map, option_and_then, slice_get, if◌then◌else◌}
+use Rattle.std.specs.List.{list_any, flat_map, enumerate_from}
+use Rattle.adr_split.specs.Parts.{fair_split}
+use Rattle.adr_objects.specs.declared.kind.Kind.{Kind}
+use Rattle.adr_objects.specs.declared.kind.Kind.TheVariants as kind
+use Rattle.adr_objects.specs.declared.interval.Interval.{Interval}
+use Rattle.adr_objects.specs.declared.body.EventBody.{EventBody}
+use Rattle.adr_objects.specs.declared.body.Body.{Body}
+use Rattle.adr_objects.specs.declared.body.Body.TheVariants as body
+use Rattle.adr_objects.specs.declared.shown.ShownInterval.{ShownInterval}
+use Rattle.adr_state.specs.declared.base.Base.{Base}
+use Rattle.adr_state.specs.declared.base.Mark.{Mark}
+use Rattle.adr_state.specs.declared.base.Mark.TheVariants.{Live, Dead}
+use Rattle.adr_state.specs.declared.keys.MirrorKey.{MirrorKey}
+use Rattle.adr_state.specs.declared.keys.ViewKey.{ViewKey}
+use Rattle.adr_state.specs.declared.keys.ViewKey.TheVariants as key
+use Rattle.adr_view.specs.declared.view.Content.{Content}
+use Rattle.adr_view.specs.declared.view.Content.TheVariants as content
+use Rattle.adr_state.specs.declared.participants.Participant.{Participant}
+use Rattle.adr_view.specs.declared.parts.SplitInterval.{SplitInterval}
+use Rattle.adr_state.specs.Keys.{view_cmp, map_of}
+use Rattle.adr_state.specs.Participants.{participants}
+
+abbrev pub weights_of : List Participant → List ℕ
+weights_of ps = map (λ p. p.weight) ps
+
+-- an interval with the fair split of its setpoint, where it carries one
+abbrev pub split_interval : List ℕ → Interval → SplitInterval
+split_interval weights i = record { id = i.id; period = i.period; parts = option_map (λ v. fair_split v weights) i.setpoint }
+
+-- what the participant at a place is shown of an interval
+abbrev pub interval_at : ℕ → SplitInterval → ShownInterval
+interval_at place i = record { id = i.id; period = i.period; part = option_and_then (λ parts. slice_get parts place) i.parts }
+
+-- what the participant at a place is shown of an event
+abbrev pub event_row : List ℕ → EventBody → List SplitInterval → ℕ × Participant → ViewKey × Content
+event_row id event intervals p = (
+  key.Event id p.1.resource,
+  content.Event (record {
+    program = event.program;
+    name = event.name;
+    priority = event.priority;
+    period = event.period;
+    intervals = map (interval_at p.0) intervals;
+    ven_name = p.1.ven_name;
+    resource_name = p.1.name;
+  }),
+)
+
+-- what the participants are shown of an event
+abbrev pub rows_for : List ℕ → EventBody → List Participant → List (ViewKey × Content)
+rows_for id event ps = map (event_row id event (map (split_interval (weights_of ps)) event.intervals)) (enumerate_from 0 ps)
+
+-- whether an interval carries a setpoint
+abbrev pub carries : EventBody → Bool
+carries event = list_any (λ i. is_some i.setpoint) event.intervals
+
+abbrev pub event_rows : Base → List ℕ → EventBody → List (ViewKey × Content)
+event_rows base id event = if carries event then rows_for id event (participants base.portfolio event) else []
+
+-- what is shown of a program
+abbrev pub program_rows : List ℕ → List ℕ → List (ViewKey × Content)
+program_rows id name = (key.Program id, content.Program name) ∷ []
+
+abbrev pub body_rows : Base → Kind → List ℕ → Body → List (ViewKey × Content)
+body_rows base kind.Program id (body.Program name) = program_rows id name
+body_rows base kind.Event id (body.Event event) = event_rows base id event
+body_rows base _ id _ = []
+
+-- what is shown of an upstream key
+abbrev pub mark_rows : Base → MirrorKey × Mark → List (ViewKey × Content)
+mark_rows base (k, Live m b) = body_rows base k.kind k.id b
+mark_rows base (k, Dead) = []
+
+-- all that is shown, computed from nothing, in the order of the keys
+unfoldable pub view : Base → List (ViewKey × Content)
+view base = map_of view_cmp (flat_map (mark_rows base) base.mirror)

@@ -1,0 +1,12 @@
+//! Laws of what is shown.
+ghost use Rattle.adr_view.specs.Laws.{SameContentsAreEqual, PartsSumUp};
+
+/// Two contents count as the same exactly where they are equal, so no change is missed or made up.
+pub fn same_contents_are_equal()
+    ensures { SameContentsAreEqual }
+{}
+
+/// The parts of an interval sum to its setpoint.
+pub fn parts_sum_up()
+    ensures { PartsSumUp }
+{}
