@@ -26,7 +26,7 @@ const READ: &str =
     "SELECT k, version, serial, scan, made, sent, given_up, dropped, keys FROM meta ORDER BY k";
 
 /// The numbers of the node. None that is kept is above 9,223,372,036,854,775,807.
-#[derive(Clone, Copy, Debug, PartialEq, Eq)]
+#[derive(Clone, Copy, PartialEq, Eq)]
 pub struct Meta {
     /// The last number that was drawn.
     pub serial: Serial,

@@ -27,7 +27,7 @@ const READ_ALL: &str = "SELECT kind, id, state, moment, body FROM mirror ORDER B
 
 /// A mark as it is kept: 1, its moment and the canonical text of its body where it is live; 2, 0 and no
 /// text where it is dead.
-#[derive(Debug, Drop)]
+#[derive(Drop)]
 pub struct MarkColumns {
     pub state: u32,
     /// Nanoseconds since 1970-01-01T00:00:00Z.
@@ -36,7 +36,7 @@ pub struct MarkColumns {
 }
 
 /// A key with its mark as it is kept.
-#[derive(Debug, Drop)]
+#[derive(Drop)]
 pub struct MirrorRow {
     pub key: MirrorKey,
     pub mark: MarkColumns,

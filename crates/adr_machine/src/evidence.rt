@@ -6,18 +6,18 @@ ghost use Rattle.adr_machine.specs.Changes.{base_left};
 ghost use Rattle.adr_state.specs.Evidence.{adds_beyond, scan_with, evidence, gone};
 
 use adr_objects::{Found, Kind};
-use adr_state::{Base, Limits, Mark, MirrorKey, join, poll, raise};
+use adr_state::{Base, Limits, Mark, MirrorKey, Polled, join, poll, raise};
 use adr_text::{ObjectId, Refusal};
 use std::alloc::{AllocError, Global};
 
 /// Polled keys join the set of an open scan.
-fn note_polled(base: &mut Base, founds: &[Found], polled: bool) -> Result<(), AllocError>
-    ensures { OnOk result (base.new ≡ record base.old { scan = scan_with base.old.scan founds.now polled }) }
+fn note_polled(scan: &mut Option<Polled>, founds: &[Found], polled: bool) -> Result<(), AllocError>
+    ensures { OnOk result (scan.new ≡ scan_with scan.old founds.now polled) }
 {
-    if polled {
-        poll(&mut base.scan, founds)?;
+    if !polled {
+        return Ok(());
     }
-    Ok(())
+    poll(scan, founds)
 }
 
 /// Refuses keys that were added and are more than the limit.
@@ -43,7 +43,7 @@ pub(crate) fn take_evidence(
     ensures refused { IfErr result (λ refusal. IsRefusalOf refusal (evidence limits.now founds.now polled base.old)) }
     ensures no_store { result ≢ Err Store }
 {
-    note_polled(base, founds, polled)?;
+    note_polled(&mut base.scan, founds, polled)?;
     let before = base.mirror.len();
     join(alloc, &mut base.mirror, founds)?;
     check_keys(limits, before, base.mirror.len())

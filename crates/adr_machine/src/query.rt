@@ -3,14 +3,14 @@ use crate::role::Role;
 use adr_text::ObjectId;
 
 /// Which part of a listing: after `skip` objects, at most `limit` (OpenADR 3.0, skip and limit).
-#[derive(Clone, Copy, Debug, PartialEq, Eq)]
+#[derive(Clone, Copy, PartialEq, Eq)]
 pub struct Page {
     pub skip: u32,
     pub limit: u32,
 }
 
 /// A query, which changes nothing.
-#[derive(Clone, Debug, Drop)]
+#[derive(Clone, Drop)]
 pub enum Query {
     /// The events that the role sees, by upstream id and then by resource.
     Events {

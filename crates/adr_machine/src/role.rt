@@ -5,7 +5,7 @@ ghost use Rattle.adr_machine.specs.Roles.{is_operator};
 use adr_text::ObjectId;
 
 /// Who gives a command or asks a query.
-#[derive(Clone, Debug, Drop)]
+#[derive(Clone, Drop)]
 pub enum Role {
     /// The operator of this node.
     Operator,

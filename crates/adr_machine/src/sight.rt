@@ -10,7 +10,7 @@ use adr_state::{Base, ViewKey};
 use adr_text::Refusal;
 
 /// What is in sight.
-#[derive(Clone, Copy, Debug, PartialEq, Eq)]
+#[derive(Clone, Copy, PartialEq, Eq)]
 pub enum Sight {
     All,
     /// What belongs to the ven of that number.

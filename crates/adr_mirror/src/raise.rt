@@ -13,7 +13,7 @@ use sqlite::{Alter, Transaction};
 use std::alloc::Global;
 
 /// What a mark makes of its key.
-#[derive(Clone, Copy, Debug)]
+#[derive(Clone, Copy)]
 pub(crate) enum Rise {
     /// The key keeps the mark that it has.
     Same,

@@ -14,7 +14,7 @@ use std::marker::Model;
 
 /// The id of an upstream object: an object id of at most 100 bytes, so that the ids of the events that
 /// are made of it stay within 128.
-#[derive(Clone, Debug, Drop)]
+#[derive(Clone, Drop)]
 pub struct UpstreamId {
     id: ObjectId,
 }
@@ -31,7 +31,7 @@ impl Model for UpstreamId {
 }
 
 /// Why the body of an event is kept unread. Its number is the reason that the canonical text says.
-#[derive(Clone, Copy, Debug, PartialEq, Eq)]
+#[derive(Clone, Copy, PartialEq, Eq)]
 pub enum Reason {
     /// 1: a setpoint that is no whole number.
     Fraction,
@@ -46,7 +46,7 @@ pub enum Reason {
 }
 
 /// An event as the utility says it, so far as this node reads it (OpenADR 3.0, EVENT).
-#[derive(Debug, Drop)]
+#[derive(Drop)]
 pub struct EventBody {
     pub program: ObjectId,
     pub name: Option<EventName>,
@@ -58,7 +58,7 @@ pub struct EventBody {
 }
 
 /// What an upstream object says.
-#[derive(Debug, Drop)]
+#[derive(Drop)]
 pub enum Body {
     /// A program's name.
     Program(Name),
@@ -68,7 +68,7 @@ pub enum Body {
 }
 
 /// One version of an upstream object.
-#[derive(Debug, Drop)]
+#[derive(Drop)]
 pub struct Found {
     pub kind: Kind,
     pub id: UpstreamId,

@@ -9,7 +9,7 @@ use std::alloc::{AllocError, Global};
 use std::marker::Model;
 
 /// When something is, in texts that are copied unread (OpenADR 3.0, intervalPeriod).
-#[derive(Clone, Debug, PartialEq, Eq, Drop)]
+#[derive(Clone, PartialEq, Eq, Drop)]
 pub struct Period {
     pub start: PeriodText,
     pub duration: Option<PeriodText>,
@@ -17,7 +17,7 @@ pub struct Period {
 }
 
 /// One interval of an upstream event. It is carried where it has a setpoint.
-#[derive(Clone, Debug, PartialEq, Eq, Drop)]
+#[derive(Clone, PartialEq, Eq, Drop)]
 pub struct Interval {
     pub id: i32,
     pub period: Option<Period>,
@@ -25,7 +25,7 @@ pub struct Interval {
 }
 
 /// At most 1,000 intervals, in upstream order, no two of them with one id.
-#[derive(Clone, Debug, Drop)]
+#[derive(Clone, Drop)]
 pub struct Intervals {
     items: Vec<Interval>,
 }

@@ -15,7 +15,7 @@ use std::collections::btree_set::Iter;
 use std::marker::Model;
 
 /// A set of at most 10,000 names, ascending by bytes. It may be empty.
-#[derive(Clone, Debug, Drop)]
+#[derive(Clone, Drop)]
 pub struct NameSet {
     names: BTreeSet<Name>,
 }

@@ -6,7 +6,7 @@ use adr_text::Fault;
 use std::marker::Model;
 
 /// A `DISPATCH_SETPOINT`: a whole number in the utility's unit, of magnitude at most 10^12.
-#[derive(Clone, Copy, Debug, PartialEq, Eq)]
+#[derive(Clone, Copy, PartialEq, Eq)]
 pub struct Setpoint {
     amount: i64,
 }
@@ -45,7 +45,7 @@ impl Setpoint {
 }
 
 /// The priority of an event, from 0 to 2147483647; 0 comes first (OpenADR 3.0, EVENT).
-#[derive(Clone, Copy, Debug, PartialEq, Eq)]
+#[derive(Clone, Copy, PartialEq, Eq)]
 pub struct Priority {
     rank: u32,
 }

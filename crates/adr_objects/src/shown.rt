@@ -10,7 +10,7 @@ use std::alloc::AllocError;
 
 /// When an object appeared, and when it last changed (OpenADR 3.0, createdDateTime and
 /// modificationDateTime).
-#[derive(Clone, Copy, Debug, PartialEq, Eq)]
+#[derive(Clone, Copy, PartialEq, Eq)]
 pub struct Stamps {
     pub created: Moment,
     pub modified: Moment,
@@ -18,7 +18,7 @@ pub struct Stamps {
 
 /// An interval of a shown event, with the resource's part of the setpoint, in the utility's unit,
 /// where the upstream interval carries one.
-#[derive(Clone, Debug, PartialEq, Eq, Drop)]
+#[derive(Clone, PartialEq, Eq, Drop)]
 pub struct ShownInterval {
     pub id: i32,
     pub period: Option<Period>,
@@ -48,7 +48,7 @@ pub struct EventObject {
 }
 
 /// An enrolled ven (OpenADR 3.0, VEN).
-#[derive(Clone, Debug, PartialEq, Eq, Drop)]
+#[derive(Clone, PartialEq, Eq, Drop)]
 pub struct VenObject {
     pub number: Number,
     pub name: Name,
@@ -56,7 +56,7 @@ pub struct VenObject {
 }
 
 /// A resource of a ven (OpenADR 3.0, RESOURCE).
-#[derive(Clone, Debug, PartialEq, Eq, Drop)]
+#[derive(Clone, PartialEq, Eq, Drop)]
 pub struct ResourceObject {
     pub number: Number,
     pub ven: Number,
@@ -65,7 +65,7 @@ pub struct ResourceObject {
 }
 
 /// The weight of a resource in a program.
-#[derive(Clone, Debug, PartialEq, Eq, Drop)]
+#[derive(Clone, PartialEq, Eq, Drop)]
 pub struct ShareObject {
     pub program: ObjectId,
     pub resource: Number,

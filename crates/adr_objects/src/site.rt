@@ -9,7 +9,7 @@ use std::marker::Model;
 
 /// The name of a resource: a name other than `AGGREGATED_REPORT`, which stands for no resource
 /// (OpenADR 3.0, resourceName of a report).
-#[derive(Clone, Debug, PartialEq, Eq, Drop)]
+#[derive(Clone, PartialEq, Eq, Drop)]
 pub struct ResourceName {
     name: Name,
 }
@@ -28,20 +28,20 @@ impl Model for ResourceName {
 }
 
 /// A ven as it is posted.
-#[derive(Clone, Debug, Drop)]
+#[derive(Clone, Drop)]
 pub struct VenIn {
     pub name: Name,
 }
 
 /// A resource as it is posted.
-#[derive(Clone, Debug, Drop)]
+#[derive(Clone, Drop)]
 pub struct ResourceIn {
     pub name: ResourceName,
 }
 
 /// A share as it is put: a weight, of which 0 removes the share. That it is at most 1,000,000 is
 /// tested by the command.
-#[derive(Clone, Copy, Debug, PartialEq, Eq)]
+#[derive(Clone, Copy, PartialEq, Eq)]
 pub struct ShareIn {
     pub share: u32,
 }

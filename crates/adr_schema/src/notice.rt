@@ -2,7 +2,7 @@
 use adr_objects::{Found, Kind, UpstreamId};
 
 /// What a notification tells (OpenADR 3.0, notification).
-#[derive(Debug, Drop)]
+#[derive(Drop)]
 pub enum NoticeIn {
     /// A version of a program or an event.
     Found(Found),

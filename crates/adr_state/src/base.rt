@@ -7,7 +7,7 @@ use adr_objects::Body;
 use adr_text::{Moment, Table};
 
 /// What is known of an upstream key of which there was evidence.
-#[derive(Clone, Debug, Drop)]
+#[derive(Clone, Drop)]
 pub enum Mark {
     /// A version, by its moment and what it says.
     Live(Moment, Body),

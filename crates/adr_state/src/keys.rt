@@ -3,21 +3,21 @@ use adr_objects::{Kind, Number};
 use adr_text::ObjectId;
 
 /// The key of an upstream object.
-#[derive(Clone, Debug, PartialEq, Eq, PartialOrd, Ord, Drop)]
+#[derive(Clone, PartialEq, Eq, PartialOrd, Ord, Drop)]
 pub struct MirrorKey {
     pub kind: Kind,
     pub id: ObjectId,
 }
 
 /// The key of a share: a program, known or not, and a resource.
-#[derive(Clone, Debug, PartialEq, Eq, PartialOrd, Ord, Drop)]
+#[derive(Clone, PartialEq, Eq, PartialOrd, Ord, Drop)]
 pub struct ShareKey {
     pub program: ObjectId,
     pub resource: Number,
 }
 
 /// The key of what is shown.
-#[derive(Clone, Debug, PartialEq, Eq, PartialOrd, Ord, Drop)]
+#[derive(Clone, PartialEq, Eq, PartialOrd, Ord, Drop)]
 pub enum ViewKey {
     /// A program, by its upstream id.
     Program(ObjectId),

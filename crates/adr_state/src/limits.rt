@@ -6,7 +6,7 @@ use adr_text::Name;
 use std::marker::Model;
 
 /// A limit, from 1 up to its largest, `MOST`.
-#[derive(Clone, Copy, Debug, PartialEq, Eq)]
+#[derive(Clone, Copy, PartialEq, Eq)]
 pub struct Limit<const MOST: u64> {
     value: u64,
 }
@@ -53,7 +53,7 @@ impl<const MOST: u64> Limit<MOST> {
 }
 
 /// The limits of a node.
-#[derive(Clone, Copy, Debug, PartialEq, Eq)]
+#[derive(Clone, Copy, PartialEq, Eq)]
 pub struct Limits {
     /// Keys of the mirror, those of deleted objects too.
     pub keys: Limit<100_000>,
@@ -72,7 +72,7 @@ pub struct Limits {
 }
 
 /// What a node is set to.
-#[derive(Clone, Debug, Drop)]
+#[derive(Clone, Drop)]
 pub struct Settings {
     /// The name under which the node reports to the utility (OpenADR 3.0, clientName).
     pub client: Name,
@@ -113,20 +113,21 @@ impl Limits {
     }
 
     /// The limits with that of a name set.
-    fn with(self, name: &str, value: u64) -> Option<Limits>
+    fn with(mut self, name: &str, value: u64) -> Option<Limits>
         ensures { result ≡ limits_set name.now value self }
     {
         match name {
-            "keys" => Limit::new(value).map(|keys| Limits { keys, ..self }),
-            "vens" => Limit::new(value).map(|vens| Limits { vens, ..self }),
-            "subs" => Limit::new(value).map(|subs| Limits { subs, ..self }),
-            "resources" => Limit::new(value).map(|resources| Limits { resources, ..self }),
-            "shares" => Limit::new(value).map(|shares| Limits { shares, ..self }),
-            "reports" => Limit::new(value).map(|reports| Limits { reports, ..self }),
-            "pending" => Limit::new(value).map(|pending| Limits { pending, ..self }),
-            "serial" => Limit::new(value).map(|serial| Limits { serial, ..self }),
-            "trail" => Limit::new(value).map(|trail| Limits { trail, ..self }),
-            _ => None,
+            "keys" => self.keys = Limit::new(value)?,
+            "vens" => self.vens = Limit::new(value)?,
+            "subs" => self.subs = Limit::new(value)?,
+            "resources" => self.resources = Limit::new(value)?,
+            "shares" => self.shares = Limit::new(value)?,
+            "reports" => self.reports = Limit::new(value)?,
+            "pending" => self.pending = Limit::new(value)?,
+            "serial" => self.serial = Limit::new(value)?,
+            "trail" => self.trail = Limit::new(value)?,
+            _ => return None,
         }
+        Some(self)
     }
 }

@@ -11,7 +11,7 @@ use adr_text::{Name, ObjectId};
 use std::alloc::{AllocError, Global};
 
 /// A resource with its weight in the event's program.
-#[derive(Debug, Drop)]
+#[derive(Drop)]
 pub struct Participant {
     pub resource: Number,
     pub weight: Weight,

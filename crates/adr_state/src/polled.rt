@@ -16,7 +16,7 @@ use std::collections::btree_set::Iter;
 use std::marker::Model;
 
 /// A set of upstream keys, programs before events, each by id.
-#[derive(Clone, Debug, Drop)]
+#[derive(Clone, Drop)]
 pub struct Polled {
     keys: BTreeSet<MirrorKey>,
 }

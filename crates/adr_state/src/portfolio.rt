@@ -16,14 +16,14 @@ use std::collections::btree_map::Iter;
 use std::marker::Model;
 
 /// A ven that is enrolled.
-#[derive(Clone, Debug, Drop)]
+#[derive(Clone, Drop)]
 pub struct Ven {
     pub name: Name,
     pub stamps: Stamps,
 }
 
 /// A resource of a ven.
-#[derive(Clone, Debug, Drop)]
+#[derive(Clone, Drop)]
 pub struct Resource {
     pub ven: Number,
     pub name: ResourceName,
@@ -31,7 +31,7 @@ pub struct Resource {
 }
 
 /// The weight of a share, from 1 to 1,000,000.
-#[derive(Clone, Copy, Debug, PartialEq, Eq)]
+#[derive(Clone, Copy, PartialEq, Eq)]
 pub struct Weight {
     amount: u32,
 }

@@ -11,7 +11,7 @@ use adr_text::Refusal;
 use std::marker::Model;
 
 /// The last number that was drawn, 0 at first: at most 9,000,000,000,000,000.
-#[derive(Clone, Copy, Debug, PartialEq, Eq)]
+#[derive(Clone, Copy, PartialEq, Eq)]
 pub struct Serial {
     last: u64,
 }

@@ -13,7 +13,7 @@ use std::cmp::Ordering;
 use std::marker::Model;
 
 /// The id of an object: 1 to 128 letters, digits, `-` and `_` (OpenADR 3.0, objectID).
-#[derive(Clone, Debug, Drop)]
+#[derive(Clone, Drop)]
 pub struct ObjectId {
     text: String,
 }

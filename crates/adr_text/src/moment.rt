@@ -15,7 +15,7 @@ const NANOS_PER_SECOND: u64 = 1_000_000_000;
 
 /// An instant from 1970-01-01T00:00:00Z to 2199-12-31T23:59:59.999999999Z, in whole nanoseconds
 /// since the first of them.
-#[derive(Clone, Copy, Debug, PartialEq, Eq, PartialOrd, Ord)]
+#[derive(Clone, Copy, PartialEq, Eq, PartialOrd, Ord)]
 pub struct Moment {
     count: u64,
 }

@@ -13,7 +13,7 @@ use std::marker::Model;
 
 /// The name of a VEN, a resource or a report: a text of 1 to 128 bytes (OpenADR 3.0, venName,
 /// resourceName, reportName).
-#[derive(Clone, Debug, Drop)]
+#[derive(Clone, Drop)]
 pub struct Name {
     text: String,
 }

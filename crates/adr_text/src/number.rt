@@ -4,7 +4,7 @@ ghost use Rattle.adr_text.specs.Fields.{whole_from};
 use crate::fault::Fault;
 
 /// What a JSON value is as a whole number.
-#[derive(Clone, Copy, Debug, PartialEq, Eq)]
+#[derive(Clone, Copy, PartialEq, Eq)]
 pub enum Whole {
     /// It fits 64 bits with a sign.
     In(i64),

@@ -14,7 +14,7 @@ use std::alloc::{AllocError, Global};
 use std::collections::BTreeSet;
 
 /// What happened at a key of the view.
-#[derive(Clone, Copy, Debug, PartialEq, Eq)]
+#[derive(Clone, Copy, PartialEq, Eq)]
 pub enum Operation {
     /// The key appeared.
     Post,
@@ -25,7 +25,7 @@ pub enum Operation {
 }
 
 /// A change of the view.
-#[derive(Debug, Drop)]
+#[derive(Drop)]
 pub struct Change {
     pub key: ViewKey,
     pub operation: Operation,
