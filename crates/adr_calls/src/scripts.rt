@@ -5,6 +5,7 @@ use crate::machine::desk;
 use adr_script::{ScriptFault, run_script};
 use adr_text::{KthFails, Refusal, Sink, Writer};
 use std::alloc::{AllocError, Global};
+use std::io;
 use std::marker::Brand;
 use std::sync::ledger::{Blank, Ledger};
 use std::test::Fail;
@@ -119,6 +120,51 @@ fn writes(
     run_to_failing::<Brand>(alloc, script, most, until, Blank::new(2))
 }
 
+// A writer of which the call after `until` others fails.
+#[derive(Drop)]
+struct FailsAfter<'v> {
+    out: &'v mut Vec<u8>,
+    until: u64,
+}
+
+impl io::Write for FailsAfter<'_> {
+    fn write(&mut self, bytes: &[u8]) -> io::Result<usize> {
+        if self.until == 0 {
+            return Err(io::ErrorKind::Other.into());
+        }
+        self.until -= 1;
+        self.out.extend_from_slice(bytes)?;
+        Ok(bytes.len())
+    }
+
+    fn flush(&mut self) -> io::Result<()> {
+        Ok(())
+    }
+}
+
+fn run_to_failing_writer<L: Ledger>(
+    alloc: Global,
+    until: u64,
+    out: &mut Vec<u8>,
+    writes: Blank,
+) -> Result<Result<u64, ScriptFault>, Refusal>
+    requires write_name { writes.name ≡ L.name }
+    requires write_parts { writes.parts ≡ L.parts }
+    requires write_two { 1 < writes.parts }
+{
+    let script = SCRIPT.as_bytes().to_vec(alloc)?;
+    let mut sink = Writer::<FailsAfter<'_>, L>::new(FailsAfter { out, until }, writes);
+    run_into::<Brand, _>(alloc, script, 4096, None, &mut sink, Blank::new(2))
+}
+
+// Whether the script ends with a write fault where the write after `until` others fails, and the lines
+// before are written, no more and no less.
+fn ends_where_a_write_fails(alloc: Global, until: u64) -> Result<bool, Refusal> {
+    let mut out = Vec::new(alloc);
+    let ended = run_to_failing_writer::<Brand>(alloc, until, &mut out, Blank::new(2))?;
+    Ok(ended == Err(ScriptFault::Write) && out.as_slice() == first_lines(until as usize))
+}
+
 // Whether the script, read in pieces of at most `most`, prints all that it has to.
 fn prints_all(alloc: Global, most: usize) -> Result<bool, Refusal>
     requires most { 0 < most }
@@ -136,43 +182,46 @@ fn in_any_pieces(rt: HostRuntime) -> Result<(), Fail> {
     Ok(())
 }
 
-// How the script ends where the read after `until` others fails; none where it printed something else
-// than it has to.
+// How many lines end in the bytes.
+fn lines_in(bytes: &[u8]) -> usize {
+    bytes.iter().filter(|b| **b == b'\n').count()
+}
+
+// The first lines of what the script prints.
+fn first_lines(count: usize) -> &'static [u8] {
+    let mut first: &'static [u8] = &[];
+    for end in 0..=PRINTED.len() {
+        let front = PRINTED.as_bytes().get(..end).unwrap_or_default();
+        if lines_in(front) <= count && front.ends_with(b"\n") {
+            first = front;
+        }
+    }
+    first
+}
+
+// Whether the script ends so where the read of 64 bytes after `until` others fails, and prints what
+// answers the lines before, no more and no less.
 fn ends_where_a_read_fails(
     alloc: Global,
     until: u64,
-) -> Result<Option<Result<u64, ScriptFault>>, Refusal> {
+    wanted: Result<u64, ScriptFault>,
+) -> Result<bool, Refusal>
+    requires { until < 100 }
+{
     let mut out = Vec::new(alloc);
     let ended = reads(alloc, SCRIPT.as_bytes(), 64, Some(until), &mut out)?;
-    if PRINTED.as_bytes().starts_with(&out) {
-        Ok(Some(ended))
-    } else {
-        Ok(None)
-    }
+    let read = SCRIPT.as_bytes().iter().take(until as usize * 64);
+    let lines = read.filter(|b| **b == b'\n').count();
+    Ok(ended == wanted && out.as_slice() == first_lines(lines))
 }
 
 #[test]
 fn each_read_fails(rt: HostRuntime) -> Result<(), Fail> {
     // 821 bytes in pieces of 64 are 13 reads, and one more finds the end.
     for k in 0..14 {
-        let ended = ends_where_a_read_fails(rt.alloc(), k)?;
-        assert!(rt; ended == Some(Err(ScriptFault::Read)), "{k}");
+        assert!(rt; ends_where_a_read_fails(rt.alloc(), k, Err(ScriptFault::Read))?, "{k}");
     }
-    assert!(rt; ends_where_a_read_fails(rt.alloc(), 14)? == Some(Ok(11)));
-    Ok(())
-}
-
-#[test]
-fn each_write_fails(rt: HostRuntime) -> Result<(), Fail> {
-    for k in 0..11 {
-        assert!(rt;
-            writes(rt.alloc(), 4096, Some(k))? == Err(ScriptFault::Write),
-            "{k}"
-        );
-    }
-    assert!(rt; writes(rt.alloc(), 4096, Some(11))? == Ok(11));
-    assert!(rt; writes(rt.alloc(), 1, Some(100))? == Err(ScriptFault::Write));
-    assert!(rt; writes(rt.alloc(), 1, None)? == Ok(11));
+    assert!(rt; ends_where_a_read_fails(rt.alloc(), 14, Ok(11))?);
     Ok(())
 }
 

@@ -1,11 +1,12 @@
 //! A script over standard input and output.
-ghost use Rattle.std.specs.Prelude.{◌≡◌, ◌+◌, ◌<◌, ◌≤◌, ◌⊎◌, [], IfOk, OnOk, OnErr, IfSome, Err};
+ghost use Rattle.std.specs.Prelude.{◌≡◌, ◌≢◌, ◌+◌, ◌<◌, ◌≤◌, ◌⊎◌, [], IfOk, OnOk, OnErr, IfSome, Err};
 ghost use Rattle.adr_script.specs.declared.fault.ScriptFault.TheVariants as fault;
-ghost use Rattle.adr_script.specs.Lines.{HasLongLine, HasManyLines};
-ghost use Rattle.adr_node.specs.Script.{RunsFromEmpty, StopsFromEmpty};
+ghost use Rattle.adr_script.specs.Lines.{HasLongLine, HasManyLines, most_reads};
+ghost use Rattle.adr_script.specs.Scripts.{NoneFails, LastFails, RunsOut};
+ghost use Rattle.adr_node.specs.Script.{RunsFromEmpty, StopsFromEmpty, EndsAtLongLine, EndsAtManyLines};
 
 use adr_machine::PlainDesk;
-use adr_script::{MOST_READS, ScriptFault, run_script};
+use adr_script::{ScriptFault, run_script};
 use adr_state::{Limits, Settings};
 use adr_text::{Name, Reader, Sink, Source, Writer};
 use std::alloc::Global;
@@ -27,12 +28,13 @@ fn run_from_empty<S: Source, W: Sink>(
 ) -> Result<u64, ScriptFault>
     ensures all { IfOk result (λ n. IfSome (S.left source.old) (λ text. RunsFromEmpty limits text (W.written sink.old) (W.written sink.new) n)) }
     ensures some { OnErr result (IfSome (S.left source.old) (λ text. StopsFromEmpty limits text (W.written sink.old) (W.written sink.new))) }
-    ensures no_fault_is_passed_over { OnOk result ((S.failed source.new ≡ S.failed source.old) × (W.failed sink.new ≡ W.failed sink.old)) }
-    ensures read_fault { result ≡ Err fault.Read → (S.failed source.new ≡ S.failed source.old + 1) ⊎ (S.calls source.new ≡ S.calls source.old + MOST_READS) }
-    ensures write_fault { result ≡ Err fault.Write → W.failed sink.new ≡ W.failed sink.old + 1 }
-    ensures reads { S.calls source.new ≤ S.calls source.old + MOST_READS }
-    ensures long_line { IfSome (S.left source.old) (λ text. result ≡ Err fault.LineTooLong → HasLongLine text) }
-    ensures long_script { IfSome (S.left source.old) (λ text. result ≡ Err fault.ScriptTooLong → HasManyLines text) }
+    ensures read_fault { result ≡ Err fault.Read → LastFails (S.calls source.old) (S.calls source.new) ⊎ RunsOut (S.calls source.old) (S.calls source.new) }
+    ensures no_read_fault { result ≢ Err fault.Read → NoneFails (S.calls source.old) (S.calls source.new) }
+    ensures write_fault { result ≡ Err fault.Write → LastFails (W.calls sink.old) (W.calls sink.new) }
+    ensures no_write_fault { result ≢ Err fault.Write → NoneFails (W.calls sink.old) (W.calls sink.new) }
+    ensures reads { (S.calls source.new).made ≤ (S.calls source.old).made + most_reads }
+    ensures long_line { result ≡ Err fault.LineTooLong → IfSome (S.left source.old) (λ text. EndsAtLongLine limits text (W.written sink.old) (W.written sink.new)) }
+    ensures long_script { result ≡ Err fault.ScriptTooLong → IfSome (S.left source.old) (λ text. EndsAtManyLines limits text (W.written sink.old) (W.written sink.new)) }
     ensures short_lines { OnOk result (IfSome (S.left source.old) (λ text. ¬ HasLongLine text)) }
     ensures few_lines { OnOk result (IfSome (S.left source.old) (λ text. ¬ HasManyLines text)) }
 {

@@ -1,11 +1,10 @@
 -- The lines of a text: laws, and what is too long.
-use Rattle.std.proofs.Common.{◌≡◌, ℕ, ◌+◌, ◌<◌, ◌≤◌, true, false, cond, List, [], ◌∷◌, ◌++◌, length, refl, sym, ap, ◌∙◌, arith, length-append}
+use Rattle.std.proofs.Common.{◌≡◌, ℕ, ◌+◌, ◌<◌, ◌≤◌, true, false, cond, List, [], ◌∷◌, ◌++◌, length, refl, sym, ap, ◌∙◌, arith}
 use Rattle.std.specs.Prelude.{◌==◌, ◌≢◌, All}
 use Rattle.std.specs.List.{onto_first, Any}
 use Rattle.std.proofs.lemmas.Bool.{ne_eqb}
-use Rattle.std.proofs.lemmas.List.{get_or-append-add}
 use Rattle.std.proofs.lemmas.List.Elements.{All-nil, All-cons, All-head, All-tail}
-use Rattle.adr_script.specs.Lines.{lines_of, IsLine, most_bytes, most_lines, HasLongLine}
+use Rattle.adr_script.specs.Lines.{lines_of, IsLine, IsShort, most_bytes, most_lines}
 use Rattle.adr_script.specs.Laws.{AreLinesOf, no_line, last_line, ended_line}
 
 abbrev IsNoEnd : ℕ → Type 0
@@ -65,7 +64,7 @@ one_list_fits text lines all (ended_line {line = line} {text = rest} {lines = ot
 -- ---- what is too long
 
 -- the first line of a text that goes on with a line is longer than what the line had so far
-first_line : (line : List ℕ) (b : ℕ) (rest : List ℕ) → IsLine line → b ≢ 10
+pub first_line : (line : List ℕ) (b : ℕ) (rest : List ℕ) → IsLine line → b ≢ 10
     → (first : List ℕ) × (others : List (List ℕ)) × (lines_of (line ++ b ∷ rest) ≡ first ∷ others) × (length line < length first)
 first_line [] b rest h isnt =
     elim (lines_of rest) as (λ ls. lines_of rest ≡ ls → (first : List ℕ) × (others : List (List ℕ)) × (lines_of (b ∷ rest) ≡ first ∷ others) × (0 < length first)) [
@@ -76,11 +75,6 @@ first_line (c ∷ line) b rest h isnt =
     let f = first_line line b rest (All-tail IsNoEnd c line h) isnt in
     (c ∷ f.0, f.1, other c (line ++ b ∷ rest) (All-head IsNoEnd c line h) ∙ ap (onto_first c) f.2, omega (arith, f.3))
 
-pub long_line : (line : List ℕ) (b : ℕ) (rest : List ℕ) → IsLine line → b ≢ 10 → length line ≡ most_bytes → HasLongLine (line ++ b ∷ rest)
-long_line line b rest h isnt full =
-    let f = first_line line b rest h isnt in
-    rw f.2 (0, f.0, omega arith, refl, omega (arith, f.3, full))
-
 some_line : (b : ℕ) (bs : List ℕ) → 0 < length (lines_of (b ∷ bs))
 unfolding lines_of
 some_line b bs = grind arith
@@ -90,19 +84,15 @@ pub lines_of-some : (line : List ℕ) (b : ℕ) (rest : List ℕ) → 0 < length
 lines_of-some [] b rest = some_line b rest
 lines_of-some (c ∷ line) b rest = some_line c (line ++ b ∷ rest)
 
--- a long line among others
-pub long_line-behind : (xs ys : List (List ℕ)) → Any (λ line. most_bytes < length line) ys → Any (λ line. most_bytes < length line) (xs ++ ys)
-long_line-behind xs ys h = (length xs + h.0, h.1, omega (arith, length-append xs ys, h.2), get_or-append-add xs ys h.0 h.1 ∙ h.3, h.4)
-
-pub short_lines : (lines : List (List ℕ)) → All (λ line. length line ≤ most_bytes) lines → ¬ Any (λ line. most_bytes < length line) lines
+pub short_lines : (lines : List (List ℕ)) → All IsShort lines → ¬ Any (λ line. most_bytes < length line) lines
 short_lines lines short h = absurd (omega (arith, short h.0 h.1 h.2, ap length h.3, h.4))
 
 -- ---- the line so far, as the last one
 
-pub last_line-short : (line : List ℕ) → IsLine line → length line ≤ most_bytes → All (λ line. length line ≤ most_bytes) (lines_of line)
+pub last_line-short : (line : List ℕ) → IsLine line → length line ≤ most_bytes → All IsShort (lines_of line)
 unfolding lines_of
-last_line-short [] h short = All-nil (λ (line : List ℕ). length line ≤ most_bytes)
-last_line-short (b ∷ line) h short = rw (lines_of-last b line h) (All-cons (λ (line : List ℕ). length line ≤ most_bytes) (b ∷ line) [] short (All-nil (λ (line : List ℕ). length line ≤ most_bytes)))
+last_line-short [] h short = All-nil IsShort
+last_line-short (b ∷ line) h short = rw (lines_of-last b line h) (All-cons IsShort (b ∷ line) [] short (All-nil IsShort))
 
 pub last_line-few : (line : List ℕ) (n : ℕ) → IsLine line → n ≤ most_lines → (0 < length line → n < most_lines) → n + length (lines_of line) ≤ most_lines
 unfolding lines_of

@@ -1,5 +1,5 @@
 -- Readings of a script, one after another, and where they end.
-use Rattle.std.proofs.Common.{◌≡◌, ℕ, ◌≤◌, List, [], ◌∷◌, ◌++◌, length, Option, Some, None, IfSome, append_assoc, append-nil, length-append, refl, sym, ap, ◌∙◌, subst, arith}
+use Rattle.std.proofs.Common.{◌≡◌, ℕ, ◌<◌, List, [], ◌∷◌, ◌++◌, length, Option, Some, None, IfSome, append_assoc, append-nil, length-append, refl, sym, ap, ◌∙◌, subst, arith}
 use Rattle.std.specs.Prelude.{◌≢◌}
 use Rattle.std.specs.Io.KnownBytes.{Consumes}
 use Rattle.std.proofs.lemmas.List.Elements.{All-nil, All-append}
@@ -8,15 +8,15 @@ use Rattle.adr_state.specs.declared.limits.Settings.{Settings}
 use Rattle.adr_script.specs.declared.fault.ScriptFault.{ScriptFault}
 use Rattle.adr_script.specs.declared.fault.ScriptFault.TheVariants.{LineTooLong, ScriptTooLong}
 use Rattle.adr_script.specs.declared.progress.Progress.{Progress}
-use Rattle.adr_script.specs.Lines.{lines_of, most_bytes, HasLongLine, HasManyLines}
+use Rattle.adr_script.specs.Lines.{lines_of, IsShort, HasLongLine, HasManyLines}
 use Rattle.adr_script.specs.Scripts.{RunsScript, StopsScript}
 use Rattle.adr_script.specs.Readings.{HasRead, HasStopped}
-use Rattle.adr_script.proofs.Lines.{long_line-behind, short_lines, last_line-short, last_line-few}
-use Rattle.adr_script.proofs.Scripts.{Runs-nothing, Runs-append, Runs-last, Stops-at_once, Stops-after, Stops-last}
+use Rattle.adr_script.proofs.Lines.{short_lines, last_line-short, last_line-few}
+use Rattle.adr_script.proofs.Scripts.{Runs-nothing, Runs-append, Runs-last, Stops-at_once, Stops-after, LongLine-after, ManyLines-after, Stops-last}
 
 module _ {settings : Settings} where
   pub HasRead-nothing : {P : Type 0} {s : State} {o : Option (List ℕ)} {p : Progress} → HasRead P settings s s o o p p []
-  HasRead-nothing = record { ended = []; lines = λ rest. refl; short = All-nil (λ line. length line ≤ most_bytes); seen = omega arith; runs = λ sound. Runs-nothing }
+  HasRead-nothing = record { ended = []; lines = λ rest. refl; short = All-nil IsShort; seen = omega arith; runs = λ sound. Runs-nothing }
 
   -- a text, and then one more
   pub HasRead-append : {P Q : Type 0} {s u t : State} {o m w : Option (List ℕ)} {p q r : Progress} {xs ys : List ℕ} → (Q → P)
@@ -25,7 +25,7 @@ module _ {settings : Settings} where
       record {
         ended = a.ended ++ b.ended;
         lines = λ rest. rw (append_assoc xs ys rest) (a.lines (ys ++ rest) ∙ ap (λ (ls : List (List ℕ)). a.ended ++ ls) (b.lines rest) ∙ sym (append_assoc a.ended b.ended (lines_of (r.line.items ++ rest))));
-        short = All-append (λ line. length line ≤ most_bytes) a.ended b.ended a.short b.short;
+        short = All-append IsShort a.ended b.ended a.short b.short;
         seen = omega (arith, length-append a.ended b.ended, a.seen, b.seen);
         runs = λ sound. Runs-append (a.runs (was sound)) (b.runs sound);
       }
@@ -36,8 +36,8 @@ module _ {settings : Settings} where
   HasStopped-after {q = q} {ys = ys} was a b =
       record {
         stops = λ sound. rw (a.lines ys) (Stops-after (a.runs (was sound)) (b.stops sound));
-        long_line = λ e. rw (a.lines ys) (long_line-behind a.ended (lines_of (q.line.items ++ ys)) (b.long_line e));
-        long_script = λ e. omega (arith, ap length (a.lines ys), length-append a.ended (lines_of (q.line.items ++ ys)), a.seen, b.long_script e);
+        long_line = λ e. rw (a.lines ys) (LongLine-after was a.short a.seen a.runs (b.long_line e));
+        long_script = λ e. rw (a.lines ys) (ManyLines-after was a.short a.seen a.runs (b.long_script e));
       }
 
   -- a fault that is no limit's
@@ -60,11 +60,11 @@ module _ {settings : Settings} where
     pub Runs-whole : {t : State} {w : Option (List ℕ)} {n : ℕ} → P → RunsScript settings u (q.line.items ∷ []) t m w q.printed n → RunsScript settings s (lines_of text) t o w p.printed n
     Runs-whole sound b = rw whole (Runs-append (a.runs sound) (Runs-last q.no_end b))
 
-    pub Stops-whole : {t : State} {w : Option (List ℕ)} → P → StopsScript settings u (q.line.items ∷ []) t m w → StopsScript settings s (lines_of text) t o w
-    Stops-whole sound b = rw whole (Stops-after (a.runs sound) (Stops-last q.no_end b))
+    pub Stops-whole : {t : State} {w : Option (List ℕ)} → P → 0 < length q.line.items → StopsScript settings u (q.line.items ∷ []) t m w → StopsScript settings s (lines_of text) t o w
+    Stops-whole sound some b = rw whole (Stops-after (a.runs sound) (Stops-last q.no_end some b))
 
     pub short_whole : ¬ HasLongLine text
-    short_whole = rw whole (short_lines (a.ended ++ lines_of q.line.items) (All-append (λ (l : List ℕ). length l ≤ most_bytes) a.ended (lines_of q.line.items) a.short (last_line-short q.line.items q.no_end q.short)))
+    short_whole = rw whole (short_lines (a.ended ++ lines_of q.line.items) (All-append IsShort a.ended (lines_of q.line.items) a.short (last_line-short q.line.items q.no_end q.short)))
 
     pub few_whole : p.seen ≡ 0 → ¬ HasManyLines text
     few_whole none many =

@@ -1,16 +1,16 @@
 -- Runs of scripts, one after another.
-use Rattle.std.proofs.Common.{◌≡◌, ℕ, ◌+◌, zero, suc, true, false, List, [], ◌∷◌, ◌++◌, length, take, cond, Option, append_assoc, append-nil, length-append, sym, ◌∙◌, true≢false, arith}
-use Rattle.std.specs.Prelude.{◌==◌, not}
-use Rattle.std.proofs.Math.Seq.{take-append-add, take-nil}
+use Rattle.std.proofs.Common.{◌≡◌, ℕ, ◌+◌, ◌<◌, true, false, List, [], ◌∷◌, ◌++◌, length, take, cond, Option, append_assoc, append-nil, length-append, refl, sym, ap, ◌∙◌, true≢false, arith}
+use Rattle.std.specs.Prelude.{◌==◌, not, All}
 use Rattle.std.proofs.Math.Dec.{eqb-suc-zero}
 use Rattle.std.proofs.lemmas.List.Sums.{sum_by-append}
+use Rattle.std.proofs.lemmas.List.Elements.{All-append}
 use Rattle.std.specs.Io.KnownBytes.{Appends}
 use Rattle.std.proofs.KnownBytes.{Appends-trans, Appends-nil}
 use Rattle.adr_state.specs.declared.state.State.{State}
 use Rattle.adr_state.specs.declared.limits.Settings.{Settings}
 use Rattle.adr_script.specs.Turns.{IsTurn}
-use Rattle.adr_script.specs.Lines.{lines_of, IsLine}
-use Rattle.adr_script.specs.Scripts.{Prints, passed_over, has_turn, PrintAll, no_lines, line_first, RunsScript, StopsScript}
+use Rattle.adr_script.specs.Lines.{lines_of, IsLine, IsShort}
+use Rattle.adr_script.specs.Scripts.{Prints, passed_over, has_turn, PrintAll, no_lines, line_first, no_more, one_more, RunsScript, StopsScript, StopsAtLongLine, StopsAtManyLines}
 use Rattle.adr_script.proofs.Lines.{lines_of-last}
 
 module _ {settings : Settings} where
@@ -47,40 +47,70 @@ module _ {settings : Settings} where
   -- ---- runs that stop
 
   pub Stops-at_once : {s : State} {lines : List (List ℕ)} {o : Option (List ℕ)} → StopsScript settings s lines s o o
-  Stops-at_once {o = o} = record { taken = 0; out = []; part = 0; few = omega arith; prints = no_lines; written = Appends-nil o }
+  Stops-at_once {s = s} {lines = lines} {o = o} =
+      record { before = []; others = lines; lines_are = refl; out = []; between = s; prints = no_lines; last = []; next = no_more; part = 0; written = Appends-nil o }
 
   pub Stops-turn : {s t : State} {line out : List ℕ} {o w : Option (List ℕ)} {others : List (List ℕ)} (part : ℕ) → false ≡ (length line == 0) → IsTurn settings s line out t → Appends o w (take part out)
       → StopsScript settings s (line ∷ others) t o w
   Stops-turn {line = []} part h turn written = absurd (true≢false (sym h))
-  Stops-turn {line = b ∷ line} {out = out} part h turn written = record { taken = 1; out = out; part = part; few = omega arith; prints = PrintAll-one (has_turn turn); written = written }
+  Stops-turn {s = s} {line = b ∷ line} {out = out} {others = others} part h turn written =
+      record { before = []; others = (b ∷ line) ∷ others; lines_are = refl; out = []; between = s; prints = no_lines; last = out; next = one_more (has_turn turn); part = part; written = written }
+
+  behind : (xs before others : List (List ℕ)) {ys : List (List ℕ)} → ys ≡ before ++ others → xs ++ ys ≡ (xs ++ before) ++ others
+  behind xs before others is = ap (λ (lines : List (List ℕ)). xs ++ lines) is ∙ sym (append_assoc xs before others)
 
   pub Stops-after : {s u t : State} {xs ys : List (List ℕ)} {o m w : Option (List ℕ)} {p q : ℕ} → RunsScript settings s xs u o m p q → StopsScript settings u ys t m w
       → StopsScript settings s (xs ++ ys) t o w
-  Stops-after {xs = xs} {ys = ys} {o = o} {m = m} {w = w} a b =
+  Stops-after {xs = xs} {o = o} {m = m} {w = w} a b =
       record {
-        taken = length xs + b.taken;
+        before = xs ++ b.before;
+        others = b.others;
+        lines_are = behind xs b.before b.others b.lines_are;
         out = a.out ++ b.out;
-        part = length a.out + b.part;
-        few = omega (arith, length-append xs ys, b.few);
-        prints = rw (take-append-add xs ys b.taken) (PrintAll-append a.prints b.prints);
-        written = rw (take-append-add a.out b.out b.part) (Appends-trans o m w a.out (take b.part b.out) a.written b.written);
+        between = b.between;
+        prints = PrintAll-append a.prints b.prints;
+        last = b.last;
+        next = b.next;
+        part = b.part;
+        written = rw (append_assoc a.out b.out (take b.part b.last)) (Appends-trans o m w a.out (b.out ++ take b.part b.last) a.written b.written);
       }
+
+  module _ {P Q : Type 0} {s u t : State} {xs ys : List (List ℕ)} {o m w : Option (List ℕ)} {p q seen then : ℕ} (was : Q → P) (short : All IsShort xs) (is : then ≡ seen + length xs) (runs : P → RunsScript settings s xs u o m p q) where
+    pub LongLine-after : StopsAtLongLine Q settings u ys t m w then q → StopsAtLongLine Q settings s (xs ++ ys) t o w seen p
+    LongLine-after b =
+        record {
+          before = xs ++ b.before;
+          long = b.long;
+          others = b.others;
+          lines_are = behind xs b.before (b.long ∷ b.others) b.lines_are;
+          short = All-append IsShort xs b.before short b.short;
+          few = omega (arith, length-append xs b.before, is, b.few);
+          is_long = b.is_long;
+          runs = λ sound. let more = b.runs sound in (more.0, Runs-append (runs (was sound)) more.1);
+        }
+
+    pub ManyLines-after : StopsAtManyLines Q settings u ys t m w then q → StopsAtManyLines Q settings s (xs ++ ys) t o w seen p
+    ManyLines-after b =
+        record {
+          before = xs ++ b.before;
+          others = b.others;
+          lines_are = behind xs b.before b.others b.lines_are;
+          short = All-append IsShort xs b.before short b.short;
+          as_many = omega (arith, length-append xs b.before, is, b.as_many);
+          more = b.more;
+          runs = λ sound. let more = b.runs sound in (more.0, Runs-append (runs (was sound)) more.1);
+        }
 
   -- ---- the last line, which has no LF
 
   nothing_printed : {s t : State} {out : List ℕ} → PrintAll settings s ([] ∷ []) out t → PrintAll settings s [] out t
   nothing_printed (line_first passed_over no_lines) = no_lines
 
-  nothing_taken : {s t : State} {out : List ℕ} (n : ℕ) → PrintAll settings s (take n ([] ∷ [])) out t → PrintAll settings s [] out t
-  nothing_taken zero h = h
-  nothing_taken (suc n) h = nothing_printed (rw (take-nil {A = List ℕ} n) at h)
-
   pub Runs-last : {s t : State} {o w : Option (List ℕ)} {p q : ℕ} {line : List ℕ} → IsLine line → RunsScript settings s (line ∷ []) t o w p q → RunsScript settings s (lines_of line) t o w p q
   unfolding lines_of
   Runs-last {line = []} h a = record { out = a.out; prints = nothing_printed a.prints; written = a.written; counted = a.counted }
   Runs-last {line = b ∷ line} h a = rw (lines_of-last b line h) a
 
-  pub Stops-last : {s t : State} {o w : Option (List ℕ)} {line : List ℕ} → IsLine line → StopsScript settings s (line ∷ []) t o w → StopsScript settings s (lines_of line) t o w
-  unfolding lines_of
-  Stops-last {line = []} h a = record { taken = 0; out = a.out; part = a.part; few = omega arith; prints = nothing_taken a.taken a.prints; written = a.written }
-  Stops-last {line = b ∷ line} h a = rw (lines_of-last b line h) a
+  pub Stops-last : {s t : State} {o w : Option (List ℕ)} {line : List ℕ} → IsLine line → 0 < length line → StopsScript settings s (line ∷ []) t o w → StopsScript settings s (lines_of line) t o w
+  Stops-last {line = []} h some a = absurd (omega (arith, some))
+  Stops-last {line = b ∷ line} h some a = rw (lines_of-last b line h) a

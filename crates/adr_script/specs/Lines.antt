@@ -1,5 +1,5 @@
 -- How a text is cut into lines.
-use Rattle.std.specs.Prelude.{◌≢◌, ◌<◌, ◌==◌, ℕ, List, [], ◌∷◌, length, All, if◌then◌else◌}
+use Rattle.std.specs.Prelude.{◌≢◌, ◌<◌, ◌≤◌, ◌==◌, ◌^◌, ℕ, List, [], ◌∷◌, length, All, if◌then◌else◌}
 use Rattle.std.specs.List.{onto_first, Any}
 
 -- the lines of a text, without their LF, which the last one may lack: an LF ends a line, and any other byte begins the first line of what follows
@@ -11,12 +11,18 @@ lines_of (b ∷ bs) = if b == 10 then [] ∷ lines_of bs else onto_first b (line
 abbrev pub IsLine : List ℕ → Type 0
 IsLine bytes = All (λ b. b ≢ 10) bytes
 
--- the most bytes of a line, and the most lines of a text
+-- the most bytes of a line, the most lines of a text, and the most reads of one run
 abbrev pub most_bytes : ℕ
 most_bytes = 1_048_576
 
 abbrev pub most_lines : ℕ
 most_lines = 1_000_000
+
+abbrev pub most_reads : ℕ
+most_reads = 2 ^ 41
+
+abbrev pub IsShort : List ℕ → Type 0
+IsShort line = length line ≤ most_bytes
 
 -- a line of the text is too long
 abbrev pub HasLongLine : List ℕ → Type 0

@@ -1,9 +1,11 @@
 -- The run of a script: each line in its turn, and what is printed of them.
-use Rattle.std.specs.Prelude.{◌≡◌, ◌≤◌, ◌+◌, ◌==◌, ℕ, not, List, [], ◌∷◌, ◌++◌, length, take, Option}
+use Rattle.std.specs.Prelude.{◌≡◌, ◌<◌, ◌+◌, ◌==◌, ℕ, true, not, List, [], ◌∷◌, ◌++◌, length, take, All, Option}
 use Rattle.std.specs.List.{count_by}
 use Rattle.std.specs.Io.KnownBytes.{Appends}
+use Rattle.adr_text.specs.Calls.{Calls}
 use Rattle.adr_state.specs.declared.state.State.{State}
 use Rattle.adr_state.specs.declared.limits.Settings.{Settings}
+use Rattle.adr_script.specs.Lines.{most_bytes, most_lines, most_reads, IsShort}
 use Rattle.adr_script.specs.Turns.{IsTurn}
 
 -- from s, a line prints out and leaves t
@@ -31,14 +33,60 @@ pub record RunsScript (settings : Settings) (s : State) (lines : List (List ℕ)
   pub written : Appends old new out
   pub counted : after ≡ before + number_printed lines
 
--- the first of the lines were taken, and a part of what they print is written
+-- the turn of the next line, if it was taken, and what that prints
+pub data NextTurn (settings : Settings) (s : State) : List (List ℕ) → List ℕ → State → Type 0 where
+  -- no more was taken
+  no_more : {lines : List (List ℕ)} → NextTurn settings s lines [] s
+  -- one line more
+  one_more : {line out : List ℕ} {others : List (List ℕ)} {t : State} → Prints settings s line out t → NextTurn settings s (line ∷ others) out t
+
+-- the lines before were taken, and all that they print is written; of the next one at most its turn was taken, and a part of what it prints is written
 pub record StopsScript (settings : Settings) (s : State) (lines : List (List ℕ)) (t : State) (old new : Option (List ℕ)) : Type 0 where
-  pub taken : ℕ
+  pub before : List (List ℕ)
+  pub others : List (List ℕ)
+  pub lines_are : lines ≡ before ++ others
   pub out : List ℕ
+  pub between : State
+  pub prints : PrintAll settings s before out between
+  pub last : List ℕ
+  pub next : NextTurn settings between others last t
   pub part : ℕ
-  pub few : taken ≤ length lines
-  pub prints : PrintAll settings s (take taken lines) out t
-  pub written : Appends old new (take part out)
+  pub written : Appends old new (out ++ take part last)
+
+-- a line is too long: the lines before it, none of them too long and, with those that were seen, fewer than the most, were taken, and what they print is written
+pub record StopsAtLongLine (IsSound : Type 0) (settings : Settings) (s : State) (lines : List (List ℕ)) (t : State) (old new : Option (List ℕ)) (seen printed : ℕ) : Type 0 where
+  pub before : List (List ℕ)
+  pub long : List ℕ
+  pub others : List (List ℕ)
+  pub lines_are : lines ≡ before ++ long ∷ others
+  pub short : All IsShort before
+  pub few : seen + length before < most_lines
+  pub is_long : most_bytes < length long
+  pub runs : IsSound → (n : ℕ) × RunsScript settings s before t old new printed n
+
+-- there are more lines than the most: as many, with those that were seen, none of them too long, were taken, and what they print is written
+pub record StopsAtManyLines (IsSound : Type 0) (settings : Settings) (s : State) (lines : List (List ℕ)) (t : State) (old new : Option (List ℕ)) (seen printed : ℕ) : Type 0 where
+  pub before : List (List ℕ)
+  pub others : List (List ℕ)
+  pub lines_are : lines ≡ before ++ others
+  pub short : All IsShort before
+  pub as_many : seen + length before ≡ most_lines
+  pub more : 0 < length others
+  pub runs : IsSound → (n : ℕ) × RunsScript settings s before t old new printed n
+
+-- ---- calls of the source and the sink
+
+-- no call failed
+abbrev pub NoneFails : Calls → Calls → Type 0
+NoneFails old new = new.failed ≡ old.failed
+
+-- the last call failed, and no other
+abbrev pub LastFails : Calls → Calls → Type 0
+LastFails old new = (new.failed ≡ old.failed + 1) × (new.has_failed ≡ true)
+
+-- as many reads were made as may be, and none failed
+abbrev pub RunsOut : Calls → Calls → Type 0
+RunsOut old new = (new.made ≡ old.made + most_reads) × NoneFails old new
 
 -- a part of the bytes was written
 pub record WritesPart (old new : Option (List ℕ)) (bytes : List ℕ) : Type 0 where

@@ -1,7 +1,7 @@
 //! Writes all of some bytes.
-ghost use Rattle.std.specs.Prelude.{◌≡◌, ◌+◌, OnOk, OnErr};
+ghost use Rattle.std.specs.Prelude.{OnOk, OnErr};
 ghost use Rattle.std.specs.Io.KnownBytes.{Appends};
-ghost use Rattle.adr_script.specs.Scripts.{WritesPart};
+ghost use Rattle.adr_script.specs.Scripts.{WritesPart, NoneFails, LastFails};
 
 use adr_text::{IoFault, Sink};
 
@@ -9,8 +9,8 @@ use adr_text::{IoFault, Sink};
 pub(crate) fn write_all<W: Sink>(sink: &mut W, bytes: &[u8]) -> Result<(), IoFault>
     ensures ok { OnOk result (Appends (W.written sink.old) (W.written sink.new) bytes.now) }
     ensures err { OnErr result (WritesPart (W.written sink.old) (W.written sink.new) bytes.now) }
-    ensures no_fault { OnOk result (W.failed sink.new ≡ W.failed sink.old) }
-    ensures fault { OnErr result (W.failed sink.new ≡ W.failed sink.old + 1) }
+    ensures no_fault { OnOk result (NoneFails (W.calls sink.old) (W.calls sink.new)) }
+    ensures fault { OnErr result (LastFails (W.calls sink.old) (W.calls sink.new)) }
 {
     let mut at = 0;
     while at < bytes.len() {

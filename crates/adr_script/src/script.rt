@@ -1,8 +1,8 @@
 //! Scripts: lines as they come, each answered in its turn.
 ghost use Rattle.std.specs.Prelude.{◌≡◌, ◌≢◌, ◌+◌, ◌≤◌, ◌<◌, ◌⊎◌, ℕ, List, [], ◌∷◌, ◌++◌, length, IfOk, IfErr, OnOk, OnErr, IfSome, Err};
 ghost use Rattle.adr_script.specs.declared.fault.ScriptFault.TheVariants.{Read, Write, LineTooLong, ScriptTooLong};
-ghost use Rattle.adr_script.specs.Lines.{lines_of, HasLongLine, HasManyLines, most_lines};
-ghost use Rattle.adr_script.specs.Scripts.{RunsScript, StopsScript};
+ghost use Rattle.adr_script.specs.Lines.{lines_of, HasLongLine, HasManyLines, most_bytes, most_lines, most_reads};
+ghost use Rattle.adr_script.specs.Scripts.{RunsScript, StopsScript, StopsAtLongLine, StopsAtManyLines, NoneFails, LastFails, RunsOut};
 ghost use Rattle.adr_script.specs.Readings.{HasRead, HasStopped};
 
 use crate::fault::ScriptFault;
@@ -31,9 +31,9 @@ fn end_line<D: Desk, W: Sink>(
 ) -> Result<u64, ScriptFault>
     ensures ok { IfOk result (λ n. D.is_sound desk.new → RunsScript (D.settings desk.old) (D.state desk.old) (progress.now.line.items ∷ []) (D.state desk.new) (W.written sink.old) (W.written sink.new) progress.now.printed n) }
     ensures few { IfOk result (λ n. n ≤ progress.now.printed + 1) }
-    ensures err { OnErr result (D.is_sound desk.new → (others : List (List ℕ)) → StopsScript (D.settings desk.old) (D.state desk.old) (progress.now.line.items ∷ others) (D.state desk.new) (W.written sink.old) (W.written sink.new)) }
-    ensures no_write_fault { IfOk result (λ _. W.failed sink.new ≡ W.failed sink.old) }
-    ensures write_fault { result ≡ Err Write → W.failed sink.new ≡ W.failed sink.old + 1 }
+    ensures err { OnErr result ((0 < length progress.now.line.items) × (D.is_sound desk.new → (others : List (List ℕ)) → StopsScript (D.settings desk.old) (D.state desk.old) (progress.now.line.items ∷ others) (D.state desk.new) (W.written sink.old) (W.written sink.new))) }
+    ensures no_write_fault { result ≢ Err Write → NoneFails (W.calls sink.old) (W.calls sink.new) }
+    ensures write_fault { result ≡ Err Write → LastFails (W.calls sink.old) (W.calls sink.new) }
     ensures no_read_fault { result ≢ Err Read }
     ensures no_long_line { result ≢ Err LineTooLong }
     ensures no_long_script { result ≢ Err ScriptTooLong }
@@ -61,8 +61,8 @@ fn take_end<D: Desk, W: Sink>(
     requires { progress.old.seen < most_lines }
     ensures ok { OnOk result (HasRead (D.is_sound desk.new) (D.settings desk.old) (D.state desk.old) (D.state desk.new) (W.written sink.old) (W.written sink.new) progress.old progress.new (10 ∷ [])) }
     ensures err { IfErr result (λ fault. (rest : List ℕ) → HasStopped (D.is_sound desk.new) (D.settings desk.old) (D.state desk.old) (D.state desk.new) (W.written sink.old) (W.written sink.new) progress.old (10 ∷ rest) fault) }
-    ensures no_write_fault { OnOk result (W.failed sink.new ≡ W.failed sink.old) }
-    ensures write_fault { result ≡ Err Write → W.failed sink.new ≡ W.failed sink.old + 1 }
+    ensures no_write_fault { result ≢ Err Write → NoneFails (W.calls sink.old) (W.calls sink.new) }
+    ensures write_fault { result ≡ Err Write → LastFails (W.calls sink.old) (W.calls sink.new) }
     ensures no_read_fault { result ≢ Err Read }
     ensures was_sound { D.is_sound desk.new → D.is_sound desk.old }
     ensures same_settings { D.settings desk.new ≡ D.settings desk.old }
@@ -83,8 +83,10 @@ fn take_byte<D: Desk, W: Sink>(
 ) -> Result<(), ScriptFault>
     ensures ok { OnOk result (HasRead (D.is_sound desk.new) (D.settings desk.old) (D.state desk.old) (D.state desk.new) (W.written sink.old) (W.written sink.new) progress.old progress.new (byte ∷ [])) }
     ensures err { IfErr result (λ fault. (rest : List ℕ) → HasStopped (D.is_sound desk.new) (D.settings desk.old) (D.state desk.old) (D.state desk.new) (W.written sink.old) (W.written sink.new) progress.old (byte ∷ rest) fault) }
-    ensures no_write_fault { OnOk result (W.failed sink.new ≡ W.failed sink.old) }
-    ensures write_fault { result ≡ Err Write → W.failed sink.new ≡ W.failed sink.old + 1 }
+    ensures long_script_is_told { progress.old.seen ≡ most_lines → result ≡ Err ScriptTooLong }
+    ensures long_line_is_told { progress.old.seen < most_lines → byte ≢ 10 → length progress.old.line.items ≡ most_bytes → result ≡ Err LineTooLong }
+    ensures no_write_fault { result ≢ Err Write → NoneFails (W.calls sink.old) (W.calls sink.new) }
+    ensures write_fault { result ≡ Err Write → LastFails (W.calls sink.old) (W.calls sink.new) }
     ensures no_read_fault { result ≢ Err Read }
     ensures was_sound { D.is_sound desk.new → D.is_sound desk.old }
     ensures same_settings { D.settings desk.new ≡ D.settings desk.old }
@@ -113,8 +115,8 @@ fn take_piece<D: Desk, W: Sink>(
 ) -> Result<(), ScriptFault>
     ensures ok { OnOk result (HasRead (D.is_sound desk.new) (D.settings desk.old) (D.state desk.old) (D.state desk.new) (W.written sink.old) (W.written sink.new) progress.old progress.new piece.now) }
     ensures err { IfErr result (λ fault. (rest : List ℕ) → HasStopped (D.is_sound desk.new) (D.settings desk.old) (D.state desk.old) (D.state desk.new) (W.written sink.old) (W.written sink.new) progress.old (piece.now ++ rest) fault) }
-    ensures no_write_fault { OnOk result (W.failed sink.new ≡ W.failed sink.old) }
-    ensures write_fault { result ≡ Err Write → W.failed sink.new ≡ W.failed sink.old + 1 }
+    ensures no_write_fault { result ≢ Err Write → NoneFails (W.calls sink.old) (W.calls sink.new) }
+    ensures write_fault { result ≡ Err Write → LastFails (W.calls sink.old) (W.calls sink.new) }
     ensures no_read_fault { result ≢ Err Read }
     ensures was_sound { D.is_sound desk.new → D.is_sound desk.old }
     ensures same_settings { D.settings desk.new ≡ D.settings desk.old }
@@ -137,12 +139,13 @@ pub fn run_script<D: Desk, S: Source, W: Sink>(
 ) -> Result<u64, ScriptFault>
     ensures all { IfOk result (λ n. IfSome (S.left source.old) (λ text. D.is_sound desk.new → RunsScript (D.settings desk.old) (D.state desk.old) (lines_of text) (D.state desk.new) (W.written sink.old) (W.written sink.new) 0 n)) }
     ensures some { OnErr result (IfSome (S.left source.old) (λ text. D.is_sound desk.new → StopsScript (D.settings desk.old) (D.state desk.old) (lines_of text) (D.state desk.new) (W.written sink.old) (W.written sink.new))) }
-    ensures no_fault_is_passed_over { OnOk result ((S.failed source.new ≡ S.failed source.old) × (W.failed sink.new ≡ W.failed sink.old)) }
-    ensures read_fault { result ≡ Err Read → (S.failed source.new ≡ S.failed source.old + 1) ⊎ (S.calls source.new ≡ S.calls source.old + MOST_READS) }
-    ensures write_fault { result ≡ Err Write → W.failed sink.new ≡ W.failed sink.old + 1 }
-    ensures reads { S.calls source.new ≤ S.calls source.old + MOST_READS }
-    ensures long_line { IfSome (S.left source.old) (λ text. result ≡ Err LineTooLong → HasLongLine text) }
-    ensures long_script { IfSome (S.left source.old) (λ text. result ≡ Err ScriptTooLong → HasManyLines text) }
+    ensures read_fault { result ≡ Err Read → LastFails (S.calls source.old) (S.calls source.new) ⊎ RunsOut (S.calls source.old) (S.calls source.new) }
+    ensures no_read_fault { result ≢ Err Read → NoneFails (S.calls source.old) (S.calls source.new) }
+    ensures write_fault { result ≡ Err Write → LastFails (W.calls sink.old) (W.calls sink.new) }
+    ensures no_write_fault { result ≢ Err Write → NoneFails (W.calls sink.old) (W.calls sink.new) }
+    ensures reads { (S.calls source.new).made ≤ (S.calls source.old).made + most_reads }
+    ensures long_line { result ≡ Err LineTooLong → IfSome (S.left source.old) (λ text. StopsAtLongLine (D.is_sound desk.new) (D.settings desk.old) (D.state desk.old) (lines_of text) (D.state desk.new) (W.written sink.old) (W.written sink.new) 0 0) }
+    ensures long_script { result ≡ Err ScriptTooLong → IfSome (S.left source.old) (λ text. StopsAtManyLines (D.is_sound desk.new) (D.settings desk.old) (D.state desk.old) (lines_of text) (D.state desk.new) (W.written sink.old) (W.written sink.new) 0 0) }
     ensures short_lines { OnOk result (IfSome (S.left source.old) (λ text. ¬ HasLongLine text)) }
     ensures few_lines { OnOk result (IfSome (S.left source.old) (λ text. ¬ HasManyLines text)) }
     ensures was_sound { D.is_sound desk.new → D.is_sound desk.old }

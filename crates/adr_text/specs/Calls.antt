@@ -1,5 +1,19 @@
--- Calls of a source or a sink, of which one fails.
-use Rattle.std.specs.Prelude.{ℕ, zero, suc, Option, Some, None}
+-- Calls of a source or a sink.
+use Rattle.std.specs.Prelude.{ℕ, zero, suc, ◌+◌, Bool, true, false, Option, Some, None}
+
+-- how many calls were made, how many of them failed, and whether the last one did
+pub record Calls : Type 0 where
+  pub made : ℕ
+  pub failed : ℕ
+  pub has_failed : Bool
+
+abbrev pub no_calls : Calls
+no_calls = record { made = 0; failed = 0; has_failed = false }
+
+-- after one more, which went well or failed
+abbrev pub with_call : Bool → Calls → Calls
+with_call false calls = record { made = calls.made + 1; failed = calls.failed; has_failed = false }
+with_call true calls = record { made = calls.made + 1; failed = calls.failed + 1; has_failed = true }
 
 -- how many more calls go well before one fails, after a call: once one has failed, none fails
 abbrev pub counted_down : Option ℕ → Option ℕ

@@ -1,5 +1,5 @@
-ghost use Rattle.std.specs.Prelude.{◌≡◌, ◌↔◌, ◌+◌, ◌<◌, ◌≤◌, ◌-◌, [], ◌++◌, length, min, take, Some, IsTrue, IfOk, IsErr, vec_len, is_err, if◌then◌else◌, drop};
-ghost use Rattle.adr_text.specs.Calls.{counted_down};
+ghost use Rattle.std.specs.Prelude.{◌≡◌, ◌↔◌, ◌+◌, ◌<◌, ◌≤◌, ◌-◌, [], ◌++◌, length, min, take, Some, IsTrue, IfOk, IsErr, vec_len, is_err, drop};
+ghost use Rattle.adr_text.specs.Calls.{counted_down, no_calls, with_call};
 ghost use Rattle.std.specs.Io.{ReadsAtMost, WritesAtMost};
 ghost use Rattle.std.specs.Io.KnownBytes.{ReadConsumes, WriteAppends};
 
@@ -39,7 +39,7 @@ impl<L: Ledger> KthFails<L> {
         ensures at { result.at ≡ 0 }
         ensures most { result.most ≡ most }
         ensures until { result.until ≡ until }
-        ensures counts { result.counts ≡ (0, 0) }
+        ensures counts { result.counts ≡ no_calls }
     {
         KthFails {
             content,
@@ -55,15 +55,12 @@ impl<L: Ledger> KthFails<L> {
 impl<L: Ledger> Source for KthFails<L> {
     ghost left = { λ s. Some (drop s.at s.content.items) };
 
-    ghost calls = { λ s. s.counts.0 };
-
-    ghost failed = { λ s. s.counts.1 };
+    ghost calls = { λ s. s.counts };
 
     fn pull(&mut self, into: &mut [u8]) -> Result<usize, IoFault>
         ensures bound { ReadsAtMost result into.new }
         ensures bytes { ReadConsumes (Some (drop self.old.at self.old.content.items)) (Some (drop self.new.at self.new.content.items)) result into.new }
-        ensures calls { self.new.counts.0 ≡ self.old.counts.0 + 1 }
-        ensures failed { self.new.counts.1 ≡ self.old.counts.1 + (if is_err result then 1 else 0) }
+        ensures calls { self.new.counts ≡ with_call (is_err result) self.old.counts }
         ensures kth { IsErr result ↔ (self.old.until ≡ Some 0) }
         ensures later { self.new.until ≡ counted_down self.old.until }
         ensures count { IfOk result (λ n. n ≡ min (min (length self.old.content.items - self.old.at) self.old.most) (length into.new)) }
@@ -83,18 +80,14 @@ impl<L: Ledger> Source for KthFails<L> {
 impl<L: Ledger> Sink for KthFails<L> {
     ghost written = { λ s. Some s.out.items };
 
-    ghost calls = { λ s. s.counts.0 };
-
-    ghost failed = { λ s. s.counts.1 };
+    ghost calls = { λ s. s.counts };
 
     // It fails too where memory runs out.
     fn push(&mut self, bytes: &[u8]) -> Result<usize, IoFault>
         ensures bound { WritesAtMost result bytes.now }
         ensures some { IfOk result (λ n. 0 < length bytes.now → 0 < n) }
         ensures bytes { WriteAppends (Some self.old.out.items) (Some self.new.out.items) result bytes.now }
-        ensures calls { self.new.counts.0 ≡ self.old.counts.0 + 1 }
-        ensures failed { self.new.counts.1
-            ≡ self.old.counts.1 + (if is_err result then 1 else 0) }
+        ensures calls { self.new.counts ≡ with_call (is_err result) self.old.counts }
         ensures kth { self.old.until ≡ Some 0 → IsErr result }
         ensures later { self.new.until ≡ counted_down self.old.until }
         ensures count { IfOk result (λ n. n ≡ min (length bytes.now) self.old.most) }

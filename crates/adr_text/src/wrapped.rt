@@ -1,4 +1,5 @@
 ghost use Rattle.std.specs.Prelude.{◌≡◌, ◌<◌};
+ghost use Rattle.adr_text.specs.Calls.{no_calls};
 
 use crate::counts::Counts;
 use crate::source::{IoFault, Sink, Source};
@@ -18,7 +19,7 @@ impl<R: Read + Drop, L: Ledger> Reader<R, L> {
         requires parts { blank.parts ≡ L.parts }
         requires two { 1 < blank.parts }
         ensures inner { result.inner ≡ inner }
-        ensures counts { result.counts ≡ (0, 0) }
+        ensures counts { result.counts ≡ no_calls }
     {
         Reader {
             inner,
@@ -30,9 +31,7 @@ impl<R: Read + Drop, L: Ledger> Reader<R, L> {
 impl<R: Read + Drop, L: Ledger> Source for Reader<R, L> {
     ghost left = { λ r. R.remaining r.inner };
 
-    ghost calls = { λ r. r.counts.0 };
-
-    ghost failed = { λ r. r.counts.1 };
+    ghost calls = { λ r. r.counts };
 
     fn pull(&mut self, into: &mut [u8]) -> Result<usize, IoFault> {
         match self.inner.read(into) {
@@ -61,7 +60,7 @@ impl<W: Write + Drop, L: Ledger> Writer<W, L> {
         requires parts { blank.parts ≡ L.parts }
         requires two { 1 < blank.parts }
         ensures inner { result.inner ≡ inner }
-        ensures counts { result.counts ≡ (0, 0) }
+        ensures counts { result.counts ≡ no_calls }
     {
         Writer {
             inner,
@@ -73,9 +72,7 @@ impl<W: Write + Drop, L: Ledger> Writer<W, L> {
 impl<W: Write + Drop, L: Ledger> Sink for Writer<W, L> {
     ghost written = { λ r. W.contents r.inner };
 
-    ghost calls = { λ r. r.counts.0 };
-
-    ghost failed = { λ r. r.counts.1 };
+    ghost calls = { λ r. r.counts };
 
     fn push(&mut self, bytes: &[u8]) -> Result<usize, IoFault> {
         match self.inner.write(bytes) {

@@ -10,10 +10,10 @@ use Rattle.adr_state.specs.declared.state.State.{State}
 use Rattle.adr_state.specs.declared.limits.Limits.{Limits}
 use Rattle.adr_state.specs.declared.limits.Settings.{Settings}
 use Rattle.adr_script.specs.Lines.{lines_of}
-use Rattle.adr_script.specs.Scripts.{RunsScript, StopsScript}
+use Rattle.adr_script.specs.Scripts.{RunsScript, StopsScript, StopsAtLongLine, StopsAtManyLines}
 use Rattle.adr_script.proofs.Scripts.{Stops-at_once}
 use Rattle.adr_script.proofs.Readings.{whatever_follows}
-use Rattle.adr_node.specs.Script.{settings_of, RunsFromEmpty, StopsFromEmpty}
+use Rattle.adr_node.specs.Script.{settings_of, RunsFromEmpty, StopsFromEmpty, EndsAtLongLine, EndsAtManyLines}
 use Rattle.adr_node.proofs.script.run_from_empty.Goals as goal
 
 abbrev set_as : List ℕ → Limits → Settings
@@ -27,15 +27,21 @@ settings_are limits client settings named is =
     is ∙ ap (λ (c : List ℕ). set_as c limits) same
 
 module _ (limits : Limits) (settings : Settings) (s : State) (are : settings ≡ settings_of limits) (at : s ≡ empty) (text : List ℕ) (t : State) (old new : Option (List ℕ)) where
+  -- what holds of the run from the desk's state holds of one from the empty state, under the settings that were meant
+  from_empty : (P : Settings → State → Type 0) → P settings s → P (settings_of limits) empty
+  from_empty P h = subst (λ (x : Settings). P x empty) are (subst (λ (u : State). P settings u) at h)
+
   runs : (n : ℕ) → RunsScript settings s (lines_of text) t old new 0 n → RunsFromEmpty limits text old new n
-  runs n h =
-      let from : RunsScript settings empty (lines_of text) t old new 0 n = subst (λ (u : State). RunsScript settings u (lines_of text) t old new 0 n) at h in
-      (t, subst (λ (x : Settings). RunsScript x empty (lines_of text) t old new 0 n) are from)
+  runs n h = (t, from_empty (λ x u. RunsScript x u (lines_of text) t old new 0 n) h)
 
   stops : StopsScript settings s (lines_of text) t old new → StopsFromEmpty limits text old new
-  stops h =
-      let from : StopsScript settings empty (lines_of text) t old new = subst (λ (u : State). StopsScript settings u (lines_of text) t old new) at h in
-      (t, subst (λ (x : Settings). StopsScript x empty (lines_of text) t old new) are from)
+  stops h = (t, from_empty (λ x u. StopsScript x u (lines_of text) t old new) h)
+
+  stops_at_long_line : StopsAtLongLine (Unit {0}) settings s (lines_of text) t old new 0 0 → EndsAtLongLine limits text old new
+  stops_at_long_line h = (t, from_empty (λ x u. StopsAtLongLine (Unit {0}) x u (lines_of text) t old new 0 0) h)
+
+  stops_at_many_lines : StopsAtManyLines (Unit {0}) settings s (lines_of text) t old new 0 0 → EndsAtManyLines limits text old new
+  stops_at_many_lines h = (t, from_empty (λ x u. StopsAtManyLines (Unit {0}) x u (lines_of text) t old new 0 0) h)
 
 -- no memory for the client's name: no line was taken
 pub returns-in_default-clause-some : goal.returns-in_default-clause-some
@@ -58,3 +64,17 @@ returns-clause-some g c =
     on_err_weaker c.run_script.result (λ h. IfSome_then (g.S.Source.left c.args.source.now) h
     (λ text ran. stops c.args.limits desk.settings desk.state are c.new-desk.ensures.state text c.run_script.new.desk.state (g.W.Sink.written c.args.sink.now) (g.W.Sink.written c.run_script.new.sink) (ran tt)))
     c.run_script.ensures.some
+
+pub returns-clause-long_line : goal.returns-clause-long_line
+returns-clause-long_line g c =
+    let desk = c.new-desk.result in
+    let are : desk.settings ≡ settings_of c.args.limits = settings_are c.args.limits c.in-Ok.client desk.settings c.in-Ok.ensures c.new-desk.ensures.settings in
+    λ e. IfSome_then (g.S.Source.left c.args.source.now) (c.run_script.ensures.long_line e)
+    (λ text. stops_at_long_line c.args.limits desk.settings desk.state are c.new-desk.ensures.state text c.run_script.new.desk.state (g.W.Sink.written c.args.sink.now) (g.W.Sink.written c.run_script.new.sink))
+
+pub returns-clause-long_script : goal.returns-clause-long_script
+returns-clause-long_script g c =
+    let desk = c.new-desk.result in
+    let are : desk.settings ≡ settings_of c.args.limits = settings_are c.args.limits c.in-Ok.client desk.settings c.in-Ok.ensures c.new-desk.ensures.settings in
+    λ e. IfSome_then (g.S.Source.left c.args.source.now) (c.run_script.ensures.long_script e)
+    (λ text. stops_at_many_lines c.args.limits desk.settings desk.state are c.new-desk.ensures.state text c.run_script.new.desk.state (g.W.Sink.written c.args.sink.now) (g.W.Sink.written c.run_script.new.sink))

@@ -14,5 +14,5 @@ loop-at-preserved g c =
     record {
       inside = omega (arith, c.in_ok-at.ensures.bound);
       written = rw (one_part_more c.loop-at.at c.in_ok-at.field-0 c.args.bytes.now) at (Appends-trans _ _ _ _ _ before.written c.in_ok-at.ensures.bytes);
-      failed = omega (arith, c.in_ok-at.ensures.failed, before.failed);
+      failed = ap (λ (calls : Calls). calls.failed) c.in_ok-at.ensures.calls ∙ before.failed;
     }

@@ -8,7 +8,7 @@ invariant-loop-at g l =
     record {
       inside : l.at ≤ length l.bytes;
       written : Appends (sink.written l.fn.sink) (sink.written l.sink) (take l.at l.bytes);
-      failed : sink.failed l.sink ≡ sink.failed l.fn.sink;
+      failed : NoneFails (sink.calls l.fn.sink) (sink.calls l.sink);
     }
 
 abbrev pub decreases-loop-at : goal.decreases-loop-at

@@ -24,9 +24,9 @@ loop-preserved g c =
     let before = c.loop.invariant in
     let piece = c.in_ok-take_piece.ensures in
     record {
-      calls = omega (arith, c.pull.ensures.calls, before.calls);
-      failed = omega (arith, c.in-Ok.ensures.failed, before.failed);
-      write_failed = piece.no_write_fault ∙ before.write_failed;
+      calls = omega (arith, ap (λ (calls : Calls). calls.made) c.in-Ok.ensures.calls, before.calls);
+      failed = omega (arith, ap (λ (calls : Calls). calls.failed) c.in-Ok.ensures.calls, before.failed);
+      write_failed = piece.no_write_fault cc ∙ before.write_failed;
       bytes = before.bytes ++ take c.in-Ok.n c.pull.new.into;
       consumed = Consumes-trans _ _ _ before.bytes _ before.consumed c.in-Ok.ensures.bytes.0;
       read = HasRead-append piece.was_sound before.read (rw before.settings at piece.ok);
@@ -68,7 +68,7 @@ returns-in_err-take_piece-clause-long_script g c =
     let piece = c.in_err-take_piece.ensures in
     let handed = err_from_is_err_and c.from_residual.result c.from_residual.ensures.1 in
     whatever_follows _ _ _ before.bytes _ _ before.consumed c.in-Ok.ensures.bytes.0 (λ rest e.
-    omega (arith, rw c.new.ensures.items at ((HasStopped-after piece.was_sound before.read (rw before.settings at (piece.err rest))).long_script cc)))
+    rw c.new.ensures.items at ((HasStopped-after piece.was_sound before.read (rw before.settings at (piece.err rest))).long_script cc))
 
 -- the source is at its end: what was read is the text
 the_text : (g : Over) (c : goal.After-drop-progress-then-n-eq0 g) (P : List ℕ → Type 0) → P c.loop.invariant.bytes → IfSome (g.S.Source.left c.args.source.now) P
@@ -86,7 +86,7 @@ pub returns-then-n-eq0-clause-some : goal.returns-then-n-eq0-clause-some
 returns-then-n-eq0-clause-some g c =
     let before = c.loop.invariant in
     let end = c.end_line.ensures in
-    on_err_weaker c.end_line.result (λ h. the_text g c _ (λ sound. Stops-whole c.new.ensures.items before.read (end.was_sound sound) (rw before.settings at (h sound [])))) end.err
+    on_err_weaker c.end_line.result (λ h. the_text g c _ (λ sound. Stops-whole c.new.ensures.items before.read (end.was_sound sound) h.0 (rw before.settings at (h.1 sound [])))) end.err
 
 pub returns-then-n-eq0-clause-short_lines : goal.returns-then-n-eq0-clause-short_lines
 returns-then-n-eq0-clause-short_lines g c =

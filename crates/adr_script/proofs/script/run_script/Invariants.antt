@@ -1,5 +1,6 @@
 use Rattle.std.proofs.Common.{◌≡◌, ◌+◌, List, ℕ}
 use Rattle.std.specs.Io.KnownBytes.{Consumes}
+use Rattle.adr_script.specs.Scripts.{NoneFails}
 use Rattle.adr_script.specs.Readings.{HasRead}
 use Rattle.adr_script.proofs.script.run_script.Given as goal
 
@@ -10,9 +11,9 @@ invariant-loop g l =
     let source = g.S.Source in
     let sink = g.W.Sink in
     record {
-      calls : source.calls l.source ≡ source.calls l.fn.source + l.counter;
-      failed : source.failed l.source ≡ source.failed l.fn.source;
-      write_failed : sink.failed l.sink ≡ sink.failed l.fn.sink;
+      calls : (source.calls l.source).made ≡ (source.calls l.fn.source).made + l.counter;
+      failed : NoneFails (source.calls l.fn.source) (source.calls l.source);
+      write_failed : NoneFails (sink.calls l.fn.sink) (sink.calls l.sink);
       bytes : List ℕ;
       consumed : Consumes (source.left l.fn.source) (source.left l.source) bytes;
       read : HasRead (desk.is_sound l.desk) (desk.settings l.fn.desk) (desk.state l.fn.desk) (desk.state l.desk) (sink.written l.fn.sink) (sink.written l.sink) l.initial.progress l.progress bytes;

@@ -1,8 +1,8 @@
-use Rattle.std.proofs.Common.{◌++◌, ◌∙◌, sym, ap, length, List, ℕ, [], ◌∷◌, ◌≤◌, append_assoc, arith}
+use Rattle.std.proofs.Common.{◌++◌, ◌∙◌, refl, sym, ap, length, List, ℕ, [], ◌∷◌, append_assoc, arith}
 use Rattle.std.proofs.lemmas.Result.{err_from_is_err_and}
 use Rattle.std.proofs.lemmas.List.Elements.{All-nil}
-use Rattle.adr_script.specs.Lines.{lines_of, most_bytes}
-use Rattle.adr_script.proofs.Lines.{long_line, lines_of-some}
+use Rattle.adr_script.specs.Lines.{lines_of, IsShort}
+use Rattle.adr_script.proofs.Lines.{first_line, lines_of-some}
 use Rattle.adr_script.proofs.Scripts.{Runs-nothing, Stops-at_once}
 use Rattle.adr_script.proofs.Readings.{HasStopped-plain}
 use Rattle.adr_script.proofs.script.take_byte.Goals as goal
@@ -12,14 +12,33 @@ returns-then-progress-eq-MOST_LINES-clause-err g c =
     λ rest. record {
       stops = λ sound. Stops-at_once;
       long_line = λ e. cc;
-      long_script = λ e. omega (arith, lines_of-some c.args.progress.now.line.items c.args.byte rest, c.if-progress-eq-MOST_LINES.true);
+      long_script = λ e. record {
+        before = [];
+        others = lines_of (c.args.progress.now.line.items ++ c.args.byte ∷ rest);
+        lines_are = refl;
+        short = All-nil IsShort;
+        as_many = omega (arith, c.if-progress-eq-MOST_LINES.true);
+        more = lines_of-some c.args.progress.now.line.items c.args.byte rest;
+        runs = λ sound. (c.args.progress.now.printed, Runs-nothing);
+      };
     }
 
 pub returns-then-so_far-eq-MOST_BYTES-clause-err : goal.returns-then-so_far-eq-MOST_BYTES-clause-err
 returns-then-so_far-eq-MOST_BYTES-clause-err g c =
-    λ rest. record {
+    λ rest.
+    let first = first_line c.args.progress.now.line.items c.args.byte rest c.args.progress.now.no_end c.if-byte-eq10.false in
+    record {
       stops = λ sound. Stops-at_once;
-      long_line = λ e. long_line c.args.progress.now.line.items c.args.byte rest c.args.progress.now.no_end c.if-byte-eq10.false (ap length (sym c.as_slice-so_far.ensures.value) ∙ c.if-so_far-eq-MOST_BYTES.true);
+      long_line = λ e. record {
+        before = [];
+        long = first.0;
+        others = first.1;
+        lines_are = first.2;
+        short = All-nil IsShort;
+        few = omega (arith, c.args.progress.now.few, c.if-progress-eq-MOST_LINES.false);
+        is_long = omega (arith, first.3, ap length (sym c.as_slice-so_far.ensures.value) ∙ c.if-so_far-eq-MOST_BYTES.true);
+        runs = λ sound. (c.args.progress.now.printed, Runs-nothing);
+      };
       long_script = λ e. cc;
     }
 
@@ -35,7 +54,7 @@ returns-clause-ok g c =
     record {
       ended = [];
       lines = λ rest. ap lines_of (sym (append_assoc line (c.args.byte ∷ []) rest) ∙ ap (λ (l : List ℕ). l ++ rest) (sym c.in_ok-push.ensures.items));
-      short = All-nil (λ (l : List ℕ). length l ≤ most_bytes);
+      short = All-nil IsShort;
       seen = omega arith;
       runs = λ sound. Runs-nothing;
     }

@@ -1,7 +1,7 @@
-use Rattle.std.proofs.Common.{◌≤◌, sym, ap, ◌∙◌, length, [], ◌∷◌, ◌++◌, List, ℕ, Err, arith}
+use Rattle.std.proofs.Common.{sym, ap, ◌∙◌, [], ◌∷◌, ◌++◌, List, ℕ, Err, arith}
 use Rattle.std.proofs.lemmas.Result.{err_from_is_err_and}
 use Rattle.std.proofs.lemmas.List.Elements.{All-nil, All-cons}
-use Rattle.adr_script.specs.Lines.{lines_of, most_bytes}
+use Rattle.adr_script.specs.Lines.{lines_of, IsShort}
 use Rattle.adr_script.proofs.Lines.{lines_of-ended}
 use Rattle.adr_script.proofs.Readings.{HasStopped-plain}
 use Rattle.adr_script.proofs.script.take_end.Goals as goal
@@ -12,13 +12,12 @@ returns-in_err-progress-clause-err g c =
     let end = c.in_err-progress.ensures in
     let handed = err_from_is_err_and c.from_residual.result c.from_residual.ensures.1 in
     rw (handed.1, handed.2) (λ rest.
-    HasStopped-plain (λ e. end.no_long_line (ap (λ x. Err x) e)) (λ e. end.no_long_script (ap (λ x. Err x) e)) (λ sound. rw (lines_of-ended line rest c.args.progress.now.no_end) (end.err sound (lines_of rest))))
+    HasStopped-plain (λ e. end.no_long_line (ap (λ x. Err x) e)) (λ e. end.no_long_script (ap (λ x. Err x) e)) (λ sound. rw (lines_of-ended line rest c.args.progress.now.no_end) (end.err.1 sound (lines_of rest))))
 
 -- the line ended
 pub returns-clause-ok : goal.returns-clause-ok
 returns-clause-ok g c =
     let line = c.args.progress.now.line.items in
-    let IsShort = λ (l : List ℕ). length l ≤ most_bytes in
     record {
       ended = line ∷ [];
       lines = λ rest. lines_of-ended line rest c.args.progress.now.no_end ∙ ap (λ (l : List ℕ). line ∷ lines_of (l ++ rest)) (sym c.clear.ensures.items);

@@ -1,4 +1,5 @@
 use Rattle.std.proofs.Common.{◌≡◌, take}
+use Rattle.adr_script.specs.Scripts.{NoneFails}
 use Rattle.adr_script.specs.Readings.{HasRead}
 use Rattle.adr_script.proofs.script.take_piece.Given as goal
 
@@ -9,7 +10,7 @@ invariant-loop-byte g l =
     let sink = g.W.Sink in
     record {
       read : HasRead (desk.is_sound l.desk) (desk.settings l.fn.desk) (desk.state l.fn.desk) (desk.state l.desk) (sink.written l.fn.sink) (sink.written l.sink) l.fn.progress l.progress (take l.byte-index l.piece);
-      write_failed : sink.failed l.sink ≡ sink.failed l.fn.sink;
+      write_failed : NoneFails (sink.calls l.fn.sink) (sink.calls l.sink);
       was_sound : desk.is_sound l.desk → desk.is_sound l.fn.desk;
       settings : desk.settings l.desk ≡ desk.settings l.fn.desk;
     }
