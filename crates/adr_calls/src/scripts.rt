@@ -219,9 +219,23 @@ fn ends_where_a_read_fails(
 fn each_read_fails(rt: HostRuntime) -> Result<(), Fail> {
     // 821 bytes in pieces of 64 are 13 reads, and one more finds the end.
     for k in 0..14 {
-        assert!(rt; ends_where_a_read_fails(rt.alloc(), k, Err(ScriptFault::Read))?, "{k}");
+        assert!(rt;
+            ends_where_a_read_fails(rt.alloc(), k, Err(ScriptFault::Read))?,
+            "{k}"
+        );
     }
     assert!(rt; ends_where_a_read_fails(rt.alloc(), 14, Ok(11))?);
+    Ok(())
+}
+
+#[test]
+fn each_write_fails(rt: HostRuntime) -> Result<(), Fail> {
+    for k in 0..11 {
+        assert!(rt; ends_where_a_write_fails(rt.alloc(), k)?, "{k}");
+    }
+    assert!(rt; writes(rt.alloc(), 4096, Some(11))? == Ok(11));
+    assert!(rt; writes(rt.alloc(), 1, Some(100))? == Err(ScriptFault::Write));
+    assert!(rt; writes(rt.alloc(), 1, None)? == Ok(11));
     Ok(())
 }
 

@@ -1,14 +1,7 @@
 -- From a statement that ran to the clauses of a call.
 use Rattle.std.proofs.Common.{ℕ, List, Ok, Err, Result, IfOk}
-use Rattle.sqlite_value.specs.Order.{Row}
-use Rattle.sqlite.specs.Store.{Ghosts}
-use Rattle.sqlite.specs.Held.{Held, state}
-use Rattle.sqlite.specs.State.{State, HasCleanDisk, Executes, Shown}
+use Rattle.adr_db.proofs.Common.{Row, Ghosts, Held, state, State, HasCleanDisk, Executes, Shown, understood, Runs, Changes, Contents, Holds, holds_still}
 use Rattle.sqlite.specs.Given.{IsPlain}
-use Rattle.sqlite.specs.Listing.{understood}
-use Rattle.adr_sql.specs.Calls.{Runs, Changes}
-use Rattle.adr_sql.specs.Contents.{Contents, Holds}
-use Rattle.adr_sql.proofs.Transactions.{holds_still}
 use Rattle.adr_db.specs.Tables.{schema}
 use Rattle.adr_db.specs.Kept.{Kept, Keeps, contents_of}
 use Rattle.adr_db.specs.Calls.{LeavesKept, Finds, Shows}

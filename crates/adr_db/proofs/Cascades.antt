@@ -1,35 +1,16 @@
 -- The rows of vens, resources and shares, and what goes with a ven or a resource.
 use Rattle.std.proofs.Common.{◌≡◌, inl, inr, ℕ, pos, negsuc, Bool, true, false, not, ◌==◌, List, [], ◌∷◌, map, Some, Ok, refl, sym, ap, subst, ◌∙◌, arith, codes, Less, Equal, is_eq, eqb-true}
-use Rattle.std.specs.Ordering.{nat_cmp}
-use Rattle.std.specs.Option.{option_map_or}
+use Rattle.adr_db.proofs.Common.{nat_cmp, option_map_or, tied_itself, nat_cmp_total, Null, Int, Real, Text, Blob, Row, column, value_cmp, cascades_to, value_cmp-Int, IsAscending, filter-map, Has, State, Executes, Resource, at, key_order, has_key, Contents, with_table, Holds, same_bool, ties, stores_at, entry_found, is_of_ven, without_ven, without_resource}
 use Rattle.std.proofs.lemmas.Bool.{eq-eqb}
-use Rattle.std.proofs.lemmas.Cmp.{tied_itself, nat_cmp_total}
 use Rattle.sqlite_value.specs.declared.value.Value.{Value}
-use Rattle.sqlite_value.specs.declared.value.Value.TheVariants.{Null, Int, Real, Text, Blob}
-use Rattle.sqlite_value.specs.Order.{Row, column, value_cmp}
 use Rattle.sqlite_value.specs.Keys.{joined, plain}
 use Rattle.sqlite_sql.specs.Ops.{is_null}
-use Rattle.adr_sql.specs.Schemas.{cascades_to}
-use Rattle.sqlite_value.proofs.OrderLemmas.{value_cmp-Int}
-use Rattle.sqlite_trees.specs.Tree.{IsAscending}
-use Rattle.sqlite_trees.proofs.ListLemmas.{filter-map}
 use Rattle.sqlite_schema.specs.Names.{same_name}
-use Rattle.sqlite_rules.specs.Lists.{Has}
-use Rattle.sqlite.specs.State.{State, Executes}
-use Rattle.adr_state.specs.declared.portfolio.Resource.{Resource}
-use Rattle.adr_state.specs.Keys.{at}
-use Rattle.adr_sql.specs.Keys.{key_order, has_key}
-use Rattle.adr_sql.specs.Contents.{Contents, with_table, Holds}
-use Rattle.adr_sql.proofs.Keys.{same_bool, ties}
-use Rattle.adr_sql.proofs.Places.{stores_at}
-use Rattle.adr_sql.proofs.Maps.{entry_found}
 use Rattle.adr_sql.proofs.KeyedMaps.{rows_left}
 use Rattle.adr_sql.proofs.Cascades.{Losses, IsChain, linked, cascade_runs}
 use Rattle.sqlite_rules.proofs.ProbeLemmas.{has_mapped}
 use Rattle.adr_db.specs.Tables.{schema}
 use Rattle.adr_db.specs.Rows.{number, number_row, ven_columns, resource_columns, resource_row, share_row}
-use Rattle.adr_state.specs.Portfolios.{is_of_ven}
-use Rattle.adr_state.specs.Portfolios.{without_ven, without_resource}
 use Rattle.adr_db.specs.Kept.{Kept, Keeps, contents_of, with_portfolio}
 use Rattle.adr_db.proofs.Tables.{ven, ven_keyed, resource, resource_keyed, share}
 use Rattle.adr_db.proofs.Rows.{number_codec, number_same_is, numbers_as_values, numbers_as_rows}

@@ -1,8 +1,6 @@
 -- The texts make the tables.
 use Rattle.std.proofs.Common.{ℕ, List, [], ◌∷◌, refl}
-use Rattle.sqlite.specs.Listing.{understood}
-use Rattle.sqlite_tied.specs.Compute.{everything}
-use Rattle.adr_sql.specs.Schemas.{no_schema}
+use Rattle.adr_db.proofs.Common.{understood, everything, no_schema}
 use Rattle.adr_sql.specs.Creations.{Makes}
 use Rattle.adr_db.specs.declared.schema.TheConstants.{META, MIRROR, POLLED, VEN, RESOURCE, SHARE}
 use Rattle.adr_db.specs.Tables.{tables}

@@ -1,29 +1,11 @@
 -- A table that is one of the maps that are kept, and what the calls on it leave and find.
 use Rattle.std.proofs.Common.{◌≡◌, inl, inr, ℕ, true, List, [], ◌∷◌, map, take, length, Option, None, Some, Ok, Err, Result, IfOk, refl, ap, ap₂, subst, ◌∙◌, Less}
 use Rattle.std.specs.Prelude.{option_to_list}
-use Rattle.std.specs.List.{AllZip}
+use Rattle.adr_db.proofs.Common.{AllZip, is_at, insert_entry, Row, IsAscending, Has, end, Ghosts, Held, state, State, at, map_of, rows_of_table, with_table, Holds, Runs, are_full, AreValues, IsUpsertText, IsRemoveText, IsCountText, IsSelectText, whole_rows, equalities}
 use Rattle.std.specs.Map.{remove_entry}
-use Rattle.std.specs.BTreeMap.{is_at, insert_entry}
-use Rattle.sqlite_value.specs.Order.{Row}
-use Rattle.sqlite_trees.specs.Tree.{IsAscending}
-use Rattle.sqlite_rules.specs.Lists.{Has}
 use Rattle.sqlite_sql.specs.Aggregate.{count}
-use Rattle.sqlite_sql.specs.Query.{end}
-use Rattle.sqlite.specs.Store.{Ghosts}
-use Rattle.sqlite.specs.Held.{Held, state}
-use Rattle.sqlite.specs.State.{State}
-use Rattle.adr_state.specs.Keys.{at, map_of}
 use Rattle.adr_sql.specs.Codecs.{entry_at}
-use Rattle.adr_sql.specs.Contents.{rows_of_table, with_table, Holds}
-use Rattle.adr_sql.specs.Calls.{Runs}
-use Rattle.adr_sql.proofs.Keys.{are_full}
 use Rattle.adr_sql.proofs.References.{is_childless}
-use Rattle.adr_sql.proofs.Values.{AreValues}
-use Rattle.adr_sql.proofs.Upserts.{IsUpsertText}
-use Rattle.adr_sql.proofs.Removals.{IsRemoveText}
-use Rattle.adr_sql.proofs.Counts.{IsCountText}
-use Rattle.adr_sql.proofs.Joins.{IsSelectText}
-use Rattle.adr_sql.proofs.Selections.{whole_rows, equalities}
 use Rattle.adr_sql.proofs.KeyedMaps.{KeyedMap, key_width, entries_rise, entries_again, upsert_entry_runs, clear_runs, remove_entry_runs, read_entry_runs, read_all_runs, count_all_runs}
 use Rattle.adr_db.specs.Tables.{schema}
 use Rattle.adr_db.specs.Kept.{Kept, Keeps, AreMarks, contents_of}

@@ -1,15 +1,6 @@
 -- The tables that are maps.
 use Rattle.std.proofs.Common.{ℕ, map, refl, sym}
-use Rattle.std.specs.Ordering.{nat_cmp}
-use Rattle.sqlite_trees.proofs.ListLemmas.{map-map}
-use Rattle.adr_state.specs.declared.base.Mark.{Mark}
-use Rattle.adr_state.specs.declared.portfolio.Ven.{Ven}
-use Rattle.adr_state.specs.declared.portfolio.Resource.{Resource}
-use Rattle.adr_state.specs.declared.keys.MirrorKey.{MirrorKey}
-use Rattle.adr_state.specs.declared.keys.ShareKey.{ShareKey}
-use Rattle.adr_state.specs.Keys.{mirror_cmp, share_cmp}
-use Rattle.adr_sql.specs.Contents.{with_table}
-use Rattle.adr_sql.proofs.Maps.{keys_alone}
+use Rattle.adr_db.proofs.Common.{nat_cmp, map-map, Mark, Ven, Resource, MirrorKey, ShareKey, mirror_cmp, share_cmp, with_table, keys_alone}
 use Rattle.adr_db.specs.Rows.{mark_row, key_row, number_row, ven_row, ven_columns, resource_row, resource_columns, share_row, share_key_row}
 use Rattle.adr_db.specs.Kept.{contents_of}
 use Rattle.adr_db.proofs.Rows.{mirror_codec, polled_codec, number_codec, share_codec}

@@ -1,20 +1,6 @@
 -- The statements on the table `meta`.
 use Rattle.std.proofs.Common.{◌≡◌, ℕ, pos, List, [], ◌∷◌, codes, cond, drop, Ok, refl, ap, subst, Ordering}
-use Rattle.std.specs.Ordering.{match_ordering}
-use Rattle.sqlite_value.specs.declared.value.Value.TheVariants.{Null, Int}
-use Rattle.sqlite_value.specs.Order.{Row}
-use Rattle.sqlite_sql.specs.Term.{lit, col}
-use Rattle.sqlite_sql.specs.Query.{end}
-use Rattle.sqlite.specs.State.{State, Executes, Shown}
-use Rattle.sqlite.specs.Listing.{understood}
-use Rattle.sqlite_tied.specs.Compute.{everything}
-use Rattle.adr_sql.specs.Keys.{with_row}
-use Rattle.adr_sql.specs.Contents.{Contents, rows_of_table, with_table, Holds}
-use Rattle.adr_sql.proofs.Values.{AreValues}
-use Rattle.adr_sql.proofs.Upserts.{IsUpsertText, upsert_runs}
-use Rattle.adr_sql.proofs.Joins.{IsSelectText}
-use Rattle.adr_sql.proofs.Selections.{whole_rows, read_runs}
-use Rattle.adr_sql.proofs.Maps.{number_key}
+use Rattle.adr_db.proofs.Common.{match_ordering, Null, Int, Row, lit, col, end, State, Executes, Shown, understood, everything, with_row, Contents, rows_of_table, with_table, Holds, AreValues, IsUpsertText, upsert_runs, IsSelectText, whole_rows, read_runs, number_key}
 use Rattle.adr_db.specs.declared.meta.Meta.{Meta}
 use Rattle.adr_db.specs.declared.meta.TheConstants.{PUT, READ}
 use Rattle.adr_db.specs.Tables.{schema}

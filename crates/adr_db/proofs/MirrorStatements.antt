@@ -1,20 +1,6 @@
 -- The statements on the table `mirror`.
 use Rattle.std.proofs.Common.{ℕ, List, [], ◌∷◌, codes, refl, Ordering, Less, Equal, Greater}
-use Rattle.sqlite_value.specs.declared.value.Value.TheVariants.{Null, Text}
-use Rattle.std.specs.Ordering.{match_ordering}
-use Rattle.std.specs.BTreeMap.{insert_entry}
-use Rattle.sqlite_value.specs.Order.{Row}
-use Rattle.sqlite_sql.specs.Term.{lit, col}
-use Rattle.sqlite_sql.specs.Query.{end}
-use Rattle.sqlite.specs.Listing.{understood}
-use Rattle.sqlite_tied.specs.Compute.{everything}
-use Rattle.adr_state.specs.declared.base.Mark.{Mark}
-use Rattle.adr_state.specs.declared.keys.MirrorKey.{MirrorKey}
-use Rattle.adr_state.specs.Keys.{mirror_cmp}
-use Rattle.adr_sql.proofs.Values.{AreValues}
-use Rattle.adr_sql.proofs.Upserts.{IsUpsertText}
-use Rattle.adr_sql.proofs.Joins.{IsSelectText}
-use Rattle.adr_sql.proofs.Selections.{whole_rows}
+use Rattle.adr_db.proofs.Common.{Null, Text, match_ordering, insert_entry, Row, lit, col, end, understood, everything, Mark, MirrorKey, mirror_cmp, AreValues, IsUpsertText, IsSelectText, whole_rows}
 use Rattle.adr_db.specs.declared.mirror.TheConstants.{PUT, READ_ONE, READ_ALL}
 use Rattle.adr_db.specs.Tables.{schema}
 use Rattle.adr_db.specs.Rows.{number}

@@ -1,17 +1,7 @@
 -- The numbers of those that have a name.
 use Rattle.std.proofs.Common.{◌≡◌, ℕ, Bool, List, [], ◌∷◌, map, filter, Result, sym, ap, subst, ◌∙◌}
 use Rattle.std.specs.Prelude.{bytes_eq}
-use Rattle.std.specs.List.{AllZip}
-use Rattle.sqlite_value.specs.declared.value.Value.TheVariants.{Null, Text}
-use Rattle.sqlite_value.specs.Order.{Row, column}
-use Rattle.sqlite_trees.proofs.ListLemmas.{filter-map, map-map}
-use Rattle.sqlite_sql.specs.Query.{end}
-use Rattle.sqlite.specs.Store.{Ghosts}
-use Rattle.sqlite.specs.Held.{Held, state}
-use Rattle.adr_sql.specs.Keys.{cells}
-use Rattle.adr_sql.proofs.Joins.{IsSelectText}
-use Rattle.adr_sql.proofs.Selections.{first_columns, first_runs, passes}
-use Rattle.adr_sql.proofs.Maps.{is_text, text_passes}
+use Rattle.adr_db.proofs.Common.{AllZip, Null, Text, Row, column, filter-map, map-map, end, Ghosts, Held, state, cells, IsSelectText, first_columns, first_runs, passes, is_text, text_passes}
 use Rattle.adr_db.specs.Tables.{schema}
 use Rattle.adr_db.specs.Rows.{number, number_row}
 use Rattle.adr_db.specs.Kept.{contents_of, numbers_named}

@@ -1,10 +1,6 @@
 -- The polled keys, as the set that they make.
 use Rattle.std.proofs.Common.{◌≡◌, [], map, fold, sym, ap, ◌∙◌}
-use Rattle.std.specs.BTreeSet.{insert_key}
-use Rattle.sqlite.specs.State.{State}
-use Rattle.adr_state.specs.declared.keys.MirrorKey.{MirrorKey}
-use Rattle.adr_state.specs.Keys.{mirror_cmp}
-use Rattle.adr_sql.proofs.Maps.{insert_key_is, fold_keys, keys_back}
+use Rattle.adr_db.proofs.Common.{insert_key, State, MirrorKey, mirror_cmp, insert_key_is, fold_keys, keys_back}
 use Rattle.adr_db.specs.Kept.{Kept, Keeps, with_polled}
 use Rattle.adr_db.proofs.KeptMaps.{with_put, again}
 use Rattle.adr_db.proofs.Maps.{polled_map}

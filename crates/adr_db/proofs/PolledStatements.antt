@@ -1,16 +1,6 @@
 -- The statements on the table `polled`.
 use Rattle.std.proofs.Common.{[], ◌∷◌, codes, refl}
-use Rattle.sqlite_value.specs.declared.value.Value.TheVariants.{Null}
-use Rattle.sqlite_sql.specs.Term.{lit, col}
-use Rattle.sqlite_sql.specs.Query.{end}
-use Rattle.sqlite.specs.Listing.{understood}
-use Rattle.sqlite_tied.specs.Compute.{everything}
-use Rattle.adr_state.specs.declared.keys.MirrorKey.{MirrorKey}
-use Rattle.adr_sql.proofs.Values.{AreValues}
-use Rattle.adr_sql.proofs.Upserts.{IsUpsertText}
-use Rattle.adr_sql.proofs.Removals.{IsRemoveText}
-use Rattle.adr_sql.proofs.Joins.{IsSelectText}
-use Rattle.adr_sql.proofs.Selections.{whole_rows}
+use Rattle.adr_db.proofs.Common.{Null, lit, col, end, understood, everything, MirrorKey, AreValues, IsUpsertText, IsRemoveText, IsSelectText, whole_rows}
 use Rattle.adr_db.specs.declared.polled.TheConstants.{PUT, CLEAR, READ_ALL}
 use Rattle.adr_db.specs.Tables.{schema}
 use Rattle.adr_db.specs.Rows.{key_row}

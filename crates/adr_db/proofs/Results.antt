@@ -1,8 +1,7 @@
 -- Results that are handed on, and refusals that stand in their place.
 use Rattle.std.proofs.Common.{◌≡◌, Result, Ok, Err, IfOk, IfErr, OnOk, sym, subst}
 use Rattle.std.specs.Result.{IsErrAnd}
-use Rattle.adr_text.specs.declared.refusal.Refusal.{Refusal}
-use Rattle.adr_text.specs.Refusals.{IsRefusalOf}
+use Rattle.adr_db.proofs.Common.{Refusal, IsRefusalOf}
 
 pub ok_then : {T E : Type 0} {P Q : T → Type 0} (r : Result T E) → ((x : T) → P x → Q x) → IfOk r P → IfOk r Q
 ok_then (Ok x) f h = f x h

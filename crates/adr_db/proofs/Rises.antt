@@ -1,9 +1,6 @@
 -- The keys of what is kept rise, in each map.
 use Rattle.std.proofs.Common.{◌≡◌, Less}
-use Rattle.std.specs.Ordering.{nat_cmp}
-use Rattle.sqlite_trees.specs.Tree.{IsAscending}
-use Rattle.sqlite.specs.State.{State}
-use Rattle.adr_state.specs.Keys.{mirror_cmp, share_cmp}
+use Rattle.adr_db.proofs.Common.{nat_cmp, IsAscending, State, mirror_cmp, share_cmp}
 use Rattle.adr_db.specs.Kept.{Kept, Keeps}
 use Rattle.adr_db.proofs.KeptMaps.{rises}
 use Rattle.adr_db.proofs.Maps.{mirror_map, ven_map, resource_map, share_map}

@@ -1,25 +1,12 @@
 -- Keys and marks as rows, and back.
 use Rattle.std.proofs.Common.{◌≡◌, ◌<◌, ◌<ℤ◌, sym, ℕ, pos, arith, Bool, true, false, cond, List, [], ◌∷◌, refl, ap, ap₂, ◌∙◌, Ordering, Less, Equal, Greater}
-use Rattle.std.specs.Ordering.{int_cmp, nat_cmp, ordering_then, MatchOrdering}
+use Rattle.adr_db.proofs.Common.{int_cmp, nat_cmp, ordering_then, MatchOrdering, ranked, Int, Text, Row, column, Mark, Live, Dead, Ven, Resource, MirrorKey, ShareKey, Participant, kind_cmp, id_cmp, mirror_cmp, share_cmp, cells, key_order, number_key, text_number_key, number_text_key, text_same}
 use Rattle.std.specs.Cmp.{int_cmp_is}
-use Rattle.std.proofs.lemmas.Cmp.{ranked}
 use Rattle.std.proofs.lemmas.Int.{ints}
-use Rattle.sqlite_value.specs.declared.value.Value.TheVariants.{Int, Text}
 use Rattle.sqlite_value.specs.declared.value.Value.{Value}
-use Rattle.sqlite_value.specs.Order.{Row, column}
 use Rattle.adr_objects.specs.declared.kind.Kind.{Kind}
 use Rattle.adr_objects.specs.declared.kind.Kind.TheVariants.{Program, Event}
-use Rattle.adr_state.specs.declared.base.Mark.{Mark}
-use Rattle.adr_state.specs.declared.base.Mark.TheVariants.{Live, Dead}
-use Rattle.adr_state.specs.declared.portfolio.Ven.{Ven}
-use Rattle.adr_state.specs.declared.portfolio.Resource.{Resource}
-use Rattle.adr_state.specs.declared.keys.MirrorKey.{MirrorKey}
-use Rattle.adr_state.specs.declared.keys.ShareKey.{ShareKey}
-use Rattle.adr_state.specs.declared.participants.Participant.{Participant}
-use Rattle.adr_state.specs.Keys.{kind_cmp, id_cmp, mirror_cmp, share_cmp}
-use Rattle.adr_sql.specs.Keys.{cells, key_order}
 use Rattle.adr_sql.specs.Codecs.{IsCodec}
-use Rattle.adr_sql.proofs.Maps.{number_key, text_number_key, number_text_key, text_same}
 use Rattle.adr_db.specs.declared.meta.Meta.{Meta}
 use Rattle.adr_db.specs.Rows.{number, kind_number, meta_row, key_row, mark_columns, mark_row, number_row, ven_columns, resource_columns, share_key_row, share_row, participant_row}
 

@@ -1,17 +1,6 @@
 -- The statements on the table `share`.
 use Rattle.std.proofs.Common.{ℕ, List, [], ◌∷◌, codes, refl}
-use Rattle.sqlite_value.specs.declared.value.Value.TheVariants.{Null}
-use Rattle.sqlite_sql.specs.Term.{lit, col}
-use Rattle.sqlite_sql.specs.Query.{end}
-use Rattle.sqlite.specs.Listing.{understood}
-use Rattle.sqlite_tied.specs.Compute.{everything}
-use Rattle.adr_state.specs.declared.keys.ShareKey.{ShareKey}
-use Rattle.adr_sql.proofs.Values.{AreValues}
-use Rattle.adr_sql.proofs.Upserts.{IsUpsertText}
-use Rattle.adr_sql.proofs.Removals.{IsRemoveText}
-use Rattle.adr_sql.proofs.Counts.{IsCountText}
-use Rattle.adr_sql.proofs.Joins.{IsSelectText}
-use Rattle.adr_sql.proofs.Selections.{whole_rows, equalities}
+use Rattle.adr_db.proofs.Common.{Null, lit, col, end, understood, everything, ShareKey, AreValues, IsUpsertText, IsRemoveText, IsCountText, IsSelectText, whole_rows, equalities}
 use Rattle.adr_db.specs.declared.share.TheConstants.{PUT, REMOVE, READ_ONE, READ_ALL, COUNT}
 use Rattle.adr_db.specs.Tables.{schema}
 use Rattle.adr_db.specs.Rows.{share_row}

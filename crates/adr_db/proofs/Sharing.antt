@@ -1,30 +1,11 @@
 -- The join of the shares in a program with their resources and vens.
 use Rattle.std.proofs.Common.{◌≡◌, ◌≤◌, ℕ, pos, negsuc, Bool, true, false, ◌&&◌, cond, None, Some, Option, List, [], ◌∷◌, ◌++◌, codes, map, filter, flat_map, length, refl, sym, ap, ap₂, subst, ◌∙◌, arith, is_eq}
 use Rattle.std.specs.Prelude.{option_map, option_and_then, option_to_list}
-use Rattle.std.specs.List.{list_all, filter_map, cons_option}
-use Rattle.std.specs.Option.{option_map_or}
-use Rattle.std.specs.Ordering.{nat_cmp}
-use Rattle.sqlite_value.specs.declared.value.Value.TheVariants.{Null, Int, Text}
+use Rattle.adr_db.proofs.Common.{list_all, filter_map, cons_option, option_map_or, nat_cmp, Null, Int, Text, Row, value_cmp, value_cmp-Int, value_cmp-Text, flat_map-map, flat_map_none, all_of, all-map, Query, Join, inner, end, matches, Term, Env, lit, col, op2, holds, eval_all, State, Shown, understood, everything, Ven, Resource, ShareKey, Participant, at, and_true, equal_is, seen, IsSelectText, order_from, join_runs, named_is, selection}
 use Rattle.sqlite_value.specs.declared.keys.Collation.TheVariants.{Binary}
-use Rattle.sqlite_value.specs.Order.{Row, value_cmp}
-use Rattle.sqlite_value.proofs.OrderLemmas.{value_cmp-Int, value_cmp-Text}
-use Rattle.sqlite_trees.proofs.ListLemmas.{flat_map-map, flat_map_none, all_of, all-map}
 use Rattle.sqlite_sql.specs.declared.ops.BinaryOp.TheVariants.{Compare}
 use Rattle.sqlite_sql.specs.declared.ops.CompareOp.TheVariants.{Eq}
-use Rattle.sqlite_sql.specs.Query.{Query, Join, inner, end, matches}
-use Rattle.sqlite_sql.specs.Term.{Term, Env, lit, col, op2, holds, eval_all}
-use Rattle.sqlite.specs.State.{State, Shown}
-use Rattle.sqlite.specs.Listing.{understood}
-use Rattle.sqlite_tied.specs.Compute.{everything}
-use Rattle.adr_state.specs.declared.portfolio.Ven.{Ven}
-use Rattle.adr_state.specs.declared.portfolio.Resource.{Resource}
-use Rattle.adr_state.specs.declared.keys.ShareKey.{ShareKey}
-use Rattle.adr_state.specs.declared.participants.Participant.{Participant}
-use Rattle.adr_state.specs.Keys.{at}
-use Rattle.adr_sql.proofs.Keys.{and_true, equal_is}
-use Rattle.adr_sql.proofs.Places.{seen}
-use Rattle.adr_sql.proofs.Joins.{IsSelectText, order_from, with_row, join_runs, named_is}
-use Rattle.adr_sql.proofs.Selections.{selection}
+use Rattle.adr_sql.proofs.Joins.{with_row}
 use Rattle.adr_db.specs.declared.sharers.TheConstants.{READ_SHARERS}
 use Rattle.adr_db.specs.Tables.{schema}
 use Rattle.adr_db.specs.Rows.{number, ven_row, resource_row, share_row, participant_row}

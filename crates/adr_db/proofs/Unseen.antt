@@ -1,33 +1,14 @@
 -- The selection of the live keys that were not polled.
 use Rattle.std.proofs.Common.{◌≡◌, ℕ, ℤ, pos, negsuc, Bool, false, not, ◌&&◌, ◌||◌, None, Some, Option, List, [], ◌∷◌, codes, take, map, filter, refl, sym, ap, ap₂, ◌∙◌, is_eq}
-use Rattle.std.specs.List.{list_any}
-use Rattle.std.proofs.lemmas.List.{take-map}
-use Rattle.sqlite_value.specs.declared.value.Value.TheVariants.{Null, Int}
+use Rattle.adr_db.proofs.Common.{list_any, take-map, Null, Int, Row, column, value_cmp, value_cmp-Int, filter-map, map-map, Query, Join, inner, counted, end, lit, col, op1, op2, State, Shown, understood, everything, Mark, Live, Dead, MirrorKey, mirror_cmp, cells, has_key, key_order, and_true, equal_is, seen, IsSelectText, order_from, selection, is_found, select_runs, pairs_from, absent_key, is_live, probes}
 use Rattle.sqlite_value.specs.declared.keys.Collation.TheVariants.{Binary}
-use Rattle.sqlite_value.specs.Order.{Row, column, value_cmp}
-use Rattle.sqlite_value.proofs.OrderLemmas.{value_cmp-Int}
-use Rattle.sqlite_trees.proofs.ListLemmas.{filter-map, map-map}
 use Rattle.sqlite_sql.specs.declared.ops.BinaryOp.TheVariants.{Compare}
 use Rattle.sqlite_sql.specs.declared.ops.CompareOp.TheVariants.{Eq}
 use Rattle.sqlite_sql.specs.declared.ops.UnaryOp.TheVariants.{Not}
-use Rattle.sqlite_sql.specs.Query.{Query, Join, inner, counted, end}
-use Rattle.sqlite_sql.specs.Term.{lit, col, op1, op2}
-use Rattle.sqlite.specs.State.{State, Shown}
-use Rattle.sqlite.specs.Listing.{understood}
-use Rattle.sqlite_tied.specs.Compute.{everything}
-use Rattle.adr_state.specs.declared.base.Mark.{Mark}
-use Rattle.adr_state.specs.declared.base.Mark.TheVariants.{Live, Dead}
-use Rattle.adr_state.specs.declared.keys.MirrorKey.{MirrorKey}
-use Rattle.adr_state.specs.Keys.{mirror_cmp}
-use Rattle.adr_sql.specs.Keys.{cells, has_key, key_order}
-use Rattle.adr_sql.proofs.Keys.{and_true, equal_is}
-use Rattle.adr_sql.proofs.Places.{seen}
-use Rattle.adr_sql.proofs.Joins.{IsSelectText, order_from}
-use Rattle.adr_sql.proofs.Selections.{selection, is_found, select_runs, pairs_from, absent_key}
 use Rattle.adr_db.specs.declared.probes.TheConstants.{READ_UNSEEN}
 use Rattle.adr_db.specs.Tables.{schema}
 use Rattle.adr_db.specs.Rows.{number, key_row, mark_columns, mark_row}
-use Rattle.adr_state.specs.Scans.{is_live, has_key as is_polled, probes}
+use Rattle.adr_state.specs.Scans.{has_key as is_polled}
 use Rattle.adr_db.specs.Kept.{Kept, Keeps, contents_of, at_most, limit_number}
 use Rattle.adr_db.proofs.Tables.{mirror, mirror_keyed, polled}
 use Rattle.adr_db.proofs.Maps.{mirror_map}

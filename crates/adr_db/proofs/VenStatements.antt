@@ -1,18 +1,6 @@
 -- The statements on the table `ven`.
 use Rattle.std.proofs.Common.{ℕ, List, [], ◌∷◌, codes, refl}
-use Rattle.sqlite_value.specs.declared.value.Value.TheVariants.{Null}
-use Rattle.sqlite_sql.specs.Term.{lit, col}
-use Rattle.sqlite_sql.specs.Query.{end}
-use Rattle.sqlite.specs.Listing.{understood}
-use Rattle.sqlite_tied.specs.Compute.{everything}
-use Rattle.adr_state.specs.declared.portfolio.Ven.{Ven}
-use Rattle.adr_sql.proofs.Values.{AreValues}
-use Rattle.adr_sql.proofs.Upserts.{IsUpsertText}
-use Rattle.adr_sql.proofs.Removals.{IsRemoveText}
-use Rattle.adr_sql.proofs.Counts.{IsCountText}
-use Rattle.adr_sql.proofs.Joins.{IsSelectText}
-use Rattle.adr_sql.proofs.Selections.{first_columns, whole_rows, equalities}
-use Rattle.adr_sql.proofs.Maps.{is_text}
+use Rattle.adr_db.proofs.Common.{Null, lit, col, end, understood, everything, Ven, AreValues, IsUpsertText, IsRemoveText, IsCountText, IsSelectText, first_columns, whole_rows, equalities, is_text}
 use Rattle.adr_db.specs.declared.ven.TheConstants.{PUT, REMOVE, READ_ONE, READ_ALL, READ_NAMED, COUNT}
 use Rattle.adr_db.specs.Tables.{schema}
 use Rattle.adr_db.specs.Rows.{ven_row}

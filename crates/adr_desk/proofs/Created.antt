@@ -1,13 +1,6 @@
 -- The tables are made on a lent transaction, and then committed.
 use Rattle.std.proofs.Common.{◌≡◌, true, [], Ok, Result, refl, sym, subst}
-use Rattle.sqlite.specs.Store.{Ghosts}
-use Rattle.sqlite.specs.Held.{Held, state}
-use Rattle.sqlite.specs.State.{HasCleanDisk}
-use Rattle.adr_text.specs.declared.refusal.Refusal.{Refusal}
-use Rattle.adr_sql.specs.Contents.{Holds, StoresEach}
-use Rattle.adr_sql.specs.Schemas.{no_schema}
-use Rattle.adr_sql.specs.Calls.{Stays, Commits}
-use Rattle.adr_sql.proofs.Transactions.{holds_now}
+use Rattle.adr_db.proofs.Common.{Ghosts, Held, state, HasCleanDisk, Refusal, Holds, StoresEach, no_schema, Stays, Commits, holds_now}
 use Rattle.adr_db.specs.Tables.{schema}
 use Rattle.adr_db.specs.Kept.{Keeps, nothing_kept, contents_of}
 use Rattle.adr_desk.specs.Transactions.{Ends}

@@ -1,31 +1,21 @@
 -- What the layers below carry out is what the command decides.
 use Rattle.std.proofs.Common.{◌≡◌, ◌⊎◌, inl, inr, ℕ, ◌+◌, List, Option, Some, None, Result, Ok, Err, IfErr, refl, sym, ap, subst, ◌∙◌}
 use Rattle.std.proofs.lemmas.Result.{IfErr-weaker}
-use Rattle.sqlite.specs.Store.{Ghosts}
-use Rattle.sqlite.specs.Held.{Held, state}
-use Rattle.adr_text.specs.Refusals.{◌>>=◌, IsRefusalOf}
-use Rattle.adr_text.specs.declared.refusal.Refusal.{Refusal}
-use Rattle.adr_text.specs.declared.refusal.Refusal.TheVariants.{OutOfMemory, Store}
-use Rattle.adr_state.specs.declared.base.Base.{Base}
+use Rattle.adr_db.proofs.Common.{Ghosts, Held, state, IsRefusalOf, Refusal, OutOfMemory, Store, Base, PortfolioChange, BaseChange, JoinMarks, SetScan, ChangePortfolio, changed, MirrorKey, scan_begin, scan_end, Limits, State}
+use Rattle.adr_text.specs.Refusals.{◌>>=◌}
 use Rattle.adr_state.specs.declared.portfolio.Portfolio.{Portfolio}
-use Rattle.adr_state.specs.Portfolios.{PortfolioChange}
-use Rattle.adr_state.specs.BaseChanges.{BaseChange, JoinMarks, SetScan, ChangePortfolio, changed}
 use Rattle.adr_db.specs.declared.meta.Meta.{Meta}
 use Rattle.adr_db.specs.Bases.{meta_of, kept_beside, HoldsBeside}
 use Rattle.adr_db.specs.BaseCalls.{Carries, Makes, Refuses, RefusesOn}
 use Rattle.adr_db.specs.Calls.{IsOfStore}
 use Rattle.adr_machine.specs.declared.answer.Answer.{Answer}
-use Rattle.adr_state.specs.declared.keys.MirrorKey.{MirrorKey}
-use Rattle.adr_state.specs.Evidence.{scan_begin, scan_end}
 use Rattle.adr_mirror.specs.Missed.{closing}
 use Rattle.adr_mirror.specs.Raises.{HaveRisen}
 use Rattle.adr_portfolio.proofs.Decisions.{refused_so}
 use Rattle.adr_machine.specs.declared.answer.Answer.TheVariants as answer
-use Rattle.adr_state.specs.declared.limits.Limits.{Limits}
 use Rattle.adr_state.specs.Serials.{drawn}
 use Rattle.adr_machine.specs.Edits.{draws_number, Decision, counted, answered, of_portfolio, decided, told_by, numbered, edit_of}
 use Rattle.adr_machine.specs.declared.command.Command.{Command}
-use Rattle.sqlite.specs.State.{State}
 use Rattle.adr_db.specs.Kept.{Kept, Keeps, with_meta}
 use Rattle.adr_desk.specs.declared.edit.Edit.TheVariants as edit
 use Rattle.adr_desk.specs.declared.edit.Edit.{Edit}

@@ -1,12 +1,6 @@
 -- A command on a lent transaction, and then its commit.
 use Rattle.std.proofs.Common.{◌≡◌, ℕ, true, Ok, Result, Option, arith, refl, subst}
-use Rattle.sqlite.specs.Store.{Ghosts}
-use Rattle.sqlite.specs.Held.{Held, state}
-use Rattle.sqlite.specs.State.{HasCleanDisk}
-use Rattle.adr_text.specs.declared.refusal.Refusal.{Refusal}
-use Rattle.adr_state.specs.declared.base.Base.{Base}
-use Rattle.adr_state.specs.declared.limits.Limits.{Limits}
-use Rattle.adr_sql.specs.Calls.{Stays, Commits}
+use Rattle.adr_db.proofs.Common.{Ghosts, Held, state, HasCleanDisk, Refusal, Base, Limits, Stays, Commits}
 use Rattle.adr_db.specs.Bases.{HoldsBase}
 use Rattle.adr_db.proofs.Results.{on_then}
 use Rattle.adr_machine.specs.declared.command.Command.{Command}

@@ -1,12 +1,7 @@
 -- What is kept of a base, as a state.
 use Rattle.std.proofs.Common.{◌≡◌, List, [], Option, None, Some, cond, refl, ap}
 use Rattle.std.specs.Prelude.{is_some}
-use Rattle.sqlite.specs.State.{State}
-use Rattle.sqlite.specs.Steps.{IsEmpty}
-use Rattle.adr_state.specs.declared.base.Base.{Base}
-use Rattle.adr_state.specs.declared.keys.MirrorKey.{MirrorKey}
-use Rattle.adr_sql.specs.Contents.{Holds}
-use Rattle.adr_sql.specs.Schemas.{no_schema}
+use Rattle.adr_db.proofs.Common.{State, IsEmpty, Base, MirrorKey, Holds, no_schema}
 use Rattle.adr_db.specs.Bases.{keys_polled, kept_of}
 use Rattle.adr_desk.specs.Images.{image_kept, image_of}
 

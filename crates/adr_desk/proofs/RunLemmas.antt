@@ -1,11 +1,8 @@
 -- One command more of a run over the tables.
 use Rattle.std.proofs.Common.{◌≡◌, ℕ, true, false, Option, List, [], ◌∷◌, ◌++◌, length, map, filter, Result, Ok, Err, IfOk, IfErr, OnErr, append-nil, refl, sym, ap, ap₂, subst, ◌∙◌}
-use Rattle.std.proofs.lemmas.List.{map-append}
+use Rattle.adr_db.proofs.Common.{map-append, IsRefusalOf, Refusal, OutOfMemory, Store, Base}
 use Rattle.sqlite.specs.State as sql
-use Rattle.adr_text.specs.Refusals.{◌>>=◌, IsRefusalOf}
-use Rattle.adr_text.specs.declared.refusal.Refusal.{Refusal}
-use Rattle.adr_text.specs.declared.refusal.Refusal.TheVariants.{OutOfMemory, Store}
-use Rattle.adr_state.specs.declared.base.Base.{Base}
+use Rattle.adr_text.specs.Refusals.{◌>>=◌}
 use Rattle.adr_state.specs.declared.limits.Settings.{Settings}
 use Rattle.adr_state.specs.declared.state.State.{State}
 use Rattle.adr_state.specs.States.{empty}

@@ -1,14 +1,7 @@
 -- A transaction from its begin to its commit.
 use Rattle.std.proofs.Common.{◌≡◌, true, Ok, Err, Result, IfOk, OnOk, Option}
-use Rattle.sqlite_trees.specs.Tree.{Trees}
-use Rattle.sqlite.specs.Store.{Ghosts}
-use Rattle.sqlite.specs.Held.{Held, state}
-use Rattle.sqlite.specs.State.{State, HasCleanDisk}
-use Rattle.adr_text.specs.declared.refusal.Refusal.{Refusal}
-use Rattle.adr_state.specs.declared.base.Base.{Base}
-use Rattle.adr_sql.specs.Calls.{Stays, Commits}
+use Rattle.adr_db.proofs.Common.{Trees, Ghosts, Held, state, State, HasCleanDisk, Refusal, Base, Stays, Commits, holds_now}
 use Rattle.adr_sql.proofs.Commits.{committed}
-use Rattle.adr_sql.proofs.Transactions.{holds_now}
 use Rattle.adr_db.specs.Tables.{schema}
 use Rattle.adr_db.specs.Kept.{contents_of}
 use Rattle.adr_db.specs.Bases.{kept_of, HoldsBase}

@@ -2,13 +2,9 @@
 use Rattle.std.proofs.Common.{◌≡◌, ℕ, ◌+◌, Bool, true, false, cond, ◌==◌, List, [], ◌∷◌, Option, Some, None, Result, Ok, Err, IfOk, refl, ap, subst}
 use Rattle.std.specs.Prelude.{nat_lt, nat_le, is_some, IsSome, IfSome, option_map, option_and_then}
 use Rattle.std.specs.Option.{option_map_or}
-use Rattle.std.specs.Ordering.{nat_cmp}
-use Rattle.std.specs.Cmp.{unsigned_Decides}
-use Rattle.std.proofs.lemmas.Bool.{cond_both}
+use Rattle.adr_laws.proofs.Common.{nat_cmp, unsigned_Decides, cond_both, Refusal, Base, at, ven_name, resource_name, is_taken, is_taken_by_another, is_full, BaseChange, JoinMarks, ChangePortfolio, changed, Command, Settings, State, step_at}
 use Rattle.adr_text.specs.Refusals.{◌>>=◌}
-use Rattle.adr_text.specs.declared.refusal.Refusal.{Refusal}
 use Rattle.adr_text.specs.declared.refusal.Refusal.TheVariants as refusal
-use Rattle.adr_state.specs.declared.base.Base.{Base}
 use Rattle.adr_state.specs.declared.base.Mark.{Mark}
 use Rattle.adr_state.specs.declared.base.Mark.TheVariants.{Dead}
 use Rattle.adr_state.specs.declared.portfolio.Portfolio.{Portfolio}
@@ -16,27 +12,20 @@ use Rattle.adr_state.specs.declared.portfolio.Resource.{Resource}
 use Rattle.adr_state.specs.declared.keys.MirrorKey.{MirrorKey}
 use Rattle.adr_state.specs.declared.keys.ShareKey.{ShareKey}
 use Rattle.adr_state.specs.declared.limits.Limits.{Limits}
-use Rattle.adr_state.specs.Keys.{at}
 use Rattle.adr_state.specs.Digits.{number_in}
 use Rattle.adr_state.specs.Mirror.{evidence_of, joined}
 use Rattle.adr_state.specs.Weights.{most_weight}
-use Rattle.adr_state.specs.Names.{ven_name, resource_name, is_taken, is_taken_by_another, is_full}
 use Rattle.adr_state.specs.Stamping.{fresh, modified_at}
 use Rattle.adr_state.specs.Portfolios.{PortfolioChange, PutVen, PutResource, PutShare, DropShare}
-use Rattle.adr_state.specs.BaseChanges.{BaseChange, JoinMarks, ChangePortfolio, changed}
 use Rattle.adr_state.specs.Evidence.{adds_beyond, joining, scan_with, open_scan, scan_end}
 use Rattle.adr_state.specs.Vens.{ven_with_id, ven_at, putting_ven}
 use Rattle.adr_state.specs.Resources.{resource_with_id, resource_at, is_under, resource_under, putting_resource}
 use Rattle.adr_state.specs.Shares.{is_beyond, weight_set, share_of}
 use Rattle.adr_machine.specs.declared.answer.Answer.{Answer}
-use Rattle.adr_machine.specs.declared.command.Command.{Command}
 use Rattle.adr_machine.specs.declared.command.Command.TheVariants.{Evidence, Gone, ScanBegin, ScanEnd, VenAdd, VenPut, VenRemove, ResourceAdd, ResourcePut, ResourceRemove, ShareSet}
 use Rattle.adr_state.specs.Serials.{drawn}
-use Rattle.adr_state.specs.declared.limits.Settings.{Settings}
-use Rattle.adr_state.specs.declared.state.State.{State}
 use Rattle.adr_machine.specs.Edits.{Decision, is_allowed, counted, of_portfolio, draws_number, decided, numbered, edit_of, edit}
 use Rattle.adr_machine.specs.Steps.{committed}
-use Rattle.adr_machine.specs.Runs.{step_at}
 use Rattle.adr_laws.specs.Laws.{HasVen, HasResource, evidence_in}
 use Rattle.adr_laws.proofs.EditLemmas.{tested, first_then, found_then, new_then, free_then, whatever}
 use Rattle.adr_laws.proofs.NameLemmas.{Free, free_new, free_again}

@@ -2,8 +2,7 @@
 use Rattle.std.proofs.Common.{◌≡◌, Bool, true, false, cond, Option, Some, None, Result, Ok, Err, IfOk, refl}
 use Rattle.std.specs.Prelude.{IfSome}
 use Rattle.adr_text.specs.Refusals.{◌>>=◌, or_else}
-use Rattle.adr_text.specs.declared.refusal.Refusal.{Refusal}
-use Rattle.adr_state.specs.Names.{if_new, if_free}
+use Rattle.adr_laws.proofs.Common.{Refusal, if_new, if_free}
 
 module _ {A : Type 0} (P : A → Type 0) where
   -- behind a test that refuses

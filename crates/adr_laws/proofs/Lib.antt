@@ -1,3 +1,4 @@
+pub mod Common
 pub mod RowLemmas
 pub mod OrderLemmas
 pub mod NameLemmas

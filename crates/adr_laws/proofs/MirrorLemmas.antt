@@ -1,20 +1,12 @@
 -- The mirror after a run is the join of all accepted evidence.
 use Rattle.std.proofs.Common.{◌≡◌, ℕ, ◌⊎◌, inl, inr, List, [], ◌∷◌, Some, None, refl, sym, ap, ◌∙◌}
-use Rattle.std.specs.List.{Contains}
+use Rattle.adr_laws.proofs.Common.{Contains, Base, Settings, State, mirror_cmp, at, BaseChange, JoinMarks, SetScan, ChangePortfolio, changed, empty, Command, state_after, step_at}
 use Rattle.std.proofs.lemmas.List.Sums.{fold-append}
-use Rattle.adr_state.specs.declared.base.Base.{Base}
 use Rattle.adr_state.specs.declared.base.Mark.{Mark}
-use Rattle.adr_state.specs.declared.limits.Settings.{Settings}
-use Rattle.adr_state.specs.declared.state.State.{State}
-use Rattle.adr_state.specs.Keys.{mirror_cmp, at}
 use Rattle.adr_state.specs.Marks.{is_below}
 use Rattle.adr_state.specs.Mirror.{raised, joined}
-use Rattle.adr_state.specs.BaseChanges.{BaseChange, JoinMarks, SetScan, ChangePortfolio, changed}
 use Rattle.adr_state.specs.Laws.{IsJoined}
 use Rattle.adr_state.proofs.LawLemmas.{joins_greatest}
-use Rattle.adr_state.specs.States.{empty}
-use Rattle.adr_machine.specs.declared.command.Command.{Command}
-use Rattle.adr_machine.specs.Runs.{state_after, step_at}
 use Rattle.adr_laws.specs.Standing.{state_of}
 use Rattle.adr_laws.specs.Laws.{accepted_in, accepted_evidence, MirrorIsGreatest}
 use Rattle.adr_laws.proofs.Decisions.{marks_in, after_step}

@@ -1,9 +1,7 @@
 -- A name that no other row has.
 use Rattle.std.proofs.Common.{◌≡◌, ℕ, Bool, true, false, not, ◌==◌, ◌&&◌, List, inl, inr, refl, sym, ap, ◌∙◌}
-use Rattle.std.specs.List.{Contains, list_any}
+use Rattle.adr_laws.proofs.Common.{Contains, list_any, unsigned_Decides, both_ways, not-false, and_cases, false_from_ne_true}
 use Rattle.std.specs.Str.{bytes_eq}
-use Rattle.std.specs.Cmp.{unsigned_Decides}
-use Rattle.std.proofs.lemmas.Bool.{both_ways, not-false, and_cases, false_from_ne_true}
 use Rattle.std.proofs.lemmas.List.Recursion.{or_at}
 use Rattle.std.proofs.lemmas.Slice.Eq.{bytes_eq-Decides}
 

@@ -1,21 +1,10 @@
 -- The numbers and the names of vens and of resources: each row has its own after a put, and where only some are left.
 use Rattle.std.proofs.Common.{◌≡◌, ℕ, ◌+◌, ◌≤◌, Bool, true, false, List, [], ◌∷◌, ◌++◌, ◌⊎◌, inl, inr, Less, sym, ap, subst, ◌∙◌, arith}
 use Rattle.std.specs.Prelude.{◌≢◌, IsSome}
-use Rattle.std.specs.List.{All, AllPairs, Contains}
-use Rattle.std.specs.List.Sorted.{IsStrictlySortedBy}
-use Rattle.std.specs.Ordering.{nat_cmp}
-use Rattle.std.specs.Map.{keys_of}
-use Rattle.std.specs.BTreeMap.{insert_entry}
-use Rattle.std.specs.Cmp.{unsigned_Decides, unsigned_tied}
+use Rattle.adr_laws.proofs.Common.{All, AllPairs, Contains, IsStrictlySortedBy, nat_cmp, keys_of, insert_entry, unsigned_Decides, unsigned_tied, nat_cmp_total, ranked, All-head, All-tail, All-weaker, All-append, All-map, All-contains, All-contains_itself, sorted_tail, IsDistinct-from_sorted, exact_unsigned, All-after_first, at}
 use Rattle.std.proofs.lemmas.Bool.Decides.{Decides-at}
-use Rattle.std.proofs.lemmas.Cmp.{nat_cmp_total, ranked}
-use Rattle.std.proofs.lemmas.List.Elements.{All-head, All-tail, All-weaker, All-append, All-map, All-contains, All-contains_itself}
 use Rattle.std.proofs.lemmas.List.Kept.{AllPairs-cons}
-use Rattle.std.proofs.lemmas.Map.Keys.{sorted_tail, IsDistinct-from_sorted}
-use Rattle.std.proofs.lemmas.Map.Lookups.{exact_unsigned}
 use Rattle.std.proofs.lemmas.Map.Made.{AllPairs-from_IsDistinct}
-use Rattle.std.proofs.lemmas.Map.Views.{All-after_first}
-use Rattle.adr_state.specs.Keys.{at}
 use Rattle.adr_laws.proofs.OrderLemmas.{InOrder, none_sorted, each_row, in_order_put}
 use Rattle.adr_laws.proofs.RowLemmas.{each_there, from_put, row_found}
 use Rattle.adr_laws.proofs.NameLemmas.{Free}

@@ -1,16 +1,7 @@
 -- Rows whose keys stand in order, each once: after a put, a removal and a filter, and put one after another.
 use Rattle.std.proofs.Common.{◌≡◌, Bool, true, false, cond, List, [], ◌∷◌, filter, Ordering, Less, Equal, Greater, refl, ap, subst, ◌∙◌, arith}
-use Rattle.std.specs.List.{All, AllByRecursion}
-use Rattle.std.specs.List.Sorted.{IsStrictlySortedBy}
-use Rattle.std.specs.Ordering.{ordering_reverse, match_ordering}
-use Rattle.std.specs.Cmp.{IsTotalOrder}
-use Rattle.std.specs.Map.{keys_of, remove_entry}
-use Rattle.std.specs.BTreeMap.{insert_entry}
-use Rattle.std.proofs.lemmas.List.{get_or-map}
-use Rattle.std.proofs.lemmas.List.Elements.{All-from_recursion, recursion_from_All, All-weaker, All-map, All-filter}
+use Rattle.adr_laws.proofs.Common.{All, AllByRecursion, IsStrictlySortedBy, ordering_reverse, match_ordering, IsTotalOrder, keys_of, remove_entry, insert_entry, get_or-map, All-from_recursion, recursion_from_All, All-weaker, All-map, All-filter, All-keys-insert_entry, All-map-remove_entry, with_rows, map_of}
 use Rattle.std.proofs.lemmas.Map.Entries.{length-keys_of}
-use Rattle.std.proofs.lemmas.Map.Views.{All-keys-insert_entry, All-map-remove_entry}
-use Rattle.adr_state.specs.Keys.{with_rows, map_of}
 
 -- the keys of rows stand in order, each once
 abbrev pub InOrder : {K X : Type 0} → (K → K → Ordering) → List (K × X) → Type 0

@@ -1,29 +1,14 @@
 -- After every step each resource has its ven and each share its resource, no two vens have one name, and no two resources; and each has a number of its own, that is drawn once.
 use Rattle.std.proofs.Common.{◌≡◌, ℕ, ◌+◌, ◌≤◌, Bool, true, false, not, ◌==◌, List, Option, Some, None, inl, inr, sym, subst, arith, refl}
 use Rattle.std.specs.Prelude.{IsSome}
-use Rattle.std.specs.List.{All, Contains}
+use Rattle.adr_laws.proofs.Common.{All, Contains, nat_cmp, keys_of, is_at, nat_cmp_total, eq_by_cmp_equiv, IsDistinct-from_sorted, CmpEqualImpliesEq, exact_unsigned, exact_bytes, exact_pairs, Base, Settings, State, id_cmp, share_cmp, at, empty, ven_name, resource_name, BaseChange, JoinMarks, SetScan, ChangePortfolio, changed, Command, state_after, step_at}
 use Rattle.std.specs.Option.{option_map_or}
-use Rattle.std.specs.Ordering.{nat_cmp}
-use Rattle.std.specs.Map.{keys_of}
-use Rattle.std.specs.BTreeMap.{is_at}
-use Rattle.std.proofs.lemmas.Cmp.{nat_cmp_total, eq_by_cmp_equiv}
 use Rattle.std.proofs.lemmas.Map.Entries.{option_filter, lookup-filter-values}
-use Rattle.std.proofs.lemmas.Map.Keys.{IsDistinct-from_sorted}
-use Rattle.std.proofs.lemmas.Map.Lookups.{CmpEqualImpliesEq, exact_unsigned, exact_bytes, exact_pairs}
-use Rattle.adr_state.specs.declared.base.Base.{Base}
 use Rattle.adr_state.specs.declared.portfolio.Portfolio.{Portfolio}
 use Rattle.adr_state.specs.declared.portfolio.Resource.{Resource}
 use Rattle.adr_state.specs.declared.keys.ShareKey.{ShareKey}
-use Rattle.adr_state.specs.declared.limits.Settings.{Settings}
-use Rattle.adr_state.specs.declared.state.State.{State}
-use Rattle.adr_state.specs.Keys.{id_cmp, share_cmp, at}
-use Rattle.adr_state.specs.States.{empty}
-use Rattle.adr_state.specs.Names.{ven_name, resource_name}
 use Rattle.adr_state.specs.Portfolios.{is_of_ven, PortfolioChange, PutVen, DropVen, PutResource, DropResource, PutShare, DropShare, portfolio_after}
-use Rattle.adr_state.specs.BaseChanges.{BaseChange, JoinMarks, SetScan, ChangePortfolio, changed}
-use Rattle.adr_machine.specs.declared.command.Command.{Command}
 use Rattle.adr_machine.specs.Edits.{draws_number}
-use Rattle.adr_machine.specs.Runs.{state_after, step_at}
 use Rattle.adr_laws.specs.Standing.{state_of}
 use Rattle.adr_laws.specs.Laws.{HasVen, HasResource, NamesDiffer, PortfolioIsWhole, AreDrawnOnce, NumbersAreOwn, NumbersAreDrawnOnce}
 use Rattle.adr_laws.proofs.Decisions.{FitsPortfolio, FitsBase, after_step}

@@ -1,20 +1,8 @@
 -- Rows of a map after a put, a removal and a filter: which of them are there, and which keys are found.
 use Rattle.std.proofs.Common.{◌≡◌, ℕ, Bool, true, false, not, ◌==◌, List, [], ◌∷◌, map, filter, Some, None, Ordering, Less, Equal, Greater, ◌⊎◌, inl, inr, refl, sym, subst, ◌∙◌}
 use Rattle.std.specs.Prelude.{IsSome}
-use Rattle.std.specs.List.{All, Contains}
-use Rattle.std.specs.Ordering.{nat_cmp, is_eq, match_ordering}
-use Rattle.std.specs.Map.{keys_of, remove_entry}
-use Rattle.std.specs.BTreeMap.{is_at, insert_entry}
-use Rattle.std.specs.Cmp.{unsigned_tied}
-use Rattle.std.proofs.lemmas.Bool.{false≢true, not-true, cond_both, cond-false}
-use Rattle.std.proofs.lemmas.Cmp.{nat_cmp_total, nat_eq_equiv, eq_by_cmp_equiv}
-use Rattle.std.proofs.lemmas.List.{map-id}
-use Rattle.std.proofs.lemmas.List.Elements.{All-cons, All-head, All-tail, All-weaker, All-contains, All-contains_itself, All-filter, filter_passes}
+use Rattle.adr_laws.proofs.Common.{All, Contains, nat_cmp, is_eq, match_ordering, keys_of, remove_entry, is_at, insert_entry, unsigned_tied, false≢true, not-true, cond_both, cond-false, nat_cmp_total, nat_eq_equiv, eq_by_cmp_equiv, map-id, All-cons, All-head, All-tail, All-weaker, All-contains, All-contains_itself, All-filter, filter_passes, IsDistinct-from_sorted, CmpEqualImpliesEq, exact_unsigned, All-map-remove_entry, Contains-from_lookup, tells_apart, at}
 use Rattle.std.proofs.lemmas.Map.{lookup-remove_entry}
-use Rattle.std.proofs.lemmas.Map.Keys.{IsDistinct-from_sorted}
-use Rattle.std.proofs.lemmas.Map.Lookups.{CmpEqualImpliesEq, exact_unsigned}
-use Rattle.std.proofs.lemmas.Map.Views.{All-map-remove_entry, Contains-from_lookup, tells_apart}
-use Rattle.adr_state.specs.Keys.{at}
 use Rattle.adr_state.proofs.LawLemmas.{at-insert_entry}
 use Rattle.adr_laws.proofs.OrderLemmas.{InOrder}
 

@@ -1,11 +1,7 @@
 -- The commands whose answers stand, and where they lead.
 use Rattle.std.proofs.Common.{◌≡◌, Bool, true, false, cond, List, [], ◌∷◌, ◌++◌, length, map, filter, Result, refl, ap, ap₂, ◌∙◌, arith}
 use Rattle.std.specs.Prelude.{MatchBool}
-use Rattle.std.specs.List.{zip}
-use Rattle.std.proofs.lemmas.List.{map-append}
-use Rattle.std.proofs.lemmas.List.Elements.{filter-append}
-use Rattle.adr_text.specs.declared.refusal.Refusal.{Refusal}
-use Rattle.adr_machine.specs.Runs.{told, state_after, stands, step_at, IsTaken, IsRun}
+use Rattle.adr_laws.proofs.Common.{zip, map-append, filter-append, Refusal, told, state_after, stands, step_at, IsTaken, IsRun}
 use Rattle.adr_laws.specs.Standing.{answers_of, state_of, standing}
 use Rattle.adr_laws.specs.Laws.{IsOfTheStepsThatStand, RunsAreOfTheStepsThatStand}
 

@@ -1,27 +1,14 @@
 -- After every step the stamps are of what is shown, and none was modified before it was created.
 use Rattle.std.proofs.Common.{◌≡◌, ℕ, suc, ◌≤◌, Bool, true, false, cond, List, [], ◌∷◌, map, Option, Some, None, refl, sym, ap, subst, ◌∙◌, arith}
 use Rattle.std.specs.Prelude.{IfSome}
-use Rattle.std.specs.List.{All, AllByRecursion, flat_map}
-use Rattle.std.specs.List.Sorted.{IsStrictlySortedBy, IsNonDecreasing}
-use Rattle.std.specs.Map.{keys_of, values_of}
-use Rattle.std.specs.BTreeMap.{is_at}
-use Rattle.std.specs.Cmp.{IsTotalOrder}
-use Rattle.std.proofs.lemmas.List.Elements.{All-nil, All-head, All-weaker, All-from_get_or, All-from_recursion}
-use Rattle.std.proofs.lemmas.Map.Views.{IfSome-lookup_from_All}
+use Rattle.adr_laws.proofs.Common.{All, AllByRecursion, flat_map, IsStrictlySortedBy, IsNonDecreasing, keys_of, values_of, is_at, IsTotalOrder, All-nil, All-head, All-weaker, All-from_get_or, All-from_recursion, IfSome-lookup_from_All, Base, Settings, State, view_cmp, at, empty, Command, state_after, step_at}
 use Rattle.adr_objects.specs.declared.shown.Stamps.{Stamps}
 use Rattle.adr_state.specs.contracts.keys.ViewKeyOrd.TheImpl.Laws.{total-law}
-use Rattle.adr_state.specs.declared.base.Base.{Base}
 use Rattle.adr_state.specs.declared.keys.ViewKey.{ViewKey}
 use Rattle.adr_view.specs.declared.view.Content.{Content}
-use Rattle.adr_state.specs.declared.limits.Settings.{Settings}
-use Rattle.adr_state.specs.declared.state.State.{State}
-use Rattle.adr_state.specs.Keys.{view_cmp, at}
 use Rattle.adr_view.specs.Changes.{is_same_content, stamps_by, stamps_for, restamped}
-use Rattle.adr_state.specs.States.{empty}
 use Rattle.adr_view.specs.Views.{mark_rows, view}
 use Rattle.adr_state.proofs.KeyLemmas.{view_order}
-use Rattle.adr_machine.specs.declared.command.Command.{Command}
-use Rattle.adr_machine.specs.Runs.{state_after, step_at}
 use Rattle.adr_laws.specs.Standing.{state_of}
 use Rattle.adr_laws.specs.Laws.{StampsAreOfTheView, StampsAreInTime}
 use Rattle.adr_laws.proofs.Decisions.{after_step}

@@ -1,25 +1,12 @@
 -- From what is kept to the base that it is kept of.
 use Rattle.std.proofs.Common.{◌≡◌, Bool, true, false, cond, ◌&&◌, ◌+◌, List, [], ◌++◌, ◌∷◌, length, ℕ, Option, Some, None, Result, Ok, Err, refl, sym, ap, ap₂, subst, ◌∙◌, arith}
 use Rattle.std.specs.Prelude.{is_some, nat_lt}
-use Rattle.std.specs.BTreeMap.{insert_entry}
-use Rattle.std.specs.BTreeSet.{insert_key}
+use Rattle.adr_db.proofs.Common.{insert_entry, insert_key, State, IsRefusalOf, Refusal, OutOfMemory, Store, LimitReached, NoScan, Base, Mark, MirrorKey, Limits, mirror_cmp, at, key_of, joined, keys_found, probes, BaseChange, JoinMarks, SetScan, joining, scan_with, open_scan, scan_end}
 use Rattle.std.proofs.lemmas.Bool.Decides.{nat_tests}
 use Rattle.std.proofs.lemmas.List.Sums.{fold-append}
-use Rattle.sqlite.specs.State.{State}
-use Rattle.adr_text.specs.Refusals.{◌>>=◌, IsRefusalOf}
-use Rattle.adr_text.specs.declared.refusal.Refusal.{Refusal}
-use Rattle.adr_text.specs.declared.refusal.Refusal.TheVariants.{OutOfMemory, Store, LimitReached, NoScan}
+use Rattle.adr_text.specs.Refusals.{◌>>=◌}
 use Rattle.adr_objects.specs.declared.body.Found.{Found}
-use Rattle.adr_state.specs.declared.base.Base.{Base}
-use Rattle.adr_state.specs.declared.base.Mark.{Mark}
-use Rattle.adr_state.specs.declared.keys.MirrorKey.{MirrorKey}
-use Rattle.adr_state.specs.declared.limits.Limits.{Limits}
-use Rattle.adr_state.specs.Keys.{mirror_cmp, at}
 use Rattle.adr_state.specs.Marks.{is_below}
-use Rattle.adr_state.specs.Mirror.{key_of, joined}
-use Rattle.adr_state.specs.Scans.{keys_found, probes}
-use Rattle.adr_state.specs.BaseChanges.{BaseChange, JoinMarks, SetScan}
-use Rattle.adr_state.specs.Evidence.{joining, scan_with, open_scan, scan_end}
 use Rattle.adr_db.specs.declared.meta.Meta.{Meta}
 use Rattle.adr_db.specs.Kept.{Kept, Keeps, at_most, with_mark, first_meta}
 use Rattle.adr_db.specs.Bases.{keys_polled, meta_of, kept_beside}

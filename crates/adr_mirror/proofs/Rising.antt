@@ -1,20 +1,11 @@
 -- Which marks rise as evidence joins the mirror.
 use Rattle.std.proofs.Common.{◌≡◌, ℕ, suc, ◌+◌, Bool, true, false, cond, ◌||◌, ◌++◌, inl, inr, List, [], ◌∷◌, fold, length, Option, Some, None, refl, sym, ap, subst, ◌∙◌, arith, Less}
 use Rattle.std.specs.Prelude.{is_none}
-use Rattle.std.specs.Ordering.{is_eq}
-use Rattle.std.specs.Option.{option_map_or}
-use Rattle.std.specs.BTreeMap.{insert_entry}
-use Rattle.std.specs.BTreeSet.{insert_key}
-use Rattle.std.proofs.lemmas.List.{map-append}
+use Rattle.adr_db.proofs.Common.{is_eq, option_map_or, insert_entry, insert_key, map-append, IsAscending, Mark, MirrorKey, mirror_cmp, at, key_of, mark_of, evidence_of, raised, joined}
 use Rattle.std.proofs.lemmas.List.Sums.{fold-append}
-use Rattle.sqlite_trees.specs.Tree.{IsAscending}
 use Rattle.adr_objects.specs.declared.body.Found.{Found}
-use Rattle.adr_state.specs.declared.base.Mark.{Mark}
-use Rattle.adr_state.specs.declared.keys.MirrorKey.{MirrorKey}
-use Rattle.adr_state.specs.Keys.{mirror_cmp, at}
 use Rattle.adr_state.specs.Laws.{IsRaised}
 use Rattle.adr_state.specs.Marks.{is_below}
-use Rattle.adr_state.specs.Mirror.{key_of, mark_of, evidence_of, raised, joined}
 use Rattle.adr_state.proofs.LawLemmas.{key_order, at-insert_entry, at_same, over, equal_from_is, marks_ordered, joins_greatest}
 use Rattle.adr_mirror.specs.declared.raise.Rise.{Rise}
 use Rattle.adr_mirror.specs.declared.raise.Rise.TheVariants.{Same, Higher, First}

@@ -1,13 +1,8 @@
 -- What is decided, where its tests were made.
 use Rattle.std.proofs.Common.{◌≡◌, ◌==◌, ℕ, Bool, true, false, not, nat_le, List, length, map, filter, Option, Some, Result, Ok, Err, refl, sym, ap, ap₂, ◌∙◌}
 use Rattle.std.specs.Prelude.{bytes_eq, option_map, option_and_then}
-use Rattle.std.specs.List.{list_any}
-use Rattle.std.specs.Ordering.{nat_cmp}
-use Rattle.adr_text.specs.Refusals.{◌>>=◌, IsRefusalOf}
-use Rattle.adr_text.specs.declared.refusal.Refusal.{Refusal}
-use Rattle.adr_text.specs.declared.refusal.Refusal.TheVariants.{OutOfMemory, Store}
-use Rattle.adr_state.specs.Keys.{at}
-use Rattle.adr_state.specs.Names.{is_taken, is_taken_by_another, is_full, if_new, if_free}
+use Rattle.adr_db.proofs.Common.{list_any, nat_cmp, IsRefusalOf, Refusal, OutOfMemory, Store, at, is_taken, is_taken_by_another, is_full, if_new, if_free}
+use Rattle.adr_text.specs.Refusals.{◌>>=◌}
 use Rattle.adr_portfolio.proofs.NameLemmas.{taken_is, another_is}
 
 -- the refusal that it is

@@ -1,9 +1,8 @@
 -- Whether a name is taken, by the numbers that have it.
 use Rattle.std.proofs.lemmas.Bool.{false_from_ne_true}
 use Rattle.std.proofs.Common.{◌≡◌, ◌==◌, ◌&&◌, ◌||◌, suc, arith, eqb-true, ℕ, Bool, true, false, not, cond, List, [], ◌∷◌, map, filter, length, refl, ap, ◌∙◌}
-use Rattle.std.specs.List.{list_any}
+use Rattle.adr_db.proofs.Common.{list_any, is_taken, is_taken_by_another}
 use Rattle.std.specs.Prelude.{bytes_eq}
-use Rattle.adr_state.specs.Names.{is_taken, is_taken_by_another}
 
 module _ {V : Type 0} (p : ℕ × V → Bool) where
   -- the numbers of the entries that pass

@@ -1,22 +1,9 @@
 -- The shares in a program, in the order of its keys, find the participants in the order of the resources.
 use Rattle.std.proofs.Common.{◌≡◌, ℕ, Bool, true, false, ◌&&◌, cond, List, [], ◌∷◌, map, filter, Option, Some, None, refl, sym, ap, ap₂, subst, ◌∙◌, Ordering, Less, Equal, Greater, is_eq}
 use Rattle.std.specs.Prelude.{option_map, option_and_then}
-use Rattle.std.specs.Ordering.{nat_cmp, ordering_then, ordering_reverse}
-use Rattle.std.specs.List.{AllByRecursion, filter_map, cons_option}
-use Rattle.std.proofs.lemmas.Cmp.{nat_cmp_total}
-use Rattle.sqlite_trees.specs.Tree.{IsAscending}
-use Rattle.sqlite_trees.proofs.ListLemmas.{all_weaker, ascending_weaker, ascending_from_map}
-use Rattle.sqlite.specs.State.{State}
+use Rattle.adr_db.proofs.Common.{nat_cmp, ordering_then, ordering_reverse, AllByRecursion, filter_map, cons_option, nat_cmp_total, IsAscending, all_weaker, ascending_weaker, ascending_from_map, State, Resource, Ven, ShareKey, Participant, id_cmp, share_cmp, at, key_order, ties, then_eq, text_same}
 use Rattle.adr_objects.specs.declared.body.EventBody.{EventBody}
-use Rattle.adr_state.specs.declared.portfolio.Resource.{Resource}
-use Rattle.adr_state.specs.declared.portfolio.Ven.{Ven}
-use Rattle.adr_state.specs.declared.keys.ShareKey.{ShareKey}
-use Rattle.adr_state.specs.declared.participants.Participant.{Participant}
-use Rattle.adr_state.specs.Keys.{id_cmp, share_cmp, at}
 use Rattle.adr_state.specs.Participants.{is_for, as_participant, participant_of, participants}
-use Rattle.adr_sql.specs.Keys.{key_order}
-use Rattle.adr_sql.proofs.Keys.{ties, then_eq}
-use Rattle.adr_sql.proofs.Maps.{text_same}
 use Rattle.adr_db.specs.Rows.{share_row}
 use Rattle.adr_db.specs.Kept.{Kept, Keeps}
 use Rattle.adr_db.specs.Sharing.{is_in, sharers}

@@ -13,6 +13,13 @@ use Rattle.adr_script.specs.Lines.{lines_of, IsLine, IsShort}
 use Rattle.adr_script.specs.Scripts.{Prints, passed_over, has_turn, PrintAll, no_lines, line_first, no_more, one_more, RunsScript, StopsScript, StopsAtLongLine, StopsAtManyLines}
 use Rattle.adr_script.proofs.Lines.{lines_of-last}
 
+behind : (xs before others : List (List ℕ)) {ys : List (List ℕ)} → ys ≡ before ++ others → xs ++ ys ≡ (xs ++ before) ++ others
+behind xs before others is = ap (λ (lines : List (List ℕ)). xs ++ lines) is ∙ sym (append_assoc xs before others)
+
+pub some_line : (line : List ℕ) → false ≡ (length line == 0) → 0 < length line
+some_line [] h = absurd (true≢false (sym h))
+some_line (b ∷ line) h = omega arith
+
 module _ {settings : Settings} where
   PrintAll-append : {s u t : State} {xs ys : List (List ℕ)} {a b : List ℕ} → PrintAll settings s xs a u → PrintAll settings u ys b t → PrintAll settings s (xs ++ ys) (a ++ b) t
   PrintAll-append no_lines q = q
@@ -55,9 +62,6 @@ module _ {settings : Settings} where
   Stops-turn {line = []} part h turn written = absurd (true≢false (sym h))
   Stops-turn {s = s} {line = b ∷ line} {out = out} {others = others} part h turn written =
       record { before = []; others = (b ∷ line) ∷ others; lines_are = refl; out = []; between = s; prints = no_lines; last = out; next = one_more (has_turn turn); part = part; written = written }
-
-  behind : (xs before others : List (List ℕ)) {ys : List (List ℕ)} → ys ≡ before ++ others → xs ++ ys ≡ (xs ++ before) ++ others
-  behind xs before others is = ap (λ (lines : List (List ℕ)). xs ++ lines) is ∙ sym (append_assoc xs before others)
 
   pub Stops-after : {s u t : State} {xs ys : List (List ℕ)} {o m w : Option (List ℕ)} {p q : ℕ} → RunsScript settings s xs u o m p q → StopsScript settings u ys t m w
       → StopsScript settings s (xs ++ ys) t o w

@@ -2,41 +2,14 @@
 -- any chain of tables, and no other row goes.
 use Rattle.std.proofs.Common.{◌≡◌, ◌≢◌, ◌⊎◌, inl, inr, ℕ, zero, suc, ◌<◌, ℤ, Bool, true, false, not, ◌&&◌, ◌||◌, ◌==◌, cond, List, [], ◌∷◌, ◌++◌, map, filter, drop, length, slice_get, Option, Some, None, Ok, Result, MatchBool, IsTrue, true≢false, refl, sym, ap, ap₂, subst, ◌∙◌, Equal, is_eq, arith, length-append, eqb-true, IsPermutation, fold, ◌+◌}
 use Rattle.std.specs.Prelude.{nat_lt, is_some}
-use Rattle.std.specs.List.{AllByRecursion, list_all, list_any, flat_map, filter_map, cons_option}
-use Rattle.std.proofs.lemmas.Bool.{eq-eqb, cases_Bool, both_ways, not-true, and_parts, or_parts}
-use Rattle.std.proofs.lemmas.Cmp.{tied_back, tied_itself}
-use Rattle.sqlite_value.specs.declared.value.Value.{Value}
-use Rattle.sqlite_value.specs.declared.value.Value.TheVariants.{Null, Int, Real, Text, Blob}
-use Rattle.sqlite_value.specs.Order.{Row, column, value_cmp}
-use Rattle.sqlite_value.specs.declared.keys.Collation.TheVariants.{Binary}
-use Rattle.sqlite_value.specs.Keys.{plain, first_key}
+use Rattle.adr_sql.proofs.Common.{AllByRecursion, list_all, list_any, flat_map, filter_map, cons_option, eq-eqb, cases_Bool, both_ways, not-true, and_parts, or_parts, tied_back, tied_itself, Value, Null, Int, Real, Text, Blob, Row, column, value_cmp, Binary, plain, first_key, value_cmp_total, Trees, rowid, has_rowid, IsTable, is_int, filter_same, filter_all, all_of, all-flat_map, all-append, binary, is_null, end as no_join, Enforced, Table, Schema, ParentKey, parent_key, agree, equal, has_null, is_held, Keeps, Has, Given, Work, works, work_for, work_by, deed_for, pairs, loses, is_child_of, AreChildren, action_edit, Acts, ActsOn, Goes, Leads, Writes, max_depth, edit_of, taken_by, row_at, without_all, Applies, all_has, all_from, test_has, some_has, some_from, has_kept, has_filtered, has_got, has_either, has_left, has_right, tied_same, row_at_is, named_parent, without_all_has, int_is, ids_of, Database, IsDatabase, State, Executes}
 use Rattle.sqlite_value.proofs.KeyLemmas.{first_key-plain}
-use Rattle.sqlite_value.proofs.OrderLemmas.{value_cmp_total}
-use Rattle.sqlite_trees.specs.Tree.{Trees, rowid, has_rowid, IsTable}
-use Rattle.sqlite_trees.specs.View.{is_int}
-use Rattle.sqlite_trees.proofs.ListLemmas.{filter_same, filter_all, all_of, all-flat_map, all-append}
-use Rattle.sqlite_sql.specs.Ops.{binary, is_null}
-use Rattle.sqlite_sql.specs.Query.{end as no_join}
 use Rattle.sqlite_schema.specs.declared.schema.Action.{Action}
 use Rattle.sqlite_schema.specs.declared.schema.Action.TheVariants.{Cascade}
 use Rattle.sqlite_schema.specs.declared.schema.Constraint.TheVariants.{ForeignKey}
-use Rattle.sqlite_schema.specs.declared.schema.Keys.TheVariants.{Enforced}
 use Rattle.sqlite_schema.specs.declared.schema.Reference.{Reference}
-use Rattle.sqlite_schema.specs.declared.schema.Table.{Table}
-use Rattle.sqlite_schema.specs.declared.schema.Schema.{Schema}
-use Rattle.sqlite_schema.specs.Rules.{ParentKey, parent_key, agree, equal, has_null, is_held, Keeps}
-use Rattle.sqlite_rules.specs.Lists.{Has}
-use Rattle.sqlite_rules.specs.declared.error.Rowids.TheVariants.{Given}
 use Rattle.sqlite_rules.specs.declared.action.Deed.TheVariants.{Delete}
-use Rattle.sqlite_rules.specs.Action.{Work, works, work_for, work_by, deed_for, pairs, loses, is_child_of, AreChildren, action_edit, Acts, ActsOn, Goes, Leads, Writes, max_depth}
-use Rattle.sqlite_rules.specs.Edit.{edit_of, taken_by, row_at, without_all, Applies}
-use Rattle.sqlite_rules.proofs.ListLemmas.{all_has, all_from, test_has, some_has, some_from, has_kept, has_filtered, has_got, has_either, has_left, has_right}
-use Rattle.sqlite_rules.proofs.PlaceLemmas.{tied_same, row_at_is, named_parent}
-use Rattle.sqlite_rules.proofs.TableLemmas.{without_all_has, int_is}
 use Rattle.sqlite_rules.proofs.ProbeLemmas.{mapped_has, has_mapped}
-use Rattle.sqlite_rules.specs.Calls.{ids_of}
-use Rattle.sqlite.specs.Effect.{Database, IsDatabase}
-use Rattle.sqlite.specs.State.{State, Executes}
 use Rattle.adr_sql.specs.Keys.{has_key}
 use Rattle.adr_sql.specs.Contents.{Contents, Stores, StoresEach, Holds}
 use Rattle.adr_sql.proofs.Keys.{same_bool, equal_is, column_drop, are_full, ties}

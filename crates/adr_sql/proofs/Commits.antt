@@ -1,13 +1,7 @@
 -- A transaction from its begin to its commit or its drop.
 use Rattle.std.proofs.Common.{◌≡◌, inl, inr, false, true, Ok, Err, Result, IfErr, OnOk, OnErr, IsTrue, [], arith, refl, sym, subst, ◌∙◌}
-use Rattle.std.proofs.lemmas.Bool.{both_ways}
-use Rattle.sqlite_trees.specs.Tree.{Trees}
-use Rattle.sqlite.specs.Store.{Ghosts}
-use Rattle.sqlite.specs.Held.{Held, state}
+use Rattle.adr_sql.proofs.Common.{both_ways, Trees, Ghosts, Held, state, State, HasCleanDisk, KeepsCounts, Shows, IsRolledBack, KeepsCommit, Survives, Error, survives_begin}
 use Rattle.sqlite.specs.Steps.{FailsToCommit}
-use Rattle.sqlite.specs.State.{State, HasCleanDisk, KeepsCounts, Shows, IsRolledBack, KeepsCommit, Survives}
-use Rattle.sqlite.specs.declared.error.Error.{Error}
-use Rattle.sqlite.proofs.Callers.{survives_begin}
 use Rattle.sqlite.proofs.StateLemmas.{survives_then}
 use Rattle.adr_sql.specs.Calls.{Stays, Commits}
 

@@ -1,26 +1,9 @@
 -- SELECT count(*) of the rows with a leading part of the key.
 use Rattle.std.proofs.Common.{◌≡◌, ℕ, pos, negsuc, true, false, refl, List, [], ◌∷◌, map, filter, drop, length, Some, sym, ap, subst, ◌∙◌, IsPermutation, Bool}
-use Rattle.std.specs.List.{AllZip}
-use Rattle.std.proofs.lemmas.List.Sorted.{length_permutation}
-use Rattle.std.proofs.lemmas.List.{length-map}
-use Rattle.sqlite_value.specs.declared.keys.Collation.TheVariants.{Binary}
-use Rattle.sqlite_value.specs.declared.value.Value.TheVariants.{Null, Int}
-use Rattle.sqlite_value.specs.Order.{Row}
-use Rattle.sqlite_trees.specs.Tree.{Trees}
-use Rattle.sqlite_trees.proofs.ListLemmas.{filter-map, IsPermutation-filter}
+use Rattle.adr_sql.proofs.Common.{AllZip, length_permutation, length-map, Binary, Null, Int, Row, Trees, filter-map, IsPermutation-filter, Env, lit, col, Query, inner, end, matches, Output, output, IsAnswer, IsSureAnswer, overlay, Table, Schema, State, Shown, understood, reads_listing, IsPlain as IsPlainText, Select, command_of, reads_as, one_permutation}
 use Rattle.sqlite_sql.specs.declared.aggregate.AggregateOp.TheVariants.{CountRows}
 use Rattle.sqlite_sql.specs.Aggregate.{count}
-use Rattle.sqlite_sql.specs.Term.{Env, lit, col}
 use Rattle.sqlite_sql.specs.Group.{Grouping, IsSummary, value_over}
-use Rattle.sqlite_sql.specs.Query.{Query, inner, end, matches, Output, output, IsAnswer, IsSureAnswer}
-use Rattle.sqlite_sql.specs.Program.{overlay}
-use Rattle.sqlite_schema.specs.declared.schema.Table.{Table}
-use Rattle.sqlite_schema.specs.declared.schema.Schema.{Schema}
-use Rattle.sqlite.specs.State.{State, Shown}
-use Rattle.sqlite.specs.Listing.{understood, reads_listing}
-use Rattle.sqlite.specs.Given.{IsPlain as IsPlainText}
-use Rattle.sqlite.specs.Command.TheVariants.{Select}
-use Rattle.sqlite.proofs.Callers.{command_of, reads_as, one_permutation}
 use Rattle.adr_sql.specs.Keys.{has_key, rows_at}
 use Rattle.adr_sql.specs.Contents.{Contents, rows_of_table, Holds}
 use Rattle.adr_sql.proofs.Keys.{are_full}

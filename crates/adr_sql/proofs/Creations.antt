@@ -1,24 +1,13 @@
 -- CREATE TABLE, one text after another.
 use Rattle.std.proofs.Common.{◌≡◌, ℕ, false, List, [], ◌∷◌, ◌++◌, fold, None, Ok, Err, inl, inr, sym, ap, subst, ◌∙◌, refl}
-use Rattle.std.specs.List.{AllByRecursion}
-use Rattle.sqlite_schema.specs.declared.schema.Table.{Table}
-use Rattle.sqlite_schema.specs.declared.schema.Schema.{Schema}
+use Rattle.adr_sql.proofs.Common.{AllByRecursion, Table, Schema, Database, Tally, lacks_sequence, Ghosts, Held, state, State, Executes, ExecutesInside, Error, CreateTable, runs_as, zip_more, map-append}
 use Rattle.sqlite.specs.Change.{created, next_tree}
-use Rattle.sqlite.specs.Effect.{Database}
-use Rattle.sqlite.specs.Does.{Tally, lacks_sequence}
-use Rattle.sqlite.specs.Store.{Ghosts}
-use Rattle.sqlite.specs.Held.{Held, state}
-use Rattle.sqlite.specs.State.{State, Executes, ExecutesInside, Writes}
-use Rattle.sqlite.specs.declared.error.Error.{Error}
-use Rattle.sqlite.specs.Command.TheVariants.{CreateTable}
-use Rattle.sqlite.proofs.Callers.{runs_as}
+use Rattle.sqlite.specs.State.{Writes}
 use Rattle.adr_sql.specs.Contents.{Contents, empty_tables, StoresEach, Holds}
 use Rattle.adr_sql.specs.Calls.{FailsAmong}
 use Rattle.adr_sql.specs.Creations.{IsCreateText, Makes, IsUnderWay}
 use Rattle.adr_sql.proofs.Places.{stores_none, stores_same}
-use Rattle.sqlite_rules.proofs.PlaceLemmas.{zip_more}
 use Rattle.adr_sql.proofs.References.{went, same_value}
-use Rattle.std.proofs.lemmas.List.{map-append}
 
 pub create_runs : (schema : Schema) (table : Table) (sql : List ℕ) → IsCreateText schema table sql → (old new : State) (count : ℕ) → Executes sql [] old new (Ok count)
     → Holds schema (empty_tables schema.tables) old → Holds (created schema table) (empty_tables (created schema table).tables) new

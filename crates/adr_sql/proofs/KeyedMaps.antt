@@ -1,16 +1,7 @@
 -- A table that stands for a map, and the statements on it.
 use Rattle.std.proofs.Common.{◌≡◌, ℕ, true, Ok, List, [], ◌∷◌, map, length, fold, refl, sym, ap, subst, ◌∙◌, Ordering, Less}
-use Rattle.std.specs.BTreeMap.{insert_entry, is_at}
-use Rattle.std.specs.Map.{remove_entry, lookup}
-use Rattle.std.proofs.lemmas.List.{length-map}
-use Rattle.sqlite_value.specs.Order.{Row}
-use Rattle.sqlite_trees.specs.Tree.{IsAscending}
-use Rattle.sqlite_trees.proofs.ListLemmas.{ascending_weaker, ascending_from_map, filter_all, filter_none, all_of}
-use Rattle.sqlite_schema.specs.declared.schema.Table.{Table}
-use Rattle.sqlite_schema.specs.declared.schema.Schema.{Schema}
+use Rattle.adr_sql.proofs.Common.{insert_entry, is_at, remove_entry, lookup, length-map, Row, IsAscending, ascending_weaker, ascending_from_map, filter_all, filter_none, all_of, Table, Schema, end, State, Executes, Shown}
 use Rattle.sqlite_sql.specs.Aggregate.{count}
-use Rattle.sqlite_sql.specs.Query.{end}
-use Rattle.sqlite.specs.State.{State, Executes, Shown}
 use Rattle.adr_sql.specs.Keys.{key_order, with_row, rows_at, rows_without}
 use Rattle.adr_sql.specs.Codecs.{IsCodec, entry_at}
 use Rattle.adr_sql.specs.Contents.{Contents, rows_of_table, with_table, Holds}

@@ -1,18 +1,7 @@
 -- The tests that SQL makes of keys are those of `has_key`.
 use Rattle.std.proofs.Common.{◌≡◌, inl, inr, ℕ, zero, suc, Bool, true, false, not, ◌&&◌, List, [], ◌∷◌, map, drop, Some, refl, sym, ap, ap₂, ◌∙◌, Ordering, Less, Equal, Greater, is_eq}
-use Rattle.std.specs.Ordering.{ordering_reverse, ordering_then}
-use Rattle.std.proofs.lemmas.Bool.{both_ways, false_from_ne_true, and_parts, not-true}
-use Rattle.sqlite_value.specs.declared.value.Value.{Value}
-use Rattle.sqlite_value.specs.declared.value.Value.TheVariants.{Null, Int, Real, Text, Blob}
-use Rattle.sqlite_value.specs.declared.keys.Collation.TheVariants.{Binary}
-use Rattle.sqlite_value.specs.Order.{Row, column, value_cmp}
-use Rattle.sqlite_value.specs.Keys.{rising, plain, first_key}
+use Rattle.adr_sql.proofs.Common.{ordering_reverse, ordering_then, both_ways, false_from_ne_true, and_parts, not-true, Value, Null, Int, Real, Text, Blob, Binary, Row, column, value_cmp, rising, plain, first_key, value_cmp_total, binary, is_null, is_true, from_truth, key_cmp, equal, agree, Has}
 use Rattle.sqlite_value.proofs.KeyLemmas.{first_key-plain}
-use Rattle.sqlite_value.proofs.OrderLemmas.{value_cmp_total}
-use Rattle.sqlite_sql.specs.Ops.{binary, is_null, is_true, from_truth}
-use Rattle.sqlite_sql.specs.Query.{key_cmp}
-use Rattle.sqlite_schema.specs.Rules.{equal, agree}
-use Rattle.sqlite_rules.specs.Lists.{Has}
 use Rattle.adr_sql.specs.Keys.{has_key}
 
 -- ---- truth and order

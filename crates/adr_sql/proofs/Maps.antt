@@ -1,29 +1,13 @@
 -- A table that stands for a map: to put, to remove and to read by key are the map's own words.
 use Rattle.std.proofs.Common.{inl, inr, Option, None, suc, fold, ◌≡◌, ℕ, ℤ, Bool, true, false, not, cond, List, [], ◌∷◌, map, Some, refl, sym, ap, ap₂, subst, ◌∙◌, Ordering, Less, Equal, Greater, is_eq}
 use Rattle.std.specs.Prelude.{bytes_eq}
-use Rattle.std.specs.Ordering.{ordering_reverse, ordering_then, match_ordering, int_cmp, nat_cmp}
+use Rattle.adr_sql.proofs.Common.{ordering_reverse, ordering_then, match_ordering, int_cmp, nat_cmp, AllByRecursion, insert_entry, is_at, remove_entry, lookup, Null, Int, Text, Row, column, Binary, value_cmp-Int, value_cmp-Text, IsAscending, filter_all, filter_none, all_weaker, map_back, Compare, Eq, Term, col, op2, equal, Has, has_kept}
 use Rattle.std.specs.Cmp.Lexicographic.{slice_cmp}
-use Rattle.std.specs.List.{AllByRecursion}
-use Rattle.std.specs.BTreeMap.{insert_entry, is_at}
 use Rattle.std.specs.BTreeSet.{insert_key}
-use Rattle.std.specs.Map.{remove_entry, lookup}
 use Rattle.std.proofs.lemmas.Map.Text.{is_eq-slice_cmp}
 use Rattle.std.proofs.lemmas.Slice.Eq.{bytes_eq-Decides}
-use Rattle.sqlite_value.specs.declared.value.Value.TheVariants.{Null, Int, Text}
-use Rattle.sqlite_value.specs.Order.{Row, column}
-use Rattle.sqlite_value.specs.declared.keys.Collation.TheVariants.{Binary}
-use Rattle.sqlite_value.proofs.OrderLemmas.{value_cmp-Int, value_cmp-Text}
-use Rattle.sqlite_trees.specs.Tree.{IsAscending}
-use Rattle.sqlite_trees.proofs.ListLemmas.{filter_all, filter_none, all_weaker}
-use Rattle.sqlite_keyed.proofs.ListLemmas.{map_back}
 use Rattle.adr_sql.specs.Keys.{key_order, has_key, with_row, rows_at, rows_without}
 use Rattle.adr_sql.specs.Codecs.{IsCodec, entry_at}
-use Rattle.sqlite_sql.specs.declared.ops.BinaryOp.TheVariants.{Compare}
-use Rattle.sqlite_sql.specs.declared.ops.CompareOp.TheVariants.{Eq}
-use Rattle.sqlite_sql.specs.Term.{Term, col, op2}
-use Rattle.sqlite_schema.specs.Rules.{equal}
-use Rattle.sqlite_rules.specs.Lists.{Has}
-use Rattle.sqlite_rules.proofs.ListLemmas.{has_kept}
 use Rattle.adr_sql.proofs.Keys.{ties, and_true, equal_is, tie_turned}
 use Rattle.adr_sql.proofs.Selections.{passes}
 use Rattle.adr_sql.proofs.Rows.{key_order_total}

@@ -1,15 +1,6 @@
 -- One table among the others.
 use Rattle.std.proofs.Common.{◌≡◌, ◌≢◌, ℕ, zero, suc, Bool, true, false, not, ◌&&◌, ◌||◌, ◌==◌, cond, List, [], ◌∷◌, ◌++◌, map, drop, length, slice_get, Some, refl, sym, ap, subst, ◌∙◌, eqb-true, IsPermutation}
-use Rattle.std.specs.List.{AllByRecursion, list_all, list_any}
-use Rattle.std.proofs.lemmas.Bool.{and_parts, both_ways, eq-eqb, not-true}
-use Rattle.std.proofs.lemmas.List.Sorted.{IsPermutation-refl, IsPermutation-sym, IsPermutation-map, IsPermutation-trans}
-use Rattle.sqlite_value.specs.declared.value.Value.TheVariants.{Null}
-use Rattle.sqlite_value.specs.Order.{Row}
-use Rattle.sqlite_trees.specs.Tree.{Trees}
-use Rattle.sqlite_trees.proofs.ListLemmas.{map-map, all_both, IsPermutation-same}
-use Rattle.sqlite_keyed.proofs.ListLemmas.{all_from_test}
-use Rattle.sqlite_schema.specs.declared.schema.Table.{Table}
-use Rattle.sqlite_schema.specs.declared.schema.Schema.{Schema}
+use Rattle.adr_sql.proofs.Common.{AllByRecursion, list_all, list_any, and_parts, both_ways, eq-eqb, not-true, IsPermutation-refl, IsPermutation-sym, IsPermutation-map, IsPermutation-trans, Null, Row, Trees, map-map, all_both, IsPermutation-same, all_from_test, Table, Schema}
 use Rattle.adr_sql.specs.Contents.{Contents, rows_of_table, with_table, Stores, StoresEach}
 
 -- the other tables are as they were

@@ -1,24 +1,13 @@
 -- A write that sets off no action: to a table to which no reference points, or one whose references follow no change of a key. And
 -- what every write shares.
 use Rattle.std.proofs.Common.{◌≡◌, ◌⊎◌, inl, inr, ℕ, ℤ, Bool, true, false, not, ◌||◌, ◌==◌, cond, List, [], ◌∷◌, ◌++◌, length, Ok, Err, Result, Option, Some, None, refl, ap, ap₂}
-use Rattle.std.specs.List.{list_all, flat_map, filter_map, cons_option}
-use Rattle.std.proofs.lemmas.Bool.{and_parts, not-true, or_cases}
-use Rattle.sqlite_value.specs.declared.value.Value.{Value}
-use Rattle.sqlite_value.specs.declared.value.Value.TheVariants.{Null, Int}
-use Rattle.sqlite_value.specs.Order.{Row}
-use Rattle.sqlite_sql.specs.Ops.{unary}
+use Rattle.adr_sql.proofs.Common.{list_all, flat_map, filter_map, cons_option, and_parts, not-true, or_cases, Value, Null, Int, Row, unary, Enforced, Deferred, Off, Table, Schema, ParentKey, parent_key, cast, works, work_for, work_by, deed_for, pairs}
 use Rattle.sqlite_schema.specs.declared.schema.Kind.TheVariants.{Integer}
 use Rattle.sqlite_schema.specs.declared.schema.Keys.{Keys}
-use Rattle.sqlite_schema.specs.declared.schema.Keys.TheVariants.{Enforced, Deferred, Off}
 use Rattle.sqlite_schema.specs.declared.schema.Action.{Action}
 use Rattle.sqlite_schema.specs.declared.schema.Action.TheVariants.{NoAction}
 use Rattle.sqlite_schema.specs.declared.schema.Reference.{Reference}
-use Rattle.sqlite_schema.specs.declared.schema.Table.{Table}
-use Rattle.sqlite_schema.specs.declared.schema.Schema.{Schema}
-use Rattle.sqlite_schema.specs.Rules.{ParentKey, parent_key}
-use Rattle.sqlite_rules.specs.Cast.{cast}
 use Rattle.sqlite_rules.specs.declared.action.Deed.{Deed}
-use Rattle.sqlite_rules.specs.Action.{works, work_for, work_by, deed_for, pairs}
 
 -- ---- steps of a write
 

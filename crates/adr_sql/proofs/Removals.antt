@@ -1,39 +1,8 @@
 -- DELETE of the rows that pass, in a table to which no reference points. Its tests may ask whether another table has a row.
 use Rattle.std.proofs.Common.{◌≡◌, ℕ, zero, ℤ, pos, negsuc, min, Bool, true, false, not, List, [], ◌∷◌, ◌++◌, map, filter, flat_map, drop, length, None, Ok, IsTrue, refl, sym, ap, subst, ◌∙◌, Equal, is_eq, IsPermutation}
-use Rattle.std.specs.List.{AllByRecursion, list_all, list_any}
-use Rattle.std.proofs.lemmas.Bool.{and_parts}
-use Rattle.std.proofs.lemmas.Cmp.{tied_itself}
-use Rattle.std.proofs.lemmas.List.{length-map}
-use Rattle.std.proofs.lemmas.List.Sorted.{IsPermutation-map, IsPermutation-sym, Contains-permutation, length_permutation}
-use Rattle.sqlite_value.specs.declared.value.Value.TheVariants.{Null, Int}
-use Rattle.sqlite_value.specs.Order.{Row, column, value_cmp}
-use Rattle.sqlite_value.proofs.OrderLemmas.{value_cmp_total}
-use Rattle.sqlite_trees.specs.Tree.{Trees, rowid, has_rowid, IsTable}
-use Rattle.sqlite_trees.specs.View.{is_int}
-use Rattle.sqlite_trees.proofs.ListLemmas.{filter_same, map-map}
-use Rattle.sqlite_schema.specs.declared.schema.Keys.TheVariants.{Enforced}
-use Rattle.sqlite_schema.specs.declared.schema.Table.{Table}
-use Rattle.sqlite_schema.specs.declared.schema.Schema.{Schema}
-use Rattle.sqlite_rules.specs.declared.error.Rowids.TheVariants.{Given}
-use Rattle.sqlite_rules.specs.Lists.{Has}
-use Rattle.sqlite_rules.specs.Calls.{ids_of}
-use Rattle.sqlite_rules.specs.Edit.{Edit, edit_of, taken_by, id_in, without_all}
-use Rattle.sqlite_rules.specs.Action.{Writes}
-use Rattle.sqlite_rules.proofs.ListLemmas.{all_from, all_has, has_filtered, has_kept, has_contained, contains_had, some_has, some_from}
+use Rattle.adr_sql.proofs.Common.{AllByRecursion, list_all, list_any, and_parts, tied_itself, length-map, IsPermutation-map, IsPermutation-sym, Contains-permutation, length_permutation, Null, Int, Row, column, value_cmp, value_cmp_total, Trees, rowid, has_rowid, IsTable, is_int, filter_same, map-map, Enforced, Table, Schema, Given, Has, ids_of, Edit, edit_of, taken_by, id_in, without_all, Writes, all_from, all_has, has_filtered, has_kept, has_contained, contains_had, some_has, some_from, int_is, tied_same, Term, Env, col, holds, Query, Join, counted, end, matches, Output, output, IsAnswer, IsSureAnswer, overlay, Database, IsDatabase, Tally, Does, AtPlace, OnRows, State, mode_of, Executes, understood, IsPlain as IsPlainText, Delete, one_step, runs_as, command_of, statement_of}
 use Rattle.sqlite_rules.proofs.ProbeLemmas.{mapped_has, has_mapped}
-use Rattle.sqlite_rules.proofs.TableLemmas.{int_is}
-use Rattle.sqlite_rules.proofs.PlaceLemmas.{tied_same}
-use Rattle.sqlite_sql.specs.Term.{Term, Env, col, holds}
-use Rattle.sqlite_sql.specs.Query.{Query, Join, counted, end, matches, Output, output, IsAnswer, IsSureAnswer}
-use Rattle.sqlite_sql.specs.Program.{overlay}
 use Rattle.sqlite.specs.Rows.{Task, Written}
-use Rattle.sqlite.specs.Effect.{Database, IsDatabase}
-use Rattle.sqlite.specs.Does.{Tally, Does, AtPlace, OnRows}
-use Rattle.sqlite.specs.State.{State, mode_of, Executes}
-use Rattle.sqlite.specs.Listing.{understood}
-use Rattle.sqlite.specs.Given.{IsPlain as IsPlainText}
-use Rattle.sqlite.specs.Command.TheVariants.{Delete}
-use Rattle.sqlite.proofs.Callers.{one_step, runs_as, command_of, statement_of}
 use Rattle.adr_sql.specs.Keys.{rows_without}
 use Rattle.adr_sql.specs.Contents.{Contents, rows_of_table, with_table, Stores, StoresEach, Holds}
 use Rattle.adr_sql.proofs.Keys.{same_bool, are_full, ties}

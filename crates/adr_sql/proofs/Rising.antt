@@ -1,10 +1,6 @@
 -- What rises by key is the map that it makes, put one after another.
 use Rattle.std.proofs.Common.{◌≡◌, ℕ, List, [], ◌∷◌, ◌++◌, map, fold, sym, ap, subst, refl, ◌∙◌, append_assoc, append-nil, Ordering, Less, Greater}
-use Rattle.std.specs.Ordering.{ordering_reverse}
-use Rattle.std.specs.List.{AllByRecursion}
-use Rattle.std.specs.BTreeMap.{insert_entry}
-use Rattle.sqlite_value.specs.Order.{Row}
-use Rattle.sqlite_trees.specs.Tree.{IsAscending}
+use Rattle.adr_sql.proofs.Common.{ordering_reverse, AllByRecursion, insert_entry, Row, IsAscending}
 use Rattle.adr_sql.specs.Keys.{key_order}
 use Rattle.adr_sql.proofs.Rows.{key_order_total}
 

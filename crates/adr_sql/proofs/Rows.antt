@@ -1,18 +1,9 @@
 -- What a table stores and the rows that it holds, with no word of SQL.
 use Rattle.std.proofs.Common.{◌≡◌, ℕ, ℤ, Bool, true, false, not, ◌||◌, cond, List, [], ◌∷◌, filter, drop, length, IsTrue, refl, sym, ap, subst, ◌∙◌, Ordering, Less, Equal, Greater, is_eq}
 use Rattle.std.specs.Cmp.{IsTotalOrder}
-use Rattle.std.specs.Ordering.{match_ordering, ordering_reverse}
-use Rattle.std.specs.List.{AllByRecursion, list_any}
+use Rattle.adr_sql.proofs.Common.{match_ordering, ordering_reverse, AllByRecursion, list_any, IsPermutation-refl, IsPermutation-sym, IsPermutation-cons, IsPermutation-trans, IsPermutation-middle, IsPermutation-map, Row, value_cmp, rising, rowid, has_rowid, put_row, without_rowid, IsAscending, is_int, all_of, all_weaker, all-filter, ascending-filter, filter_all, filter-map, IsPermutation-filter, key_cmp_total, without_all, is_taken}
 use Rattle.std.specs.List.Sorted.{IsPermutation}
-use Rattle.std.proofs.lemmas.List.Sorted.{IsPermutation-refl, IsPermutation-sym, IsPermutation-cons, IsPermutation-trans, IsPermutation-middle, IsPermutation-map}
-use Rattle.sqlite_value.specs.Order.{Row, value_cmp}
-use Rattle.sqlite_value.specs.Keys.{rising}
-use Rattle.sqlite_trees.specs.Tree.{rowid, has_rowid, put_row, without_rowid, IsAscending}
-use Rattle.sqlite_trees.specs.View.{is_int}
-use Rattle.sqlite_trees.proofs.ListLemmas.{all_of, all_weaker, all-filter, ascending-filter, filter_all, filter-map, IsPermutation-filter}
 use Rattle.sqlite_trees.proofs.TreeLemmas.{all-put_row, IsTable-put_row}
-use Rattle.sqlite_sql.proofs.QueryLemmas.{key_cmp_total}
-use Rattle.sqlite_rules.specs.Edit.{without_all, is_taken}
 use Rattle.adr_sql.specs.Keys.{key_order, has_key, with_row, rows_without}
 use Rattle.adr_sql.specs.Contents.{Stores}
 

@@ -4,13 +4,7 @@ use Rattle.sqlite_schema.specs.declared.command.Returning.{Returning}
 use Rattle.sqlite_resolve.specs.declared.compiled.Compiled.{Compiled}
 use Rattle.sqlite.specs.Order.{Row}
 use Rattle.sqlite.specs.Schema.{Schema}
-use Rattle.sqlite.specs.Store.{Ghosts}
-use Rattle.sqlite.specs.Held.{Held, state}
-use Rattle.sqlite.specs.Effect.{Database}
-use Rattle.sqlite.specs.Given.{IsPlain}
-use Rattle.sqlite.specs.Listing.{understood}
-use Rattle.sqlite.specs.State.{State, HasCleanDisk, IsUnchanged, IsRolledBack, KeepsCommit, Survives, Shows, ShowsRows, FailsToShow, FailsToQuery, IsNotRun, IsTooLate, Shown}
-use Rattle.sqlite.specs.declared.error.Error.{Error}
+use Rattle.adr_sql.proofs.Common.{Ghosts, Held, state, Database, IsPlain, understood, State, HasCleanDisk, IsUnchanged, IsRolledBack, KeepsCommit, Survives, Shows, ShowsRows, FailsToShow, FailsToQuery, IsNotRun, IsTooLate, Shown, Error}
 use Rattle.sqlite.proofs.StateLemmas.{survives_then}
 use Rattle.adr_sql.specs.Contents.{Contents, Holds, StoresEach}
 use Rattle.adr_sql.specs.Calls.{Stays}

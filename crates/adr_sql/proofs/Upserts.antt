@@ -1,51 +1,15 @@
 -- INSERT .. ON CONFLICT (key) DO UPDATE SET of every column: the row that has the key is written anew where it stands, and no row goes.
 -- The table may have other unique keys, and references may point to it, where none of them is ON UPDATE something.
 use Rattle.std.proofs.Common.{◌≡◌, ◌≤◌, inl, inr, ℕ, suc, ℤ, Bool, true, false, not, ◌&&◌, ◌||◌, cond, List, [], ◌∷◌, ◌++◌, map, filter, flat_map, drop, length, Some, None, Option, Ok, Result, MatchBool, is_lt, int_cmp, ◌/◌, refl, sym, ap, ap₂, subst, ◌∙◌, arith, is_eq, IsPermutation, Less}
-use Rattle.std.specs.List.{AllByRecursion, list_any}
+use Rattle.adr_sql.proofs.Common.{AllByRecursion, list_any, and_parts, not-true, false_from_ne_true, tied_itself, tied_back, length-map, length_permutation, Null, Int, Binary, Row, value_cmp, plain, value_cmp_total, Trees, rowid, put_row, IsAscending, filter_all, filter_same, filter-map, ascending-filter, IsPermutation-filter, map-map, Compare, Eq, Term, col, op2, eval_all, holds, Query, Output, output, inner, end, matches, IsAnswer, IsSureAnswer, overlay, Enforced, Table, Schema, guards, agree, equal, Chosen, Above, Given, Has, ids_of, cast_row, Edit, edit_of, taken_by, id_in, with_rowid, next_rowid, without_all, is_taken, all_from, all_has, has_kept, has_filtered, int_is, tied_same, Database, value_rows, Tally, Does, AtPlace, OnRows, State, mode_of, Executes, understood, IsPlain as IsPlainText, InsertOr, Error, one_step, runs_as, command_of, statement_of, one_permutation}
 use Rattle.std.specs.Prelude.{bytes_eq}
-use Rattle.std.proofs.lemmas.Bool.{and_parts, not-true, false_from_ne_true}
-use Rattle.std.proofs.lemmas.Cmp.{tied_itself, tied_back}
-use Rattle.std.proofs.lemmas.List.{length-map}
-use Rattle.std.proofs.lemmas.List.Sorted.{length_permutation}
-use Rattle.sqlite_value.specs.declared.value.Value.TheVariants.{Null, Int}
-use Rattle.sqlite_value.specs.declared.keys.Collation.TheVariants.{Binary}
-use Rattle.sqlite_value.specs.Order.{Row, value_cmp}
-use Rattle.sqlite_value.specs.Keys.{plain}
-use Rattle.sqlite_value.proofs.OrderLemmas.{value_cmp_total}
-use Rattle.sqlite_trees.specs.Tree.{Trees, rowid, put_row, IsAscending}
-use Rattle.sqlite_trees.proofs.ListLemmas.{filter_all, filter_same, filter-map, ascending-filter, IsPermutation-filter, map-map}
-use Rattle.sqlite_sql.specs.declared.ops.BinaryOp.TheVariants.{Compare}
-use Rattle.sqlite_sql.specs.declared.ops.CompareOp.TheVariants.{Eq}
-use Rattle.sqlite_sql.specs.Term.{Term, col, op2, eval_all, holds}
-use Rattle.sqlite_sql.specs.Query.{Query, Output, output, inner, end, matches, IsAnswer, IsSureAnswer}
-use Rattle.sqlite_sql.specs.Program.{overlay}
-use Rattle.sqlite_schema.specs.declared.schema.Keys.TheVariants.{Enforced}
-use Rattle.sqlite_schema.specs.declared.schema.Table.{Table}
 use Rattle.sqlite_schema.specs.declared.schema.Index.{Index}
-use Rattle.sqlite_schema.specs.declared.schema.Schema.{Schema}
 use Rattle.sqlite_schema.specs.declared.command.Conflict.TheVariants.{Abort}
 use Rattle.sqlite_schema.specs.declared.command.Upsert.{Upsert}
-use Rattle.sqlite_schema.specs.Rules.{guards, agree, equal}
-use Rattle.sqlite_rules.specs.declared.error.Rowids.TheVariants.{Chosen, Above, Given}
-use Rattle.sqlite_rules.specs.Lists.{Has}
 use Rattle.sqlite_rules.specs.Keys.{shares, conflicts, AreConflicts}
-use Rattle.sqlite_rules.specs.Calls.{ids_of}
-use Rattle.sqlite_rules.specs.Cast.{cast_row}
-use Rattle.sqlite_rules.specs.Edit.{Edit, edit_of, taken_by, id_in, with_rowid, next_rowid, without_all, is_taken}
 use Rattle.sqlite_rules.proofs.ActionLemmas.{no_works}
-use Rattle.sqlite_rules.proofs.ListLemmas.{all_from, all_has, has_kept, has_filtered}
-use Rattle.sqlite_rules.proofs.TableLemmas.{int_is}
-use Rattle.sqlite_rules.proofs.PlaceLemmas.{tied_same}
 use Rattle.sqlite.specs.Rows.{Task, Written, Puts, Clears, Tries, TriesEach, Updates, Upserts, Meets, Edited, CountsIn, stamped, shown, nothing, count_of, rowids_for, sequence}
-use Rattle.sqlite.specs.Effect.{Database, value_rows}
-use Rattle.sqlite.specs.Does.{Tally, Does, AtPlace, OnRows}
-use Rattle.sqlite.specs.State.{State, mode_of, Executes}
-use Rattle.sqlite.specs.Listing.{understood}
-use Rattle.sqlite.specs.Given.{IsPlain as IsPlainText}
 use Rattle.sqlite.specs.Source.TheVariants.{Values}
-use Rattle.sqlite.specs.Command.TheVariants.{InsertOr}
-use Rattle.sqlite.specs.declared.error.Error.{Error}
-use Rattle.sqlite.proofs.Callers.{one_step, runs_as, command_of, statement_of, one_permutation}
 use Rattle.adr_sql.specs.Keys.{key_order, has_key, with_row}
 use Rattle.adr_sql.specs.Contents.{Contents, rows_of_table, with_table, Stores, StoresEach, Holds}
 use Rattle.adr_sql.proofs.Keys.{same_bool, equal_is, agree_is, places_from, ties, and_true}

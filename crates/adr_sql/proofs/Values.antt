@@ -1,14 +1,9 @@
 -- The values of a row, as the columns of a STRICT table keep them.
 use Rattle.std.proofs.Common.{◌≡◌, Bool, true, false, ◌&&◌, List, [], ◌∷◌, length, refl, ap₂}
-use Rattle.std.proofs.lemmas.Bool.{and_parts}
-use Rattle.sqlite_value.specs.declared.value.Value.{Value}
-use Rattle.sqlite_value.specs.declared.value.Value.TheVariants.{Int, Text as Words}
-use Rattle.sqlite_value.specs.Order.{Row}
+use Rattle.adr_sql.proofs.Common.{and_parts, Value, Int, Text as Words, Row, Table, cast, cast_all}
 use Rattle.sqlite_schema.specs.declared.schema.Column.{Column}
 use Rattle.sqlite_schema.specs.declared.schema.Kind.{Kind}
 use Rattle.sqlite_schema.specs.declared.schema.Kind.TheVariants.{Integer, Text}
-use Rattle.sqlite_schema.specs.declared.schema.Table.{Table}
-use Rattle.sqlite_rules.specs.Cast.{cast, cast_all}
 use Rattle.adr_sql.proofs.Keys.{are_full}
 use Rattle.adr_sql.proofs.References.{cast_int}
 

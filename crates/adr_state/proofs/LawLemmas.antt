@@ -21,7 +21,6 @@ use Rattle.adr_state.specs.contracts.keys.MirrorKeyOrd.TheImpl.Laws.{total-law}
 use Rattle.adr_state.specs.declared.base.Mark.{Mark}
 use Rattle.adr_state.specs.declared.base.Mark.TheVariants.{Live, Dead}
 use Rattle.adr_state.specs.declared.keys.MirrorKey.{MirrorKey}
-use Rattle.adr_view.specs.declared.view.Content.TheVariants.{Program, Event}
 use Rattle.adr_state.specs.Keys.{kind_cmp, id_cmp, mirror_cmp, at}
 use Rattle.adr_state.specs.Marks.{is_below}
 use Rattle.adr_state.specs.Mirror.{raised, joined}

@@ -1,8 +1,5 @@
 use Rattle.std.proofs.Common.{◌≡◌, List, [], ◌∷◌, take, Ok, subst}
-use Rattle.std.specs.List.{AllZip}
-use Rattle.sqlite_value.specs.Order.{Row}
-use Rattle.adr_text.specs.declared.refusal.Refusal.{Refusal}
-use Rattle.adr_sql.specs.Keys.{cells}
+use Rattle.adr_db.proofs.Common.{AllZip, Row, Refusal, cells}
 use Rattle.adr_db.specs.declared.meta.Meta.{Meta}
 use Rattle.adr_db.specs.Rows.{meta_row}
 use Rattle.adr_db.proofs.Rows.{meta_kept}

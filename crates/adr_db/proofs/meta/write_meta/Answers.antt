@@ -1,6 +1,4 @@
-use Rattle.sqlite.specs.Held.{state}
-use Rattle.adr_sql.specs.Keys.{with_row}
-use Rattle.adr_sql.specs.Contents.{rows_of_table, with_table}
+use Rattle.adr_db.proofs.Common.{state, with_row, rows_of_table, with_table}
 use Rattle.adr_db.specs.Rows.{meta_row}
 use Rattle.adr_db.proofs.Calls.{run_changes}
 use Rattle.adr_db.proofs.MetaStatements.{numbers, meta_put}

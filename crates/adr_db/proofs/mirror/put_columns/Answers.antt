@@ -1,8 +1,6 @@
 use Rattle.std.proofs.Common.{◌++◌, ap, subst}
 use Rattle.std.specs.String.{string_bytes}
-use Rattle.sqlite_value.specs.Order.{Row}
-use Rattle.adr_sql.proofs.Values.{AreValues}
-use Rattle.adr_sql.proofs.Upserts.{IsUpsertText}
+use Rattle.adr_db.proofs.Common.{Row, AreValues, IsUpsertText}
 use Rattle.adr_db.specs.declared.mirror.TheConstants.{PUT}
 use Rattle.adr_db.specs.Tables.{schema}
 use Rattle.adr_db.specs.Rows.{kind_number, key_row}

@@ -1,7 +1,5 @@
 use Rattle.std.proofs.Common.{◌≡◌, Option, Some, refl, ap, ◌∙◌}
-use Rattle.std.specs.Option.{option_map}
-use Rattle.adr_state.specs.declared.base.Mark.{Mark}
-use Rattle.adr_sql.specs.Keys.{cells}
+use Rattle.adr_db.proofs.Common.{option_map, Mark, cells}
 use Rattle.adr_db.specs.declared.mirror.MarkColumns.{MarkColumns}
 use Rattle.adr_db.specs.Rows.{mark_columns, columns_row}
 use Rattle.adr_db.proofs.Rows.{columns_are}

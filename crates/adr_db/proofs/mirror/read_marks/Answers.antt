@@ -1,8 +1,5 @@
 use Rattle.std.proofs.Common.{◌≡◌, List, [], ◌∷◌, map, refl, ap₂, ◌∙◌}
-use Rattle.std.specs.List.{AllZip}
-use Rattle.adr_state.specs.declared.base.Mark.{Mark}
-use Rattle.adr_state.specs.declared.keys.MirrorKey.{MirrorKey}
-use Rattle.adr_sql.specs.Keys.{cells}
+use Rattle.adr_db.proofs.Common.{AllZip, Mark, MirrorKey, cells}
 use Rattle.adr_db.specs.declared.mirror.MirrorRow.{MirrorRow}
 use Rattle.adr_db.specs.Rows.{mark_row, mirror_row}
 use Rattle.adr_db.proofs.Rows.{cells_are}

@@ -1,8 +1,5 @@
 use Rattle.std.proofs.Common.{◌≡◌, subst}
-use Rattle.std.specs.List.{AllZip}
-use Rattle.sqlite_trees.proofs.ListLemmas.{map-map}
-use Rattle.adr_state.specs.declared.keys.MirrorKey.{MirrorKey}
-use Rattle.adr_sql.specs.Keys.{cells}
+use Rattle.adr_db.proofs.Common.{AllZip, map-map, MirrorKey, cells}
 use Rattle.adr_db.specs.Rows.{key_row}
 use Rattle.adr_db.proofs.Rows.{key_kept}
 use Rattle.adr_db.proofs.KeptMaps.{read_back, all_find}

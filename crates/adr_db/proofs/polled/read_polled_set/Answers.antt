@@ -1,6 +1,5 @@
 use Rattle.std.proofs.Common.{[], fold, ap, ◌∙◌}
-use Rattle.std.specs.BTreeSet.{insert_key}
-use Rattle.adr_state.specs.Keys.{mirror_cmp}
+use Rattle.adr_db.proofs.Common.{insert_key, mirror_cmp}
 use Rattle.adr_db.proofs.Results.{ok_then}
 use Rattle.adr_db.proofs.PolledKeys.{polled_again}
 use Rattle.adr_db.proofs.polled.read_polled_set.Goals as goal

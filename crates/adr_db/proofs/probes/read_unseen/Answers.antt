@@ -1,7 +1,5 @@
 use Rattle.std.proofs.Common.{◌≡◌, subst}
-use Rattle.std.specs.List.{AllZip}
-use Rattle.adr_state.specs.Scans.{probes}
-use Rattle.adr_sql.specs.Keys.{cells}
+use Rattle.adr_db.proofs.Common.{AllZip, probes, cells}
 use Rattle.adr_db.specs.Rows.{key_row}
 use Rattle.adr_db.specs.Kept.{at_most}
 use Rattle.adr_db.proofs.Rows.{key_kept}

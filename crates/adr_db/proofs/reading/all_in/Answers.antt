@@ -1,6 +1,5 @@
 use Rattle.std.proofs.Common.{◌≡◌, ◌+◌, List, [], ◌∷◌, ◌++◌, take, sym, ap, subst, ◌∙◌}
-use Rattle.std.specs.List.{AllZip}
-use Rattle.std.proofs.lemmas.List.{take_more}
+use Rattle.adr_db.proofs.Common.{AllZip, take_more}
 use Rattle.sqlite_rules.proofs.PlaceLemmas.{zip_more}
 use Rattle.adr_db.proofs.reading.all_in.Goals as goal
 

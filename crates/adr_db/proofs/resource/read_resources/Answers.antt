@@ -1,7 +1,5 @@
 use Rattle.std.proofs.Common.{◌≡◌, ℕ, ap₂}
-use Rattle.adr_state.specs.declared.portfolio.Resource.{Resource}
-use Rattle.sqlite_value.specs.Order.{column}
-use Rattle.adr_sql.specs.Keys.{cells}
+use Rattle.adr_db.proofs.Common.{Resource, column, cells}
 use Rattle.adr_db.specs.Rows.{number, resource_columns}
 use Rattle.adr_db.proofs.Rows.{number_kept, resource_kept}
 use Rattle.adr_db.proofs.KeptMaps.{map_finds}

@@ -1,5 +1,4 @@
-use Rattle.sqlite.specs.Held.{state}
-use Rattle.adr_state.specs.Portfolios.{without_resource}
+use Rattle.adr_db.proofs.Common.{state, without_resource}
 use Rattle.adr_db.specs.Rows.{number_row}
 use Rattle.adr_db.specs.Kept.{with_portfolio}
 use Rattle.adr_db.proofs.Calls.{run_leaves}

@@ -1,6 +1,5 @@
 use Rattle.std.proofs.Common.{◌≡◌}
-use Rattle.std.specs.Ordering.{nat_cmp}
-use Rattle.adr_state.specs.Keys.{map_of}
+use Rattle.adr_db.proofs.Common.{nat_cmp, map_of}
 use Rattle.adr_db.proofs.resource.resources_of.Given as goal
 
 abbrev pub invariant-rows : goal.invariant-rows

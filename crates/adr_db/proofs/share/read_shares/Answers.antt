@@ -1,7 +1,5 @@
 use Rattle.std.proofs.Common.{◌≡◌, ℕ, ap₂}
-use Rattle.adr_state.specs.declared.keys.ShareKey.{ShareKey}
-use Rattle.sqlite_value.specs.Order.{column}
-use Rattle.adr_sql.specs.Keys.{cells}
+use Rattle.adr_db.proofs.Common.{ShareKey, column, cells}
 use Rattle.adr_db.specs.Rows.{number, share_key_row}
 use Rattle.adr_db.proofs.Rows.{number_kept, share_key_kept}
 use Rattle.adr_db.proofs.KeptMaps.{map_finds}

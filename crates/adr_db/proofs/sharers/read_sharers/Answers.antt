@@ -1,6 +1,5 @@
 use Rattle.std.proofs.Common.{◌≡◌, subst}
-use Rattle.std.specs.List.{AllZip}
-use Rattle.adr_sql.specs.Keys.{cells}
+use Rattle.adr_db.proofs.Common.{AllZip, cells}
 use Rattle.adr_db.specs.Rows.{participant_row}
 use Rattle.adr_db.specs.Sharing.{sharers}
 use Rattle.adr_db.proofs.Rows.{participant_kept}

@@ -1,6 +1,5 @@
 use Rattle.std.proofs.Common.{◌≡◌, Option, Some, refl, ap}
-use Rattle.adr_state.specs.declared.portfolio.Ven.{Ven}
-use Rattle.adr_sql.specs.Keys.{cells}
+use Rattle.adr_db.proofs.Common.{Ven, cells}
 use Rattle.adr_db.specs.Rows.{ven_columns}
 use Rattle.adr_db.proofs.Rows.{ven_kept}
 use Rattle.adr_db.proofs.KeptMaps.{one_finds}

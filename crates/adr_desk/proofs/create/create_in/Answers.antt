@@ -1,8 +1,5 @@
 use Rattle.std.proofs.Common.{rules, []}
-use Rattle.sqlite.specs.Held.{state}
-use Rattle.adr_sql.specs.Contents.{Holds, StoresEach}
-use Rattle.adr_sql.specs.Schemas.{no_schema}
-use Rattle.adr_sql.specs.Calls.{Commits}
+use Rattle.adr_db.proofs.Common.{state, Holds, StoresEach, no_schema, Commits}
 use Rattle.adr_db.specs.Tables.{schema}
 use Rattle.adr_db.specs.Kept.{Keeps, nothing_kept, contents_of}
 use Rattle.adr_desk.proofs.Created.{created_whole}

@@ -1,8 +1,6 @@
 use Rattle.std.proofs.Common.{refl}
-use Rattle.adr_state.specs.Vens.{ven_add, ven_put, ven_remove}
-use Rattle.adr_state.specs.Resources.{resource_add, resource_put, resource_remove}
+use Rattle.adr_db.proofs.Common.{ven_add, ven_put, ven_remove, resource_add, resource_put, resource_remove, evidence, gone}
 use Rattle.adr_state.specs.Shares.{share_set}
-use Rattle.adr_state.specs.Evidence.{evidence, gone}
 use Rattle.adr_machine.specs.declared.answer.Answer.TheVariants as answer
 use Rattle.adr_machine.specs.Edits.{ven_answer, resource_answer}
 use Rattle.adr_desk.specs.declared.edit.Edit.TheVariants as edit

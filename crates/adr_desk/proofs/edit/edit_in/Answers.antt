@@ -1,9 +1,6 @@
 use Rattle.std.proofs.Common.{Result, Option, rules}
-use Rattle.sqlite.specs.Held.{state}
-use Rattle.adr_state.specs.declared.base.Base.{Base}
-use Rattle.adr_sql.specs.Calls.{Commits}
+use Rattle.adr_db.proofs.Common.{state, Base, Commits, Refusal}
 use Rattle.adr_db.specs.Bases.{HoldsBase}
-use Rattle.adr_text.specs.declared.refusal.Refusal.{Refusal}
 use Rattle.adr_desk.specs.Edits.{edit_by, EditsTables, HoldsEdited, LeftEdited}
 use Rattle.adr_desk.proofs.Edited.{moved, edited_whole, edited_makes}
 use Rattle.adr_desk.proofs.edit.edit_in.Goals as goal

@@ -1,6 +1,5 @@
 use Rattle.std.proofs.Common.{◌≡◌, Bool, true, false, cond, Err, refl, sym, subst, ◌∙◌}
-use Rattle.sqlite.specs.Held.{state}
-use Rattle.adr_text.specs.declared.refusal.Refusal.TheVariants.{Forbidden}
+use Rattle.adr_db.proofs.Common.{state, Forbidden}
 use Rattle.adr_machine.specs.Edits.{is_allowed, edit_of, edit}
 use Rattle.adr_desk.specs.Edits.{EditsTables, RefusesEdit}
 use Rattle.adr_desk.proofs.edit.edited.Goals as goal

@@ -1,6 +1,5 @@
 use Rattle.std.proofs.Common.{sym, ap, ◌+◌, ℕ, ◌∙◌, arith}
-use Rattle.sqlite.specs.Held.{state}
-use Rattle.sqlite.specs.State.{HasCleanDisk}
+use Rattle.adr_db.proofs.Common.{state, HasCleanDisk}
 use Rattle.adr_db.specs.declared.meta.Meta.{Meta}
 use Rattle.adr_db.specs.Bases.{kept_of, meta_of}
 use Rattle.adr_db.proofs.Results.{handed_on}

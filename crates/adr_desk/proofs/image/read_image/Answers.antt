@@ -1,7 +1,5 @@
 use Rattle.std.proofs.Common.{Some, None, cond, ap, ap₂, List, ◌∙◌, arith}
-use Rattle.sqlite.specs.Held.{state}
-use Rattle.sqlite.specs.State.{HasCleanDisk}
-use Rattle.adr_state.specs.declared.keys.MirrorKey.{MirrorKey}
+use Rattle.adr_db.proofs.Common.{state, HasCleanDisk, MirrorKey}
 use Rattle.adr_state.specs.declared.state.State.{State}
 use Rattle.adr_db.specs.declared.meta.Meta.{Meta}
 use Rattle.adr_desk.proofs.image.read_image.Goals as goal

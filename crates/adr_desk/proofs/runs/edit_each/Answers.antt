@@ -1,7 +1,5 @@
 use Rattle.std.proofs.Common.{◌≡◌, ◌+◌, ◌++◌, [], ◌∷◌, take, sym, ap, refl, subst, ◌∙◌, arith, List, ℕ}
-use Rattle.std.proofs.lemmas.List.{take_more, take_all, length-take}
-use Rattle.sqlite.specs.Steps.{over_memory}
-use Rattle.sqlite.proofs.Callers.{memory_is_clean}
+use Rattle.adr_db.proofs.Common.{take_more, take_all, length-take, over_memory, memory_is_clean}
 use Rattle.adr_state.specs.States.{empty}
 use Rattle.adr_machine.specs.declared.command.Command.{Command}
 use Rattle.adr_desk.specs.Desks.{shown, settings_of}

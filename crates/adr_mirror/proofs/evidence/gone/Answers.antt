@@ -1,12 +1,5 @@
 use Rattle.std.proofs.Common.{◌≡◌, ◌+◌, length, cond, [], ◌∷◌, refl, sym, ap, subst, ◌∙◌, arith}
-use Rattle.sqlite.specs.Held.{state}
-use Rattle.sqlite.specs.State.{HasCleanDisk}
-use Rattle.adr_text.specs.declared.refusal.Refusal.TheVariants.{LimitReached}
-use Rattle.adr_state.specs.declared.base.Mark.TheVariants.{Dead}
-use Rattle.adr_state.specs.declared.keys.MirrorKey.{MirrorKey}
-use Rattle.adr_state.specs.Mirror.{raised}
-use Rattle.adr_state.specs.BaseChanges.{JoinMarks}
-use Rattle.adr_state.specs.Evidence.{gone}
+use Rattle.adr_db.proofs.Common.{state, HasCleanDisk, LimitReached, Dead, MirrorKey, raised, JoinMarks, gone}
 use Rattle.adr_db.specs.declared.meta.Meta.{Meta}
 use Rattle.adr_db.specs.Bases.{kept_beside}
 use Rattle.adr_db.proofs.Results.{handed_on, own_refuses}

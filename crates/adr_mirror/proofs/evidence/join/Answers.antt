@@ -1,9 +1,5 @@
 use Rattle.std.proofs.Common.{◌≡◌, ◌+◌, ◌++◌, [], ◌∷◌, take, sym, ap, subst, ◌∙◌, arith, refl}
-use Rattle.std.proofs.lemmas.List.{take_more, take_all}
-use Rattle.sqlite.specs.Held.{state}
-use Rattle.sqlite.specs.State.{HasCleanDisk}
-use Rattle.adr_state.specs.Mirror.{key_of, mark_of, evidence_of, joined}
-use Rattle.adr_sql.proofs.Transactions.{stays_itself, stays_then}
+use Rattle.adr_db.proofs.Common.{take_more, take_all, state, HasCleanDisk, key_of, mark_of, evidence_of, joined, stays_itself, stays_then}
 use Rattle.adr_db.specs.Kept.{Keeps}
 use Rattle.adr_mirror.specs.Raises.{HasRisen, with_joined}
 use Rattle.adr_mirror.proofs.Rising.{none_risen, risen_more, joined_raises, joined_more}

@@ -1,9 +1,5 @@
 use Rattle.std.proofs.Common.{◌≡◌, take, Ok}
-use Rattle.sqlite.specs.Held.{state}
-use Rattle.sqlite.specs.State.{HasCleanDisk}
-use Rattle.adr_text.specs.declared.refusal.Refusal.{Refusal}
-use Rattle.adr_sql.specs.Calls.{Stays}
-use Rattle.adr_state.specs.Mirror.{evidence_of, joined}
+use Rattle.adr_db.proofs.Common.{state, HasCleanDisk, Refusal, Stays, evidence_of, joined}
 use Rattle.adr_db.specs.Kept.{Kept, Keeps}
 use Rattle.adr_mirror.specs.Raises.{HasRisen, with_joined}
 use Rattle.adr_mirror.proofs.evidence.join.Given as goal

@@ -1,10 +1,5 @@
 use Rattle.std.proofs.Common.{◌≡◌, ◌+◌, ◌++◌, [], ◌∷◌, take, sym, ap, subst, ◌∙◌, arith}
-use Rattle.std.proofs.lemmas.List.{take_more, take_all}
-use Rattle.sqlite.specs.Held.{state}
-use Rattle.sqlite.specs.State.{HasCleanDisk}
-use Rattle.adr_sql.proofs.Transactions.{stays_then}
-use Rattle.adr_state.specs.Keys.{mirror_cmp}
-use Rattle.std.specs.BTreeSet.{insert_key}
+use Rattle.adr_db.proofs.Common.{take_more, take_all, state, HasCleanDisk, stays_then, mirror_cmp, insert_key}
 use Rattle.adr_db.specs.Kept.{Keeps}
 use Rattle.adr_mirror.specs.Raises.{with_keys_polled}
 use Rattle.adr_mirror.proofs.Keeping.{polled_more}

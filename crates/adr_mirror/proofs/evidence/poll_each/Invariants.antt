@@ -1,8 +1,5 @@
 use Rattle.std.proofs.Common.{◌≡◌, take, Ok}
-use Rattle.sqlite.specs.Held.{state}
-use Rattle.sqlite.specs.State.{HasCleanDisk}
-use Rattle.adr_text.specs.declared.refusal.Refusal.{Refusal}
-use Rattle.adr_sql.specs.Calls.{Stays}
+use Rattle.adr_db.proofs.Common.{state, HasCleanDisk, Refusal, Stays}
 use Rattle.adr_db.specs.Kept.{Kept, Keeps}
 use Rattle.adr_mirror.specs.Raises.{with_keys_polled}
 use Rattle.adr_mirror.proofs.evidence.poll_each.Given as goal

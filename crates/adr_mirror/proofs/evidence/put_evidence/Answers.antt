@@ -1,12 +1,6 @@
 use Rattle.std.proofs.Common.{◌≡◌, ◌+◌, ◌&&◌, Bool, length, sym, ap, subst, ◌∙◌, arith}
 use Rattle.std.specs.Prelude.{is_some}
-use Rattle.sqlite.specs.Held.{state}
-use Rattle.sqlite.specs.State.{HasCleanDisk}
-use Rattle.adr_text.specs.Refusals.{IsRefusalOf}
-use Rattle.adr_text.specs.declared.refusal.Refusal.TheVariants.{LimitReached}
-use Rattle.adr_state.specs.Mirror.{evidence_of, joined}
-use Rattle.adr_state.specs.BaseChanges.{JoinMarks}
-use Rattle.adr_state.specs.Evidence.{evidence, scan_with}
+use Rattle.adr_db.proofs.Common.{state, HasCleanDisk, IsRefusalOf, LimitReached, evidence_of, joined, JoinMarks, evidence, scan_with}
 use Rattle.adr_db.specs.declared.meta.Meta.{Meta}
 use Rattle.adr_db.specs.Kept.{Keeps}
 use Rattle.adr_db.specs.Bases.{meta_of, kept_beside}

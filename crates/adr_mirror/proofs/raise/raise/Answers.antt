@@ -1,9 +1,5 @@
 use Rattle.std.proofs.Common.{sym, ap, ◌∙◌, arith}
-use Rattle.sqlite.specs.Held.{state}
-use Rattle.sqlite.specs.State.{HasCleanDisk}
-use Rattle.adr_state.specs.declared.base.Mark.{Mark}
-use Rattle.adr_state.specs.declared.keys.MirrorKey.{MirrorKey}
-use Rattle.adr_state.specs.Keys.{mirror_cmp, at}
+use Rattle.adr_db.proofs.Common.{state, HasCleanDisk, Mark, MirrorKey, mirror_cmp, at}
 use Rattle.adr_mirror.specs.Raises.{is_raised}
 use Rattle.adr_mirror.proofs.Rising.{raised_tells}
 use Rattle.adr_mirror.proofs.Keeping.{keeps_same, keeps_raised}

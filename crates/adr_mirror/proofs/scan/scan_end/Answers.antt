@@ -1,8 +1,6 @@
 use Rattle.std.proofs.Common.{None, Ok, false, ap, ◌∙◌, arith}
-use Rattle.sqlite.specs.Held.{state}
-use Rattle.sqlite.specs.State.{HasCleanDisk}
+use Rattle.adr_db.proofs.Common.{state, HasCleanDisk, SetScan}
 use Rattle.adr_db.proofs.Results.{handed_on}
-use Rattle.adr_state.specs.BaseChanges.{SetScan}
 use Rattle.adr_db.specs.declared.meta.Meta.{Meta}
 use Rattle.adr_db.specs.Bases.{kept_beside}
 use Rattle.adr_mirror.proofs.Keeping.{scan_closes, closing_is, end_refused}

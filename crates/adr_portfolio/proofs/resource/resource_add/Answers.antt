@@ -1,13 +1,6 @@
 use Rattle.std.proofs.Common.{refl, sym, ◌∙◌, arith}
-use Rattle.sqlite.specs.Held.{state}
-use Rattle.sqlite.specs.State.{HasCleanDisk}
+use Rattle.adr_db.proofs.Common.{state, HasCleanDisk, Resource, resource_name, fresh, number_in, PortfolioChange, PutResource, putting_resource}
 use Rattle.adr_objects.specs.declared.shown.ResourceObject.{ResourceObject}
-use Rattle.adr_state.specs.declared.portfolio.Resource.{Resource}
-use Rattle.adr_state.specs.Names.{resource_name}
-use Rattle.adr_state.specs.Stamping.{fresh}
-use Rattle.adr_state.specs.Digits.{number_in}
-use Rattle.adr_state.specs.Portfolios.{PortfolioChange, PutResource}
-use Rattle.adr_state.specs.Resources.{putting_resource}
 use Rattle.adr_db.proofs.Results.{handed_on}
 use Rattle.adr_portfolio.proofs.Decisions.{refused_so, new_tested, there}
 use Rattle.adr_portfolio.proofs.resource.resource_add.Goals as goal

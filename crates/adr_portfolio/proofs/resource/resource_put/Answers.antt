@@ -1,12 +1,6 @@
 use Rattle.std.proofs.Common.{refl, sym, ◌∙◌, arith}
-use Rattle.sqlite.specs.Held.{state}
-use Rattle.sqlite.specs.State.{HasCleanDisk}
+use Rattle.adr_db.proofs.Common.{state, HasCleanDisk, Resource, resource_name, modified_at, PortfolioChange, PutResource, putting_resource}
 use Rattle.adr_objects.specs.declared.shown.ResourceObject.{ResourceObject}
-use Rattle.adr_state.specs.declared.portfolio.Resource.{Resource}
-use Rattle.adr_state.specs.Names.{resource_name}
-use Rattle.adr_state.specs.Stamping.{modified_at}
-use Rattle.adr_state.specs.Portfolios.{PortfolioChange, PutResource}
-use Rattle.adr_state.specs.Resources.{putting_resource}
 use Rattle.adr_db.proofs.Results.{handed_on}
 use Rattle.adr_portfolio.proofs.Decisions.{refused_so, free_tested}
 use Rattle.adr_portfolio.proofs.resource.resource_put.Goals as goal

@@ -1,7 +1,5 @@
 use Rattle.std.proofs.Common.{refl, sym, ◌∙◌, arith}
-use Rattle.sqlite.specs.Held.{state}
-use Rattle.sqlite.specs.State.{HasCleanDisk}
-use Rattle.adr_state.specs.Portfolios.{PortfolioChange, DropResource}
+use Rattle.adr_db.proofs.Common.{state, HasCleanDisk, PortfolioChange, DropResource}
 use Rattle.adr_portfolio.proofs.resource.resource_remove.Goals as goal
 
 pub returns-clause-carries : goal.returns-clause-carries

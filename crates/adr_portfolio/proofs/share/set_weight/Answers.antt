@@ -1,7 +1,5 @@
 use Rattle.std.proofs.Common.{rules, ◌≡◌, ◌==◌, true, false, ℕ, ap, sym, subst, ◌∙◌, arith, refl}
-use Rattle.sqlite.specs.Held.{state}
-use Rattle.sqlite.specs.State.{HasCleanDisk}
-use Rattle.adr_state.specs.Portfolios.{PutShare, DropShare, with_share}
+use Rattle.adr_db.proofs.Common.{state, HasCleanDisk, PutShare, DropShare, with_share}
 use Rattle.adr_db.specs.Kept.{Keeps, with_portfolio}
 use Rattle.adr_db.proofs.Results.{on_then}
 use Rattle.adr_portfolio.proofs.share.set_weight.Goals as goal

@@ -1,12 +1,6 @@
 use Rattle.std.proofs.Common.{refl, arith}
-use Rattle.sqlite.specs.Held.{state}
-use Rattle.sqlite.specs.State.{HasCleanDisk}
+use Rattle.adr_db.proofs.Common.{state, HasCleanDisk, Ven, ven_name, fresh, PortfolioChange, PutVen, putting_ven}
 use Rattle.adr_objects.specs.declared.shown.VenObject.{VenObject}
-use Rattle.adr_state.specs.declared.portfolio.Ven.{Ven}
-use Rattle.adr_state.specs.Names.{ven_name}
-use Rattle.adr_state.specs.Stamping.{fresh}
-use Rattle.adr_state.specs.Portfolios.{PortfolioChange, PutVen}
-use Rattle.adr_state.specs.Vens.{putting_ven}
 use Rattle.adr_db.proofs.Results.{handed_on}
 use Rattle.adr_portfolio.proofs.Decisions.{refused_so, new_tested}
 use Rattle.adr_portfolio.proofs.ven.ven_add.Goals as goal

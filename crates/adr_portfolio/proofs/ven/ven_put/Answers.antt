@@ -1,13 +1,6 @@
 use Rattle.std.proofs.Common.{refl, sym, ◌∙◌, arith}
-use Rattle.sqlite.specs.Held.{state}
-use Rattle.sqlite.specs.State.{HasCleanDisk}
+use Rattle.adr_db.proofs.Common.{state, HasCleanDisk, Ven, number_in, ven_name, modified_at, PortfolioChange, PutVen, putting_ven}
 use Rattle.adr_objects.specs.declared.shown.VenObject.{VenObject}
-use Rattle.adr_state.specs.declared.portfolio.Ven.{Ven}
-use Rattle.adr_state.specs.Digits.{number_in}
-use Rattle.adr_state.specs.Names.{ven_name}
-use Rattle.adr_state.specs.Stamping.{modified_at}
-use Rattle.adr_state.specs.Portfolios.{PortfolioChange, PutVen}
-use Rattle.adr_state.specs.Vens.{putting_ven}
 use Rattle.adr_db.proofs.Results.{handed_on}
 use Rattle.adr_portfolio.proofs.Decisions.{refused_so, free_tested, there}
 use Rattle.adr_portfolio.proofs.ven.ven_put.Goals as goal

@@ -1,8 +1,5 @@
 use Rattle.std.proofs.Common.{refl, sym, ◌∙◌, arith}
-use Rattle.sqlite.specs.Held.{state}
-use Rattle.sqlite.specs.State.{HasCleanDisk}
-use Rattle.adr_state.specs.Digits.{number_in}
-use Rattle.adr_state.specs.Portfolios.{PortfolioChange, DropVen}
+use Rattle.adr_db.proofs.Common.{state, HasCleanDisk, number_in, PortfolioChange, DropVen}
 use Rattle.adr_portfolio.proofs.Decisions.{there}
 use Rattle.adr_portfolio.proofs.ven.ven_remove.Goals as goal
 

@@ -1,7 +1,8 @@
-use Rattle.std.proofs.Common.{◌++◌, ◌∙◌, take, [], append-nil, List, ℕ, IfSome, refl, arith}
+use Rattle.std.proofs.Common.{◌++◌, ◌∙◌, ap, take, [], append-nil, List, ℕ, IfSome, refl, arith}
 use Rattle.std.proofs.KnownBytes.{Consumes-nil, Consumes-trans, Consumes-whole}
-use Rattle.std.proofs.lemmas.Result.{IfOk-weaker, on_ok_weaker, on_err_weaker, err_from_is_err_and}
+use Rattle.std.proofs.lemmas.Result.{IfOk-weaker, on_err_weaker, err_from_is_err_and}
 use Rattle.adr_script.proofs.Readings.{HasRead-nothing, HasRead-append, HasStopped-after, Runs-whole, Stops-whole, Stops-read, short_whole, few_whole, whatever_follows}
+use Rattle.adr_text.specs.Calls.{Calls}
 use Rattle.adr_script.proofs.script.run_script.Given.{Over}
 use Rattle.adr_script.proofs.script.run_script.Goals as goal
 
@@ -26,7 +27,7 @@ loop-preserved g c =
     record {
       calls = omega (arith, ap (λ (calls : Calls). calls.made) c.in-Ok.ensures.calls, before.calls);
       failed = omega (arith, ap (λ (calls : Calls). calls.failed) c.in-Ok.ensures.calls, before.failed);
-      write_failed = piece.no_write_fault cc ∙ before.write_failed;
+      write_failed = piece.no_write_fault (λ e. cc) ∙ before.write_failed;
       bytes = before.bytes ++ take c.in-Ok.n c.pull.new.into;
       consumed = Consumes-trans _ _ _ before.bytes _ before.consumed c.in-Ok.ensures.bytes.0;
       read = HasRead-append piece.was_sound before.read (rw before.settings at piece.ok);
@@ -59,7 +60,7 @@ returns-in_err-take_piece-clause-long_line g c =
     let before = c.loop.invariant in
     let piece = c.in_err-take_piece.ensures in
     let handed = err_from_is_err_and c.from_residual.result c.from_residual.ensures.1 in
-    whatever_follows _ _ _ before.bytes _ _ before.consumed c.in-Ok.ensures.bytes.0 (λ rest e.
+    λ e. whatever_follows _ _ _ before.bytes _ _ before.consumed c.in-Ok.ensures.bytes.0 (λ rest.
     rw c.new.ensures.items at ((HasStopped-after piece.was_sound before.read (rw before.settings at (piece.err rest))).long_line cc))
 
 pub returns-in_err-take_piece-clause-long_script : goal.returns-in_err-take_piece-clause-long_script
@@ -67,7 +68,7 @@ returns-in_err-take_piece-clause-long_script g c =
     let before = c.loop.invariant in
     let piece = c.in_err-take_piece.ensures in
     let handed = err_from_is_err_and c.from_residual.result c.from_residual.ensures.1 in
-    whatever_follows _ _ _ before.bytes _ _ before.consumed c.in-Ok.ensures.bytes.0 (λ rest e.
+    λ e. whatever_follows _ _ _ before.bytes _ _ before.consumed c.in-Ok.ensures.bytes.0 (λ rest.
     rw c.new.ensures.items at ((HasStopped-after piece.was_sound before.read (rw before.settings at (piece.err rest))).long_script cc))
 
 -- the source is at its end: what was read is the text
@@ -90,8 +91,8 @@ returns-then-n-eq0-clause-some g c =
 
 pub returns-then-n-eq0-clause-short_lines : goal.returns-then-n-eq0-clause-short_lines
 returns-then-n-eq0-clause-short_lines g c =
-    on_ok_weaker c.end_line.result (λ written. the_text g c _ (short_whole c.new.ensures.items c.loop.invariant.read)) c.end_line.ensures.no_write_fault
+    IfOk-weaker c.end_line.result _ _ (λ n few. the_text g c _ (short_whole c.new.ensures.items c.loop.invariant.read)) c.end_line.ensures.few
 
 pub returns-then-n-eq0-clause-few_lines : goal.returns-then-n-eq0-clause-few_lines
 returns-then-n-eq0-clause-few_lines g c =
-    on_ok_weaker c.end_line.result (λ written. the_text g c _ (few_whole c.new.ensures.items c.loop.invariant.read refl)) c.end_line.ensures.no_write_fault
+    IfOk-weaker c.end_line.result _ _ (λ n few. the_text g c _ (few_whole c.new.ensures.items c.loop.invariant.read refl)) c.end_line.ensures.few

@@ -15,7 +15,7 @@ loop-byte-preserved g c =
     let byte = c.in_ok-take_byte.ensures in
     record {
       read = rw (take_more c.args.piece.now c.loop-byte.byte-index 0 c.loop-byte-test.true) (HasRead-append byte.was_sound before.read (rw before.settings at byte.ok));
-      write_failed = byte.no_write_fault cc ∙ before.write_failed;
+      write_failed = byte.no_write_fault (λ e. cc) ∙ before.write_failed;
       was_sound = λ sound. before.was_sound (byte.was_sound sound);
       settings = byte.same_settings ∙ before.settings;
     }

@@ -1,7 +1,6 @@
 use Rattle.std.proofs.lemmas.Result.{err_from_is_err_and}
 use Rattle.std.proofs.Common.{map, drop, subst, arith, rules, drop-cons, add-one, suc}
-use Rattle.sqlite.specs.State.{HasCleanDisk}
-use Rattle.sqlite.specs.Held.{state}
+use Rattle.adr_sql.proofs.Common.{HasCleanDisk, state}
 use Rattle.adr_sql.specs.Creations.{IsUnderWay}
 use Rattle.adr_sql.specs.Schemas.{no_schema}
 use Rattle.adr_sql.proofs.Creations.{makes_one, HaveRun, one_ran, one_failed}

@@ -1,8 +1,6 @@
 use Rattle.std.proofs.Common.{◌≡◌, List, [], map, drop, Ok, IsTrue}
 use Rattle.sqlite.specs.Table.{Table}
-use Rattle.sqlite.specs.Held.{state}
-use Rattle.sqlite.specs.State.{HasCleanDisk}
-use Rattle.sqlite.specs.declared.error.Error.{Error}
+use Rattle.adr_sql.proofs.Common.{state, HasCleanDisk, Error}
 use Rattle.adr_sql.specs.Contents.{Holds}
 use Rattle.adr_sql.specs.Schemas.{no_schema}
 use Rattle.adr_sql.specs.Creations.{Makes, IsUnderWay}

@@ -1,9 +1,5 @@
 use Rattle.std.proofs.Common.{Result, Ok, Err, IfOk, ◌∙◌, ◌≡◌}
-use Rattle.adr_text.specs.declared.refusal.Refusal.{Refusal}
-use Rattle.adr_state.specs.declared.base.Mark.{Mark}
-use Rattle.adr_text.specs.Refusals.{Gives}
-use Rattle.sqlite_value.specs.Order.{Row}
-use Rattle.adr_sql.specs.Keys.{cells}
+use Rattle.adr_db.proofs.Common.{Refusal, Mark, Gives, Row, cells}
 use Rattle.adr_db.specs.declared.mirror.MarkColumns.{MarkColumns}
 use Rattle.adr_db.specs.Rows.{columns_row, mark_columns, mark_from}
 use Rattle.adr_db.specs.Kept.{IsMark}

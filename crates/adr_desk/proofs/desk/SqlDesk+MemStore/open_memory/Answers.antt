@@ -1,6 +1,4 @@
-use Rattle.sqlite.specs.Held.{state}
-use Rattle.sqlite.specs.Steps.{over_memory}
-use Rattle.sqlite.proofs.Callers.{memory_is_clean}
+use Rattle.adr_db.proofs.Common.{state, over_memory, memory_is_clean}
 use Rattle.adr_desk.proofs.Kept.{holds_none}
 use Rattle.adr_desk.proofs.desk.SqlDesk+MemStore.open_memory.Goals as goal
 

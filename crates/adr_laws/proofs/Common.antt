@@ -1,0 +1,25 @@
+-- Names that the proofs of this crate take from elsewhere.
+pub use Rattle.std.proofs.lemmas.Bool.{and_cases, both_ways, cond-false, cond_both, false_from_ne_true, false≢true, not-false, not-true}
+pub use Rattle.std.proofs.lemmas.Cmp.{eq_by_cmp_equiv, nat_cmp_total, nat_eq_equiv, ranked}
+pub use Rattle.std.proofs.lemmas.List.{get_or-map, map-append, map-id}
+pub use Rattle.std.proofs.lemmas.List.Elements.{All-append, All-cons, All-contains, All-contains_itself, All-filter, All-from_get_or, All-from_recursion, All-head, All-map, All-nil, All-tail, All-weaker, filter-append, filter_passes, recursion_from_All}
+pub use Rattle.std.proofs.lemmas.Map.Keys.{IsDistinct-from_sorted, sorted_tail}
+pub use Rattle.std.proofs.lemmas.Map.Lookups.{CmpEqualImpliesEq, exact_bytes, exact_pairs, exact_unsigned}
+pub use Rattle.std.proofs.lemmas.Map.Views.{All-after_first, All-keys-insert_entry, All-map-remove_entry, Contains-from_lookup, IfSome-lookup_from_All, tells_apart}
+pub use Rattle.std.specs.BTreeMap.{insert_entry, is_at}
+pub use Rattle.std.specs.Cmp.{IsTotalOrder, unsigned_Decides, unsigned_tied}
+pub use Rattle.std.specs.List.{All, AllByRecursion, AllPairs, Contains, flat_map, list_any, zip}
+pub use Rattle.std.specs.List.Sorted.{IsNonDecreasing}
+unfoldable pub use Rattle.std.specs.List.Sorted.{IsStrictlySortedBy}
+pub use Rattle.std.specs.Map.{keys_of, remove_entry, values_of}
+pub use Rattle.std.specs.Ordering.{is_eq, match_ordering, nat_cmp, ordering_reverse}
+pub use Rattle.adr_text.specs.declared.refusal.Refusal.{Refusal}
+pub use Rattle.adr_state.specs.BaseChanges.{BaseChange, ChangePortfolio, JoinMarks, SetScan, changed}
+pub use Rattle.adr_state.specs.Keys.{at, id_cmp, map_of, mirror_cmp, share_cmp, view_cmp, with_rows}
+pub use Rattle.adr_state.specs.Names.{if_free, if_new, is_full, is_taken, is_taken_by_another, resource_name, ven_name}
+pub use Rattle.adr_state.specs.States.{empty}
+pub use Rattle.adr_state.specs.declared.base.Base.{Base}
+pub use Rattle.adr_state.specs.declared.limits.Settings.{Settings}
+pub use Rattle.adr_state.specs.declared.state.State.{State}
+pub use Rattle.adr_machine.specs.Runs.{IsRun, IsTaken, stands, state_after, step_at, told}
+pub use Rattle.adr_machine.specs.declared.command.Command.{Command}
