@@ -144,6 +144,7 @@ impl io::Write for FailsAfter<'_> {
 
 fn run_to_failing_writer<L: Ledger>(
     alloc: Global,
+    script: Vec<u8>,
     until: u64,
     out: &mut Vec<u8>,
     writes: Blank,
@@ -152,16 +153,24 @@ fn run_to_failing_writer<L: Ledger>(
     requires write_parts { writes.parts ≡ L.parts }
     requires write_two { 1 < writes.parts }
 {
-    let script = SCRIPT.as_bytes().to_vec(alloc)?;
     let mut sink = Writer::<FailsAfter<'_>, L>::new(FailsAfter { out, until }, writes);
     run_into::<Brand, _>(alloc, script, 4096, None, &mut sink, Blank::new(2))
+}
+
+fn writes_until(
+    alloc: Global,
+    until: u64,
+    out: &mut Vec<u8>,
+) -> Result<Result<u64, ScriptFault>, Refusal> {
+    let script = SCRIPT.as_bytes().to_vec(alloc)?;
+    run_to_failing_writer::<Brand>(alloc, script, until, out, Blank::new(2))
 }
 
 // Whether the script ends with a write fault where the write after `until` others fails, and the lines
 // before are written, no more and no less.
 fn ends_where_a_write_fails(alloc: Global, until: u64) -> Result<bool, Refusal> {
     let mut out = Vec::new(alloc);
-    let ended = run_to_failing_writer::<Brand>(alloc, until, &mut out, Blank::new(2))?;
+    let ended = writes_until(alloc, until, &mut out)?;
     Ok(ended == Err(ScriptFault::Write) && out.as_slice() == first_lines(until as usize))
 }
 
