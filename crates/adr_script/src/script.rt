@@ -130,7 +130,8 @@ fn take_piece<D: Desk, W: Sink>(
 /// Runs the lines of a script as they come, each in its turn, and answers how many were printed.
 ///
 /// A line has at most 1,048,576 bytes without its LF, and there are at most 1,000,000 lines; an empty
-/// one counts there and is passed over. The lines before a fault are all answered and printed.
+/// one counts there and is passed over. Where a limit is passed, all lines before it are answered and
+/// printed; after any other fault the first lines are, and of what the last of them prints maybe a part.
 pub fn run_script<D: Desk, S: Source, W: Sink>(
     alloc: Global,
     desk: &mut D,
