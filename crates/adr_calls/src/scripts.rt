@@ -120,19 +120,23 @@ fn writes(
     run_to_failing::<Brand>(alloc, script, most, until, Blank::new(2))
 }
 
-// A writer of which the call after `until` others fails.
+// A writer of which the call after `until` others fails, and those behind it go well.
 #[derive(Drop)]
 struct FailsAfter<'v> {
     out: &'v mut Vec<u8>,
-    until: u64,
+    until: Option<u64>,
 }
 
 impl io::Write for FailsAfter<'_> {
     fn write(&mut self, bytes: &[u8]) -> io::Result<usize> {
-        if self.until == 0 {
-            return Err(io::ErrorKind::Other.into());
+        match self.until {
+            Some(0) => {
+                self.until = None;
+                return Err(io::ErrorKind::Other.into());
+            }
+            Some(n) => self.until = Some(n - 1),
+            None => {}
         }
-        self.until -= 1;
         self.out.extend_from_slice(bytes)?;
         Ok(bytes.len())
     }
@@ -153,7 +157,13 @@ fn run_to_failing_writer<L: Ledger>(
     requires write_parts { writes.parts ≡ L.parts }
     requires write_two { 1 < writes.parts }
 {
-    let mut sink = Writer::<FailsAfter<'_>, L>::new(FailsAfter { out, until }, writes);
+    let mut sink = Writer::<FailsAfter<'_>, L>::new(
+        FailsAfter {
+            out,
+            until: Some(until),
+        },
+        writes,
+    );
     run_into::<Brand, _>(alloc, script, 4096, None, &mut sink, Blank::new(2))
 }
 
