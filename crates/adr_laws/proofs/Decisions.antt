@@ -1,8 +1,9 @@
 -- What a command decides fits the base, and what a step makes of it: the one walk over the commands. The laws walk over the kinds of change.
-use Rattle.std.proofs.Common.{◌≡◌, ℕ, ◌+◌, Bool, true, false, cond, ◌==◌, List, [], ◌∷◌, Option, Some, None, Result, Ok, Err, IfOk, refl, ap, subst}
+use Rattle.std.proofs.Common.{◌≡◌, ℕ, ◌≤◌, ◌+◌, Bool, true, false, cond, ◌==◌, List, [], ◌∷◌, Option, Some, None, Result, Ok, Err, IfOk, refl, ap, subst, arith}
 use Rattle.std.specs.Prelude.{nat_lt, nat_le, is_some, IsSome, IfSome, option_map, option_and_then}
 use Rattle.std.specs.Option.{option_map_or}
 use Rattle.adr_laws.proofs.Common.{nat_cmp, unsigned_Decides, cond_both, Refusal, Base, at, ven_name, resource_name, is_taken, is_taken_by_another, is_full, BaseChange, JoinMarks, ChangePortfolio, changed, Command, Settings, State, step_at}
+use Rattle.std.proofs.lemmas.Bool.{eqb-false, ltb-false}
 use Rattle.adr_text.specs.Refusals.{◌>>=◌}
 use Rattle.adr_text.specs.declared.refusal.Refusal.TheVariants as refusal
 use Rattle.adr_state.specs.declared.base.Mark.{Mark}
@@ -26,7 +27,7 @@ use Rattle.adr_machine.specs.declared.command.Command.TheVariants.{Evidence, Gon
 use Rattle.adr_state.specs.Serials.{drawn}
 use Rattle.adr_machine.specs.Edits.{Decision, is_allowed, counted, of_portfolio, draws_number, decided, numbered, edit_of, edit}
 use Rattle.adr_machine.specs.Steps.{committed}
-use Rattle.adr_laws.specs.Laws.{HasVen, HasResource, evidence_in}
+use Rattle.adr_laws.specs.Laws.{HasVen, HasResource, evidence_in, HasWeight}
 use Rattle.adr_laws.proofs.EditLemmas.{tested, first_then, found_then, new_then, free_then, whatever}
 use Rattle.adr_laws.proofs.NameLemmas.{Free, free_new, free_again}
 use Rattle.adr_laws.proofs.NumberLemmas.{IsNumber, serial_then}
@@ -36,7 +37,7 @@ use Rattle.adr_laws.proofs.NumberLemmas.{IsNumber, serial_then}
 abbrev pub FitsPortfolio : ℕ → Bool → Portfolio → PortfolioChange → Type 0
 FitsPortfolio next draws p (PutVen n ven) = IsNumber next draws p.vens n × Free ven_name n ven.name p.vens
 FitsPortfolio next draws p (PutResource n resource) = IsNumber next draws p.resources n × Free resource_name n resource.name p.resources × HasVen p.vens (n, resource)
-FitsPortfolio next draws p (PutShare key weight) = HasResource p.resources (key, weight)
+FitsPortfolio next draws p (PutShare key weight) = HasResource p.resources (key, weight) × HasWeight (key, weight)
 FitsPortfolio next draws p _ = Unit {0}
 
 abbrev pub FitsBase : ℕ → Bool → Base → BaseChange → Type 0
@@ -94,6 +95,10 @@ under_there ven id p =
     passing (λ r. IsFound p.resources r.0) (IsHeld p) (λ r. is_under ven p r.1) (resource_with_id id p) (resource_there id p)
     (λ r there under. (there, owner_there p.vens r.1.ven (ven_at ven p) (number_there p.vens (ven_with_id ven p) (ven_there ven p)) under))
 
+-- a weight that is neither 0 nor above the largest
+has_weight : (weight : ℕ) → (weight == 0) ≡ false → nat_lt most_weight weight ≡ false → (1 ≤ weight) × (weight ≤ most_weight)
+has_weight weight some small = (omega (arith, eqb-false weight 0 some), ltb-false most_weight weight small)
+
 -- ---- each command
 
 module _ (limits : Limits) (now next : ℕ) (base : Base) where
@@ -117,7 +122,7 @@ module _ (limits : Limits) (now next : ℕ) (base : Base) where
       let fits = FitsPortfolio next false base.portfolio in
       tested (Draws false) (nat_lt most_weight weight) refusal.BadShare _ (λ small.
       first_then (Draws false) fits (weight_set limits key weight base.portfolio) _
-      (cond_both (weight == 0) (Ok (DropShare key)) _ (λ r. IfOk r fits) (λ none. tt) (λ some. tested fits (is_beyond limits key base.portfolio.shares) refusal.LimitReached (Ok (PutShare key weight)) (λ room. there))) (λ change h. h))
+      (cond_both (weight == 0) (Ok (DropShare key)) _ (λ r. IfOk r fits) (λ none. tt) (λ some. tested fits (is_beyond limits key base.portfolio.shares) refusal.LimitReached (Ok (PutShare key weight)) (λ room. (there, has_weight weight some small)))) (λ change h. h))
 
   pub decided_fits : (c : Command) → IfOk (decided limits now next base c) (Fits next (draws_number c) base (evidence_in c))
   decided_fits (Evidence founds polled) = counted_fits (evidence_of founds) _ (joining_fits (evidence_of founds) (scan_with base.scan founds polled))

@@ -1,6 +1,7 @@
 pub mod Common
 pub mod RowLemmas
 pub mod OrderLemmas
+pub mod KeyLemmas
 pub mod NameLemmas
 pub mod NumberLemmas
 pub mod EditLemmas

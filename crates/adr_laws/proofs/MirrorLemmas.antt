@@ -1,15 +1,17 @@
 -- The mirror after a run is the join of all accepted evidence.
-use Rattle.std.proofs.Common.{◌≡◌, ℕ, ◌⊎◌, inl, inr, List, [], ◌∷◌, Some, None, refl, sym, ap, ◌∙◌}
-use Rattle.adr_laws.proofs.Common.{Contains, Base, Settings, State, mirror_cmp, at, BaseChange, JoinMarks, SetScan, ChangePortfolio, changed, empty, Command, state_after, step_at}
+use Rattle.std.proofs.Common.{◌≡◌, ℕ, ◌⊎◌, inl, inr, List, [], ◌∷◌, Some, None, refl, sym, ap, subst, ◌∙◌}
+use Rattle.adr_laws.proofs.Common.{Contains, cond_both, insert_entry, Base, Settings, State, mirror_cmp, at, BaseChange, JoinMarks, SetScan, ChangePortfolio, changed, empty, Command, state_after, step_at}
 use Rattle.std.proofs.lemmas.List.Sums.{fold-append}
 use Rattle.adr_state.specs.declared.base.Mark.{Mark}
+use Rattle.adr_state.specs.declared.keys.MirrorKey.{MirrorKey}
 use Rattle.adr_state.specs.Marks.{is_below}
 use Rattle.adr_state.specs.Mirror.{raised, joined}
 use Rattle.adr_state.specs.Laws.{IsJoined}
-use Rattle.adr_state.proofs.LawLemmas.{joins_greatest}
+use Rattle.adr_state.proofs.LawLemmas.{joins_greatest, key_order}
 use Rattle.adr_laws.specs.Standing.{state_of}
 use Rattle.adr_laws.specs.Laws.{accepted_in, accepted_evidence, MirrorIsGreatest}
 use Rattle.adr_laws.proofs.Decisions.{marks_in, after_step}
+use Rattle.adr_laws.proofs.OrderLemmas.{InOrder, none_sorted, in_order_put}
 
 -- each kind of change joins the mirror with what it tells
 change_joins : (change : BaseChange) (base : Base) → (changed change base).mirror ≡ joined base.mirror (marks_in change)
@@ -44,3 +46,13 @@ mirror_greatest settings cs key =
       none_is_above = λ mark came. ap (λ known. is_below known mark) whole ∙ join.reaches_each key mark came;
       is_one_of_them = λ mark known. one_came mark (Contains all (key, mark)) (join.is_one_of_them key mark (sym whole ∙ known));
     }
+
+-- ---- the order of its keys
+
+joined_in_order : (mirror evidence : List (MirrorKey × Mark)) → InOrder mirror_cmp mirror → InOrder mirror_cmp (joined mirror evidence)
+joined_in_order mirror [] h = h
+joined_in_order mirror (e ∷ es) h =
+    joined_in_order (raised mirror e) es (cond_both (is_below (at mirror_cmp e.0 mirror) e.1) (insert_entry mirror_cmp mirror e.0 e.1) mirror (InOrder mirror_cmp) (λ above. in_order_put key_order e.0 e.1 mirror h) (λ level. h))
+
+pub mirror_in_order : (settings : Settings) (cs : List (ℕ × Command)) → InOrder mirror_cmp (state_of (step_at settings) empty cs).base.mirror
+mirror_in_order settings cs = subst (InOrder mirror_cmp) (sym (run_joins settings empty cs)) (joined_in_order [] (accepted_evidence settings empty cs) (none_sorted mirror_cmp))

@@ -16,11 +16,11 @@ pub each_row : {K X : Type 0} (P : K → Type 0) (es : List (K × X)) → All P 
 each_row P es h = λ i d l. subst P (get_or-map (λ e. e.0) es i d d.0 l) (h i d.0 (omega (arith, l, length-keys_of es)))
 
 -- a key behind another
-abbrev Behind : {K : Type 0} → (K → K → Ordering) → K → K → Type 0
+abbrev pub Behind : {K : Type 0} → (K → K → Ordering) → K → K → Type 0
 Behind cmp k y = cmp k y ≡ Less
 
 -- what is shown for `All`
-through : {K : Type 0} (P Q : K → Type 0) (ks ls : List K) → (All P ks → All Q ls) → AllByRecursion P ks → AllByRecursion Q ls
+pub through : {K L : Type 0} (P : K → Type 0) (Q : L → Type 0) (ks : List K) (ls : List L) → (All P ks → All Q ls) → AllByRecursion P ks → AllByRecursion Q ls
 through P Q ks ls shown h = recursion_from_All Q ls (shown (All-from_recursion P ks h))
 
 module _ {K X : Type 0} (cmp : K → K → Ordering) where

@@ -1,7 +1,7 @@
--- After every step each resource has its ven and each share its resource, no two vens have one name, and no two resources; and each has a number of its own, that is drawn once.
+-- After every step each resource has its ven, each share its resource and a weight, no two vens have one name, and no two resources; and each has a number of its own, that is drawn once.
 use Rattle.std.proofs.Common.{◌≡◌, ℕ, ◌+◌, ◌≤◌, Bool, true, false, not, ◌==◌, List, Option, Some, None, inl, inr, sym, subst, arith, refl}
 use Rattle.std.specs.Prelude.{IsSome}
-use Rattle.adr_laws.proofs.Common.{All, Contains, nat_cmp, keys_of, is_at, nat_cmp_total, eq_by_cmp_equiv, IsDistinct-from_sorted, CmpEqualImpliesEq, exact_unsigned, exact_bytes, exact_pairs, Base, Settings, State, id_cmp, share_cmp, at, empty, ven_name, resource_name, BaseChange, JoinMarks, SetScan, ChangePortfolio, changed, Command, state_after, step_at}
+use Rattle.adr_laws.proofs.Common.{All, Contains, nat_cmp, keys_of, is_at, nat_cmp_total, eq_by_cmp_equiv, IsDistinct-from_sorted, exact_unsigned, Base, Settings, State, share_cmp, at, empty, ven_name, resource_name, BaseChange, JoinMarks, SetScan, ChangePortfolio, changed, Command, state_after, step_at}
 use Rattle.std.specs.Option.{option_map_or}
 use Rattle.std.proofs.lemmas.Map.Entries.{option_filter, lookup-filter-values}
 use Rattle.adr_state.specs.declared.portfolio.Portfolio.{Portfolio}
@@ -10,26 +10,23 @@ use Rattle.adr_state.specs.declared.keys.ShareKey.{ShareKey}
 use Rattle.adr_state.specs.Portfolios.{is_of_ven, PortfolioChange, PutVen, DropVen, PutResource, DropResource, PutShare, DropShare, portfolio_after}
 use Rattle.adr_machine.specs.Edits.{draws_number}
 use Rattle.adr_laws.specs.Standing.{state_of}
-use Rattle.adr_laws.specs.Laws.{HasVen, HasResource, NamesDiffer, PortfolioIsWhole, AreDrawnOnce, NumbersAreOwn, NumbersAreDrawnOnce}
+use Rattle.adr_laws.specs.Laws.{HasVen, HasResource, HasWeight, NamesDiffer, PortfolioIsWhole, RowsStandInOrder, AreDrawnOnce, NumbersAreOwn, NumbersAreDrawnOnce}
 use Rattle.adr_laws.proofs.Decisions.{FitsPortfolio, FitsBase, after_step}
+use Rattle.adr_laws.proofs.MirrorLemmas.{mirror_in_order}
 use Rattle.adr_laws.proofs.NumberLemmas.{serial_then, rises, HaveOwn, BothOwn, none_own, turned, some_both, put_both, both_from_here, each_number, numbers_differ, each_drawn}
+use Rattle.adr_laws.proofs.KeyLemmas.{share_exact}
 use Rattle.adr_laws.proofs.OrderLemmas.{in_order_removed, in_order_filtered}
 use Rattle.adr_laws.proofs.RowLemmas.{each_there, from_put, from_removal, from_filter, found_after_put, found_after_removal}
 use Rattle.adr_laws.proofs.RunLemmas.{run_keeps, state_of-append}
-
-share_exact : CmpEqualImpliesEq share_cmp
-share_exact a b h =
-    let same : (a.program, a.resource) ≡ (b.program, b.resource) = exact_pairs id_cmp nat_cmp exact_bytes exact_unsigned (a.program, a.resource) (b.program, b.resource) h in
-    λ j. record { program = (same j).0; resource = (same j).1 }
 
 -- a resource that is there and of another ven passes the filter of those
 of_another : (n : ℕ) (o : Option Resource) → IsSome o → not (option_map_or (λ r. r.ven == n) o false) ≡ true → IsSome (option_filter (λ r. not (r.ven == n)) o)
 of_another n None found other = found
 of_another n (Some r) found other = rw other refl
 
--- each resource has its ven, and each share its resource
+-- each resource has its ven, and each share its resource and a weight
 abbrev Stands : Portfolio → Type 0
-Stands p = ((r : ℕ × Resource) → Contains p.resources r → HasVen p.vens r) × ((s : ShareKey × ℕ) → Contains p.shares s → HasResource p.resources s)
+Stands p = ((r : ℕ × Resource) → Contains p.resources r → HasVen p.vens r) × ((s : ShareKey × ℕ) → Contains p.shares s → HasResource p.resources s) × ((s : ShareKey × ℕ) → Contains p.shares s → HasWeight s)
 
 module _ (first : Base) where
   -- the portfolio stands, and its vens and resources have their own since the first, when the serial is that
@@ -44,17 +41,18 @@ module _ (first : Base) where
   later serial next p passed h = (some_both h.0 p.vens p.resources passed h.0.ones.in_order (λ v there. there) h.0.others.in_order (λ r there. there), h.1)
 
   change_whole : (serial : ℕ) (draws : Bool) (p : Portfolio) (change : PortfolioChange) → FitsPortfolio (serial + 1) draws p change → AreWhole serial p → AreWhole (serial_then serial draws) (portfolio_after change p)
-  change_whole serial draws p (PutVen n ven) fits h = (put_both h.0 draws n ven fits.0 fits.1, (λ r there. found_after_put r.1.ven p.vens n ven (h.1.0 r there), h.1.1))
+  change_whole serial draws p (PutVen n ven) fits h = (put_both h.0 draws n ven fits.0 fits.1, (λ r there. found_after_put r.1.ven p.vens n ven (h.1.0 r there), h.1.1, h.1.2))
   change_whole serial draws p (DropVen n) fits h =
       let left = from_filter (λ (r : ℕ × Resource). not (r.1.ven == n)) p.resources in
+      let kept = from_filter (λ (s : ShareKey × ℕ). not (is_of_ven n p.resources s.0.resource)) p.shares in
       let sorted = h.0.others.in_order in (
         some_both h.0 _ _ (rises serial draws) (in_order_removed nat_cmp (is_at (nat_cmp n)) p.vens h.0.ones.in_order) (from_removal (is_at (nat_cmp n)) p.vens) (in_order_filtered nat_cmp (λ r. not (r.1.ven == n)) p.resources sorted) (λ r there. (left r there).0),
         (
           λ r there. found_after_removal r.1.ven p.vens n h.0.ones.in_order (left r there).1 (h.1.0 r (left r there).0),
           λ s there.
-              let kept = from_filter (λ (s : ShareKey × ℕ). not (is_of_ven n p.resources s.0.resource)) p.shares s there in
               subst IsSome (sym (lookup-filter-values (eq_by_cmp_equiv nat_cmp_total) (λ r. not (r.ven == n)) s.0.resource p.resources (IsDistinct-from_sorted nat_cmp (keys_of p.resources) sorted)))
-              (of_another n (at nat_cmp s.0.resource p.resources) (h.1.1 s kept.0) kept.1),
+              (of_another n (at nat_cmp s.0.resource p.resources) (h.1.1 s (kept s there).0) (kept s there).1),
+          λ s there. h.1.2 s (kept s there).0,
         ),
       )
   change_whole serial draws p (PutResource n resource) fits h = (
@@ -62,23 +60,32 @@ module _ (first : Base) where
     (
       λ r there. elim (from_put exact_unsigned n resource p.resources r there) [ inl old ↦ h.1.0 r old | inr new ↦ subst (HasVen p.vens) (sym new) fits.2 ],
       λ s there. found_after_put s.0.resource p.resources n resource (h.1.1 s there),
+      h.1.2,
     ),
   )
-  change_whole serial draws p (DropResource n) fits h = (
-    some_both h.0 _ _ (rises serial draws) h.0.ones.in_order (λ v there. there) (in_order_removed nat_cmp (is_at (nat_cmp n)) p.resources h.0.others.in_order) (from_removal (is_at (nat_cmp n)) p.resources),
-    (
-      λ r there. h.1.0 r (from_removal (is_at (nat_cmp n)) p.resources r there),
-      λ s there.
-          let kept = from_filter (λ (s : ShareKey × ℕ). not (s.0.resource == n)) p.shares s there in
-          found_after_removal s.0.resource p.resources n h.0.others.in_order kept.1 (h.1.1 s kept.0),
-    ),
-  )
+  change_whole serial draws p (DropResource n) fits h =
+      let kept = from_filter (λ (s : ShareKey × ℕ). not (s.0.resource == n)) p.shares in (
+        some_both h.0 _ _ (rises serial draws) h.0.ones.in_order (λ v there. there) (in_order_removed nat_cmp (is_at (nat_cmp n)) p.resources h.0.others.in_order) (from_removal (is_at (nat_cmp n)) p.resources),
+        (
+          λ r there. h.1.0 r (from_removal (is_at (nat_cmp n)) p.resources r there),
+          λ s there. found_after_removal s.0.resource p.resources n h.0.others.in_order (kept s there).1 (h.1.1 s (kept s there).0),
+          λ s there. h.1.2 s (kept s there).0,
+        ),
+      )
   change_whole serial draws p (PutShare key weight) fits h =
       let same = later serial (serial_then serial draws) p (rises serial draws) h in
-      (same.0, (h.1.0, λ s there. elim (from_put share_exact key weight p.shares s there) [ inl old ↦ h.1.1 s old | inr new ↦ subst (HasResource p.resources) (sym new) fits ]))
+      let either = from_put share_exact key weight p.shares in (
+        same.0,
+        (
+          h.1.0,
+          λ s there. elim (either s there) [ inl old ↦ h.1.1 s old | inr new ↦ subst (HasResource p.resources) (sym new) fits.0 ],
+          λ s there. elim (either s there) [ inl old ↦ h.1.2 s old | inr new ↦ subst HasWeight (sym new) fits.1 ],
+        ),
+      )
   change_whole serial draws p (DropShare key) fits h =
       let same = later serial (serial_then serial draws) p (rises serial draws) h in
-      (same.0, (h.1.0, λ s there. h.1.1 s (from_removal (is_at (share_cmp key)) p.shares s there)))
+      let left = from_removal (is_at (share_cmp key)) p.shares in
+      (same.0, (h.1.0, λ s there. h.1.1 s (left s there), λ s there. h.1.2 s (left s there)))
 
   base_whole : (draws : Bool) (base : Base) (change : BaseChange) → FitsBase (base.serial + 1) draws base change → Whole base → AreWhole (serial_then base.serial draws) (changed change base).portfolio
   base_whole draws base (JoinMarks marks scan) fits h = later base.serial (serial_then base.serial draws) base.portfolio (rises base.serial draws) h
@@ -95,7 +102,7 @@ after settings cs = state_of (step_at settings) empty cs
 
 -- nothing is there at first
 whole_after : (settings : Settings) (cs : List (ℕ × Command)) → Whole empty.base (after settings cs).base
-whole_after settings cs = run_whole empty.base settings empty cs (none_own, (λ r none. absurd (omega (arith, none.1)), λ s none. absurd (omega (arith, none.1))))
+whole_after settings cs = run_whole empty.base settings empty cs (none_own, (λ r none. absurd (omega (arith, none.1)), λ s none. absurd (omega (arith, none.1)), λ s none. absurd (omega (arith, none.1))))
 
 -- no two rows of those of one kind have one name
 all_differ : {V : Type 0} {name : V → List ℕ} {first : ℕ} {had : List ℕ} {serial : ℕ} (rows : List (ℕ × V)) → HaveOwn name first had serial rows → NamesDiffer name rows
@@ -108,9 +115,13 @@ portfolio_whole settings cs =
     record {
       resources_have_vens = each_there (HasVen base.portfolio.vens) base.portfolio.resources h.1.0;
       shares_have_resources = each_there (HasResource base.portfolio.resources) base.portfolio.shares h.1.1;
+      shares_have_weights = each_there HasWeight base.portfolio.shares h.1.2;
       ven_names_differ = all_differ base.portfolio.vens h.0.ones;
       resource_names_differ = all_differ base.portfolio.resources h.0.others;
     }
+
+pub rows_in_order : RowsStandInOrder
+rows_in_order settings cs = record { upstream_keys = mirror_in_order settings cs; resources = (whole_after settings cs).0.others.in_order }
 
 pub numbers_own : NumbersAreOwn
 numbers_own settings cs =

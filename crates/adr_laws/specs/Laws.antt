@@ -18,6 +18,7 @@ use Rattle.adr_state.specs.Keys.{mirror_cmp, view_cmp, at}
 use Rattle.adr_state.specs.Marks.{is_below}
 use Rattle.adr_state.specs.Mirror.{evidence_of}
 use Rattle.adr_state.specs.States.{empty}
+use Rattle.adr_state.specs.Weights.{most_weight}
 use Rattle.adr_view.specs.Views.{view}
 use Rattle.adr_machine.specs.declared.answer.Answer.{Answer}
 use Rattle.adr_machine.specs.declared.command.Command.{Command}
@@ -60,20 +61,34 @@ HasVen vens r = IsSome (at nat_cmp r.1.ven vens)
 abbrev pub HasResource : List (ℕ × Resource) → ShareKey × ℕ → Type 0
 HasResource resources s = IsSome (at nat_cmp s.0.resource resources)
 
+-- its weight is from 1 to 1,000,000
+abbrev pub HasWeight : ShareKey × ℕ → Type 0
+HasWeight s = (1 ≤ s.1) × (s.1 ≤ most_weight)
+
 -- rows of one name have one number
 abbrev pub NamesDiffer : {V : Type 0} → (V → List ℕ) → List (ℕ × V) → Type 0
 NamesDiffer name rows = All (λ a. All (λ b. name a.1 ≡ name b.1 → a.0 ≡ b.0) rows) rows
 
--- nothing is left of a ven or of a resource that is not there, and no two vens have one name, nor two resources
+-- nothing is left of a ven or of a resource that is not there, each share has a weight within its bounds, and no two vens have one name, nor two resources
 pub record IsWhole (base : Base) : Type 0 where
   pub resources_have_vens : All (HasVen base.portfolio.vens) base.portfolio.resources
   pub shares_have_resources : All (HasResource base.portfolio.resources) base.portfolio.shares
+  pub shares_have_weights : All HasWeight base.portfolio.shares
   pub ven_names_differ : NamesDiffer (λ ven. ven.name) base.portfolio.vens
   pub resource_names_differ : NamesDiffer (λ resource. resource.name) base.portfolio.resources
 
--- after any run from an empty start, each resource has its ven and each share its resource, and names are unique
+-- after any run from an empty start, each resource has its ven, each share its resource and a weight, and names are unique
 abbrev pub PortfolioIsWhole : Type 0
 PortfolioIsWhole = (settings : Settings) (cs : List (ℕ × Command)) → IsWhole (state_of (step_at settings) empty cs).base
+
+-- upstream keys stand in their order, and resources in that of their numbers, each once
+pub record StandsInOrder (base : Base) : Type 0 where
+  pub upstream_keys : IsStrictlySortedBy mirror_cmp (keys_of base.mirror)
+  pub resources : IsStrictlySortedBy nat_cmp (keys_of base.portfolio.resources)
+
+-- after any run from an empty start they do
+abbrev pub RowsStandInOrder : Type 0
+RowsStandInOrder = (settings : Settings) (cs : List (ℕ × Command)) → StandsInOrder (state_of (step_at settings) empty cs).base
 
 -- ---- numbers
 

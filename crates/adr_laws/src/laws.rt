@@ -1,5 +1,5 @@
 //! Laws over whole runs.
-ghost use Rattle.adr_laws.specs.Laws.{MirrorIsGreatest, PortfolioIsWhole, NumbersAreOwn, NumbersAreDrawnOnce, StampsAreOfTheView, StampsAreInTime, RunsAreOfTheStepsThatStand};
+ghost use Rattle.adr_laws.specs.Laws.{MirrorIsGreatest, PortfolioIsWhole, RowsStandInOrder, NumbersAreOwn, NumbersAreDrawnOnce, StampsAreOfTheView, StampsAreInTime, RunsAreOfTheStepsThatStand};
 
 /// After any run from an empty start, the mirror at a key is the greatest mark in all accepted evidence
 /// for it, whatever was lost, repeated or reordered.
@@ -8,9 +8,16 @@ pub fn mirror_is_greatest()
 {}
 
 /// After any run from an empty start, each resource has its ven and each share its resource, so nothing is
-/// left of what was removed; and no two vens have one name, nor two resources.
+/// left of what was removed; each share has a weight from 1 to 1,000,000; and no two vens have one name, nor
+/// two resources.
 pub fn portfolio_is_whole()
     ensures { PortfolioIsWhole }
+{}
+
+/// After any run from an empty start, the upstream keys stand in their order, each once, and so do the
+/// resources in that of their numbers.
+pub fn rows_stand_in_order()
+    ensures { RowsStandInOrder }
 {}
 
 /// After any run from an empty start, each ven and each resource has a number of its own, from 1 up to the
