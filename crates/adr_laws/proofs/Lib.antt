@@ -1,6 +1,7 @@
 pub mod Common
 pub mod RowLemmas
 pub mod OrderLemmas
+pub mod ListLemmas
 pub mod KeyLemmas
 pub mod NameLemmas
 pub mod NumberLemmas
@@ -10,3 +11,6 @@ pub mod Decisions
 pub mod MirrorLemmas
 pub mod PortfolioLemmas
 pub mod StampLemmas
+pub mod ViewLemmas
+pub mod EnrolledLemmas
+pub mod EventLemmas

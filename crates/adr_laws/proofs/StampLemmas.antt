@@ -17,11 +17,11 @@ use Rattle.adr_laws.proofs.RunLemmas.{run_keeps}
 
 -- ---- the keys that are stamped
 
-view_total : IsTotalOrder view_cmp
+pub view_total : IsTotalOrder view_cmp
 view_total = subst IsTotalOrder view_order total-law
 
 -- what is shown stands in order
-shown_in_order : (base : Base) → InOrder view_cmp (view base)
+pub shown_in_order : (base : Base) → InOrder view_cmp (view base)
 unfolding view
 shown_in_order base = in_order_rows view_total [] (flat_map (mark_rows base) base.mirror) (none_sorted view_cmp)
 

@@ -5,6 +5,7 @@ use Rattle.std.specs.List.Sorted.{IsStrictlySortedBy, IsNonDecreasing}
 use Rattle.std.specs.Map.{keys_of, values_of}
 use Rattle.std.specs.Ordering.{nat_cmp}
 use Rattle.adr_text.specs.declared.refusal.Refusal.{Refusal}
+use Rattle.adr_objects.specs.declared.body.EventBody.{EventBody}
 use Rattle.adr_state.specs.declared.base.Base.{Base}
 use Rattle.adr_state.specs.declared.portfolio.Ven.{Ven}
 use Rattle.adr_state.specs.declared.portfolio.Resource.{Resource}
@@ -17,6 +18,7 @@ use Rattle.adr_state.specs.declared.state.State.{State}
 use Rattle.adr_state.specs.Keys.{mirror_cmp, view_cmp, at}
 use Rattle.adr_state.specs.Marks.{is_below}
 use Rattle.adr_state.specs.Mirror.{evidence_of}
+use Rattle.adr_state.specs.Participants.{participants}
 use Rattle.adr_state.specs.States.{empty}
 use Rattle.adr_state.specs.Weights.{most_weight}
 use Rattle.adr_view.specs.Views.{view}
@@ -24,6 +26,8 @@ use Rattle.adr_machine.specs.declared.answer.Answer.{Answer}
 use Rattle.adr_machine.specs.declared.command.Command.{Command}
 use Rattle.adr_machine.specs.declared.command.Command.TheVariants.{Evidence, Gone}
 use Rattle.adr_machine.specs.Runs.{state_after, stands, step_at, IsRun}
+use Rattle.adr_laws.specs.Enrolled.{enrolled}
+use Rattle.adr_laws.specs.ShownParts.{IsLive, IsSharedOut}
 use Rattle.adr_laws.specs.Standing.{answers_of, state_of, standing}
 
 -- what a command tells of upstream keys
@@ -89,6 +93,20 @@ pub record StandsInOrder (base : Base) : Type 0 where
 -- after any run from an empty start they do
 abbrev pub RowsStandInOrder : Type 0
 RowsStandInOrder = (settings : Settings) (cs : List (ℕ × Command)) → StandsInOrder (state_of (step_at settings) empty cs).base
+
+-- ---- who takes part, and the parts that they are shown
+
+-- where the portfolio is whole, the participants of an event are exactly the resources that are enrolled for it, in their order, each with its weight: none lacks for want of a ven
+abbrev pub ParticipantsLackNone : Type 0
+ParticipantsLackNone = (base : Base) (event : EventBody) → IsWhole base → map (λ p. (p.resource, p.weight)) (participants base.portfolio event) ≡ enrolled base.portfolio event
+
+-- wherever the portfolio is whole and rows stand in order, each live event is shared out
+abbrev pub ShownPartsSumUp : Type 0
+ShownPartsSumUp = (base : Base) (id : List ℕ) (event : EventBody) → IsWhole base → StandsInOrder base → IsLive base id event → IsSharedOut base id event
+
+-- so it is after any run from an empty start
+abbrev pub ShownPartsSumUpAfterRuns : Type 0
+ShownPartsSumUpAfterRuns = (settings : Settings) (cs : List (ℕ × Command)) (id : List ℕ) (event : EventBody) → IsLive (state_of (step_at settings) empty cs).base id event → IsSharedOut (state_of (step_at settings) empty cs).base id event
 
 -- ---- numbers
 

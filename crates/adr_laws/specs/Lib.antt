@@ -1,2 +1,4 @@
 pub mod Standing
+pub mod Enrolled
+pub mod ShownParts
 pub mod Laws

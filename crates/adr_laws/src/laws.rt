@@ -1,5 +1,5 @@
 //! Laws over whole runs.
-ghost use Rattle.adr_laws.specs.Laws.{MirrorIsGreatest, PortfolioIsWhole, RowsStandInOrder, NumbersAreOwn, NumbersAreDrawnOnce, StampsAreOfTheView, StampsAreInTime, RunsAreOfTheStepsThatStand};
+ghost use Rattle.adr_laws.specs.Laws.{MirrorIsGreatest, PortfolioIsWhole, RowsStandInOrder, ParticipantsLackNone, ShownPartsSumUp, ShownPartsSumUpAfterRuns, NumbersAreOwn, NumbersAreDrawnOnce, StampsAreOfTheView, StampsAreInTime, RunsAreOfTheStepsThatStand};
 
 /// After any run from an empty start, the mirror at a key is the greatest mark in all accepted evidence
 /// for it, whatever was lost, repeated or reordered.
@@ -18,6 +18,20 @@ pub fn portfolio_is_whole()
 /// resources in that of their numbers.
 pub fn rows_stand_in_order()
     ensures { RowsStandInOrder }
+{}
+
+/// Where the portfolio is whole, the participants of an event are exactly the resources with a share in its
+/// program and of a name that it is for, in their order, each with its weight.
+pub fn participants_lack_none()
+    ensures { ParticipantsLackNone }
+{}
+
+/// The parts of a setpoint that stand in what is shown, one at the key of each resource that takes part, sum to
+/// it, where one takes part; an interval with no setpoint shows no part, and nobody else is shown the event. It
+/// is so of every whole base whose rows stand in order, and after any run from an empty start.
+pub fn shown_parts_sum_up()
+    ensures base { ShownPartsSumUp }
+    ensures run { ShownPartsSumUpAfterRuns }
 {}
 
 /// After any run from an empty start, each ven and each resource has a number of its own, from 1 up to the

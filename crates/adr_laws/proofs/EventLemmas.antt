@@ -1,0 +1,179 @@
+-- What the view has of an event: each that is enrolled has its part at its key, and nobody else has one.
+use Rattle.std.proofs.Common.{◌≡◌, ℕ, ◌+◌, ℤ, Bool, true, false, cond, List, [], ◌∷◌, length, map, Option, Some, None, refl, sym, ap, subst, ◌∙◌, arith, ◌<◌}
+use Rattle.std.specs.Prelude.{IsSome, is_some, option_map, option_and_then, slice_get}
+use Rattle.std.specs.List.{enumerate_from}
+use Rattle.std.proofs.lemmas.List.Recursion.{or_at}
+use Rattle.std.proofs.lemmas.Option.{slice_get-map}
+use Rattle.std.proofs.lemmas.Cmp.{nat_list_cmp_total, tied_itself}
+use Rattle.adr_laws.proofs.Common.{All, Contains, flat_map, list_any, IsStrictlySortedBy, keys_of, cond_both, eq_by_cmp_equiv, false≢true, All-cons, All-contains, All-map, All-nil, Contains-from_lookup, IsDistinct-from_sorted, tells_apart, nat_cmp, Base, empty, step_at, at, mirror_cmp, view_cmp, lookup-from_Contains, map-map, length-map, get_or_from_slice_get, slice_get_within}
+use Rattle.adr_split.specs.FairSplit.{IsFairSplit}
+use Rattle.adr_split.specs.Laws.{AreWeights}
+use Rattle.adr_split.specs.Parts.{fair_split}
+use Rattle.adr_split.proofs.FairLemmas.{fair_split_is_fair}
+use Rattle.adr_objects.specs.declared.kind.Kind.TheVariants as kind
+use Rattle.adr_objects.specs.declared.body.Body.TheVariants as body
+use Rattle.adr_objects.specs.declared.body.EventBody.{EventBody}
+use Rattle.adr_objects.specs.declared.interval.Interval.{Interval}
+use Rattle.adr_state.specs.declared.base.Mark.{Mark}
+use Rattle.adr_state.specs.declared.base.Mark.TheVariants.{Live}
+use Rattle.adr_state.specs.declared.keys.MirrorKey.{MirrorKey}
+use Rattle.adr_state.specs.declared.keys.ViewKey.{ViewKey}
+use Rattle.adr_state.specs.declared.keys.ViewKey.TheVariants as key
+use Rattle.adr_state.specs.declared.participants.Participant.{Participant}
+use Rattle.adr_state.specs.Participants.{participants}
+use Rattle.adr_state.proofs.LawLemmas.{key_order}
+use Rattle.adr_view.specs.declared.parts.SplitInterval.{SplitInterval}
+use Rattle.adr_view.specs.declared.view.Content.{Content}
+use Rattle.adr_view.specs.declared.view.Content.TheVariants as content
+use Rattle.adr_view.specs.Views.{weights_of, split_interval, interval_at, event_row, rows_for, carries, program_rows, event_rows, mark_rows, view}
+use Rattle.adr_laws.specs.Enrolled.{enrolled, enrolled_numbers, enrolled_weights}
+use Rattle.adr_laws.specs.ShownParts.{part_in, part_shown, AreFairParts, IsLive}
+use Rattle.adr_laws.specs.Laws.{IsWhole, StandsInOrder, ShownPartsSumUp, ShownPartsSumUpAfterRuns}
+use Rattle.adr_laws.specs.Standing.{state_of}
+use Rattle.adr_laws.proofs.EnrolledLemmas.{enrolled_in_order, enrolled_positive, numbers_are, weights_are}
+use Rattle.adr_laws.proofs.KeyLemmas.{mirror_exact, view_exact, made_of, stand_alike, one_row}
+use Rattle.adr_laws.proofs.ListLemmas.{in_map, from_map, in_flat, from_flat, placed, map_by_place, sorted_map, in_order_flat}
+use Rattle.adr_laws.proofs.OrderLemmas.{InOrder, none_sorted, made_in_order}
+use Rattle.adr_laws.proofs.PortfolioLemmas.{portfolio_whole, rows_in_order}
+use Rattle.adr_laws.proofs.StampLemmas.{view_total, shown_in_order}
+use Rattle.adr_laws.proofs.ViewLemmas.{by_mark}
+
+-- ---- the rows of an event
+
+-- their keys, one of each participant
+keys_shown : (id : List ℕ) (event : EventBody) (is : List SplitInterval) (n : ℕ) (ps : List Participant) → keys_of (map (event_row id event is) (enumerate_from n ps)) ≡ map (λ k. key.Event id k) (map (λ p. p.resource) ps)
+keys_shown id event is n [] = refl
+keys_shown id event is n (p ∷ ps) = ap (λ ks. key.Event id p.resource ∷ ks) (keys_shown id event is (n + 1) ps)
+
+-- the part that one of them has
+part_at : (id : List ℕ) (event : EventBody) (weights : List ℕ) (place : ℕ) (i : Interval) (e : ℕ × Participant) → slice_get event.intervals place ≡ Some i
+    → part_in place (event_row id event (map (split_interval weights) event.intervals) e).1 ≡ option_and_then (λ parts. slice_get parts e.0) (option_map (λ v. fair_split v weights) i.setpoint)
+part_at id event weights place i e is =
+    ap (option_and_then (λ shown. shown.part))
+    (slice_get-map (interval_at e.0) (map (split_interval weights) event.intervals) place
+    ∙ ap (option_map (interval_at e.0)) (slice_get-map (split_interval weights) event.intervals place ∙ ap (option_map (split_interval weights)) is))
+
+carries_one : (event : EventBody) (place : ℕ) (i : Interval) (v : ℤ) → slice_get event.intervals place ≡ Some i → i.setpoint ≡ Some v → carries event ≡ true
+carries_one event place i v is carried =
+    let test : Interval → Bool = λ i. is_some i.setpoint in
+    or_at (list_any test) test refl (λ x xs. refl) event.intervals place i (slice_get_within event.intervals place i is) (ap test (get_or_from_slice_get event.intervals place i i is) ∙ ap is_some carried)
+
+from_cond : {A : Type 0} (b : Bool) (xs : List A) (x : A) → Contains (cond b xs []) x → Contains xs x
+from_cond true xs x there = there
+from_cond false xs x there = absurd (omega (arith, there.1))
+
+-- ---- the view as it is made
+
+-- the key of each row was made of the upstream key of its mark
+its_key : (base : Base) (e : MirrorKey × Mark) → All (λ r. made_of r.0 ≡ e.0) (mark_rows base e)
+its_key base =
+    let P : MirrorKey → List (ViewKey × Content) → Type 0 = λ k rows. All (λ r. made_of r.0 ≡ k) rows in
+    by_mark base P (λ k. All-nil (λ r. made_of r.0 ≡ k)) (λ id name. All-cons (λ r. made_of r.0 ≡ record { kind = kind.Program; id = id }) (key.Program id, content.Program name) [] refl (All-nil (λ r. made_of r.0 ≡ record { kind = kind.Program; id = id })))
+    (λ id event.
+    let Its : ViewKey × Content → Type 0 = λ r. made_of r.0 ≡ record { kind = kind.Event; id = id } in
+    cond_both (carries event) (rows_for id event (participants base.portfolio event)) [] (All Its) (λ some. All-map Its (event_row id event _) (enumerate_from 0 (participants base.portfolio event)) (λ i d l. refl)) (λ none. All-nil Its))
+
+program_in_order : (id name : List ℕ) → InOrder view_cmp (program_rows id name)
+unfolding IsStrictlySortedBy
+program_in_order id name = (tt, tt)
+
+module _ (base : Base) (whole : IsWhole base) (stands : StandsInOrder base) where
+  event_in_order : (id : List ℕ) (event : EventBody) → InOrder view_cmp (event_rows base id event)
+  event_in_order id event =
+      let ps = participants base.portfolio event in
+      let numbers : IsStrictlySortedBy nat_cmp (map (λ p. p.resource) ps) = subst (IsStrictlySortedBy nat_cmp) (sym (numbers_are base event whole)) (enrolled_in_order base event stands.resources) in
+      let keys : IsStrictlySortedBy view_cmp (map (λ k. key.Event id k) (map (λ p. p.resource) ps)) =
+      sorted_map nat_cmp view_cmp (λ k. key.Event id k) (λ m n less. rw (tied_itself nat_list_cmp_total id) less) (map (λ p. p.resource) ps) numbers in
+      cond_both (carries event) (rows_for id event ps) [] (InOrder view_cmp) (λ some. subst (IsStrictlySortedBy view_cmp) (sym (keys_shown id event _ 0 ps)) keys) (λ none. none_sorted view_cmp)
+
+  view_made : view base ≡ flat_map (mark_rows base) base.mirror
+  unfolding view
+  view_made =
+      made_in_order view_total (flat_map (mark_rows base) base.mirror)
+      (in_order_flat mirror_cmp view_cmp made_of stand_alike (mark_rows base) (its_key base) (by_mark base (λ k rows. InOrder view_cmp rows) (λ k. none_sorted view_cmp) program_in_order event_in_order) base.mirror stands.upstream_keys)
+
+  -- ---- the rows of a live event in it
+
+  module _ (id : List ℕ) (event : EventBody) (live : IsLive base id event) where
+    abbrev upstream : MirrorKey
+    upstream = record { kind = kind.Event; id = id }
+
+    abbrev ps : List Participant
+    ps = participants base.portfolio event
+
+    abbrev splits : List SplitInterval
+    splits = map (split_interval (weights_of ps)) event.intervals
+
+    -- all of them
+    there_shown : (r : ViewKey × Content) → Contains (event_rows base id event) r → Contains (view base) r
+    there_shown r there =
+        subst (λ rows. Contains rows r) (sym view_made)
+        (in_flat (mark_rows base) base.mirror (upstream, Live live.0 (body.Event event)) r (Contains-from_lookup (tells_apart mirror_exact) upstream (Live live.0 (body.Event event)) base.mirror live.1) there)
+
+    -- and no others
+    shown_there : (n : ℕ) (c : Content) → at view_cmp (key.Event id n) (view base) ≡ Some c → Contains (rows_for id event ps) (key.Event id n, c)
+    shown_there n c found =
+        let r : ViewKey × Content = (key.Event id n, c) in
+        let there : Contains (view base) r = Contains-from_lookup (tells_apart view_exact) (key.Event id n) c (view base) found in
+        let e = from_flat (mark_rows base) base.mirror r (subst (λ rows. Contains rows r) view_made there) in
+        let its : upstream ≡ e.0.0 = All-contains (λ r. made_of r.0 ≡ e.0.0) (mark_rows base e.0) r (its_key base e.0) e.2 in
+        let is : e.0 ≡ (upstream, Live live.0 (body.Event event)) = one_row key_order upstream (Live live.0 (body.Event event)) base.mirror e.0 stands.upstream_keys live.1 e.1 (sym its) in
+        from_cond (carries event) (rows_for id event ps) r (subst (λ (e : MirrorKey × Mark). Contains (mark_rows base e) r) is e.2)
+
+    -- what a participant is shown at its key
+    shown_at : carries event ≡ true → (k : ℕ) (p : Participant) → slice_get ps k ≡ Some p → at view_cmp (key.Event id p.resource) (view base) ≡ Some (event_row id event splits (k, p)).1
+    shown_at some k p is =
+        let r : ViewKey × Content = event_row id event splits (k, p) in
+        lookup-from_Contains (eq_by_cmp_equiv view_total) r.0 r.1 (view base) (IsDistinct-from_sorted view_cmp (keys_of (view base)) (shown_in_order base))
+        (there_shown r (subst (λ b. Contains (cond b (rows_for id event ps) []) r) (sym some) (in_map (event_row id event splits) (enumerate_from 0 ps) (k, p) (placed ps k p is))))
+
+    -- ---- the law
+
+    are_weights : 0 < length (enrolled base.portfolio event) → AreWeights (enrolled_weights base.portfolio event)
+    are_weights some = record { some = omega (arith, some, length-map (enrolled base.portfolio event) (λ e. e.1)); positive = enrolled_positive base event whole }
+
+    sum_up : (place : ℕ) (i : Interval) (v : ℤ) → slice_get event.intervals place ≡ Some i → i.setpoint ≡ Some v → 0 < length (enrolled base.portfolio event)
+        → AreFairParts v (enrolled_weights base.portfolio event) (map (part_shown (view base) id place) (enrolled_numbers base.portfolio event))
+    sum_up place i v is carried some =
+        let parts : List ℤ = fair_split v (weights_of ps) in
+        let fair : IsFairSplit v (weights_of ps) parts = fair_split_is_fair v (weights_of ps) (subst AreWeights (sym (weights_are base event whole)) (are_weights some)) in
+        let each : (k : ℕ) (p : Participant) → slice_get ps k ≡ Some p → part_shown (view base) id place p.resource ≡ slice_get parts k =
+        λ k p there. ap (option_and_then (part_in place)) (shown_at (carries_one event place i v is carried) k p there) ∙ part_at id event (weights_of ps) place i (k, p) is ∙ ap (λ s. option_and_then (λ parts. slice_get parts k) (option_map (λ v. fair_split v (weights_of ps)) s)) carried in
+        record {
+          parts = parts;
+          each_is_shown = ap (map (part_shown (view base) id place)) (sym (numbers_are base event whole)) ∙ map-map (part_shown (view base) id place) (λ (p : Participant). p.resource) ps
+              ∙ map_by_place (λ p. part_shown (view base) id place p.resource) ps parts (fair.one_part_each ∙ length-map ps (λ p. p.weight)) each;
+          they_sum_up = fair.sums_up;
+          they_are_fair = subst (λ weights. IsFairSplit v weights parts) (weights_are base event whole) fair;
+        }
+
+    no_part : (place : ℕ) (i : Interval) (n : ℕ) → slice_get event.intervals place ≡ Some i → i.setpoint ≡ None → part_shown (view base) id place n ≡ None
+    no_part place i n is none = by (at view_cmp (key.Event id n) (view base)) refl
+      where
+        by : (shown : Option Content) → at view_cmp (key.Event id n) (view base) ≡ shown → option_and_then (part_in place) shown ≡ None
+        by None found = refl
+        by (Some c) found =
+            let e = from_map (event_row id event splits) (enumerate_from 0 ps) (key.Event id n, c) (shown_there n c found) in
+            ap (λ r. part_in place r.1) e.2 ∙ part_at id event (weights_of ps) place i e.0 is ∙ ap (λ s. option_and_then (λ parts. slice_get parts e.0.0) (option_map (λ v. fair_split v (weights_of ps)) s)) none
+
+    nobody_else : (n : ℕ) → IsSome (at view_cmp (key.Event id n) (view base)) → Contains (enrolled_numbers base.portfolio event) n
+    nobody_else n = by (at view_cmp (key.Event id n) (view base)) refl
+      where
+        by : (shown : Option Content) → at view_cmp (key.Event id n) (view base) ≡ shown → IsSome shown → Contains (enrolled_numbers base.portfolio event) n
+        by None found some = absurd (false≢true some)
+        by (Some c) found some =
+            let keys : Contains (map (λ k. key.Event id k) (map (λ p. p.resource) ps)) (key.Event id n) =
+            subst (λ ks. Contains ks (key.Event id n)) (keys_shown id event splits 0 ps) (in_map (λ r. r.0) (rows_for id event ps) (key.Event id n, c) (shown_there n c found)) in
+            let m = from_map (λ k. key.Event id k) (map (λ p. p.resource) ps) (key.Event id n) keys in
+            let same : m.0 ≡ n = let is : key.Event id n ≡ key.Event id m.0 = m.2 in cc in
+            subst (λ ns. Contains ns n) (numbers_are base event whole) (subst (Contains (map (λ p. p.resource) ps)) same m.1)
+
+pub parts_sum_up : ShownPartsSumUp
+parts_sum_up base id event whole stands live = record {
+  parts_sum_up = sum_up base whole stands id event live;
+  no_part_without_setpoint = no_part base whole stands id event live;
+  nobody_else_is_shown_it = nobody_else base whole stands id event live;
+}
+
+pub parts_sum_up_after_runs : ShownPartsSumUpAfterRuns
+parts_sum_up_after_runs settings cs id event live = parts_sum_up (state_of (step_at settings) empty cs).base id event (portfolio_whole settings cs) (rows_in_order settings cs) live

@@ -1,0 +1,119 @@
+-- Lists that are made by map, filter_map and flat_map: what they contain, what holds of each element, and in which order the keys of rows stand.
+use Rattle.std.proofs.Common.{◌≡◌, ℕ, suc, ◌+◌, List, [], ◌∷◌, ◌++◌, length, map, Option, Some, None, Ordering, Less, refl, sym, ap, ap₂, subst, ◌∙◌, arith}
+use Rattle.std.specs.Prelude.{IfSome, option_map, slice_get}
+use Rattle.std.specs.List.{filter_map, cons_option, enumerate_from}
+use Rattle.std.proofs.lemmas.List.Elements.{Contains-append_left, Contains-append_right}
+use Rattle.std.proofs.lemmas.List.FromFn.{length-enumerate_from, get_or-enumerate_from}
+use Rattle.std.proofs.lemmas.Option.{IfSome_then}
+use Rattle.adr_laws.proofs.Common.{All, AllByRecursion, Contains, flat_map, IsStrictlySortedBy, keys_of, get_or-map, All-append, All-cons, All-contains, All-from_recursion, All-head, All-map, All-nil, All-tail, All-weaker, recursion_from_All, length-map, get_or_from_slice_get, slice_get_within}
+use Rattle.adr_laws.proofs.OrderLemmas.{InOrder, Behind, each_row, through}
+use Rattle.adr_laws.proofs.RowLemmas.{each_there}
+
+-- ---- what they contain
+
+pub in_map : {A B : Type 0} (f : A → B) (xs : List A) (x : A) → Contains xs x → Contains (map f xs) (f x)
+in_map f xs x there = (there.0, omega (arith, there.1, length-map xs f), get_or-map f xs there.0 x (f x) there.1 ∙ ap f there.2)
+
+pub from_map : {A B : Type 0} (f : A → B) (xs : List A) (y : B) → Contains (map f xs) y → (x : A) × Contains xs x × (y ≡ f x)
+from_map {A} {B} f xs y =
+    let P : B → Type 0 = λ y. (x : A) × Contains xs x × (y ≡ f x) in
+    All-contains P (map f xs) y (All-map P f xs (each_there (λ x. P (f x)) xs (λ x there. (x, there, refl))))
+
+module _ {A B : Type 0} (f : A → List B) where
+  pub in_flat : (xs : List A) (x : A) (y : B) → Contains xs x → Contains (f x) y → Contains (flat_map f xs) y
+  in_flat xs x y = All-contains (λ a. Contains (f a) y → Contains (flat_map f xs) y) xs x (each xs)
+    where
+      each : (zs : List A) → All (λ z. Contains (f z) y → Contains (flat_map f zs) y) zs
+      each [] = All-nil (λ z. Contains (f z) y → Contains [] y)
+      each (z ∷ zs) =
+          All-cons (λ x. Contains (f x) y → Contains (f z ++ flat_map f zs) y) z zs (Contains-append_left (f z) (flat_map f zs) y)
+          (All-weaker (λ x. Contains (f x) y → Contains (flat_map f zs) y) (λ x. Contains (f x) y → Contains (f z ++ flat_map f zs) y) (λ x h there. Contains-append_right (f z) (flat_map f zs) y (h there)) zs (each zs))
+
+  pub all_flat : (P : B → Type 0) (xs : List A) → All (λ x. All P (f x)) xs → All P (flat_map f xs)
+  all_flat P [] h = All-nil P
+  all_flat P (x ∷ xs) h = All-append P (f x) (flat_map f xs) (All-head (λ y. All P (f y)) x xs h) (all_flat P xs (All-tail (λ y. All P (f y)) x xs h))
+
+  pub from_flat : (xs : List A) (y : B) → Contains (flat_map f xs) y → (x : A) × Contains xs x × Contains (f x) y
+  from_flat xs y =
+      let P : B → Type 0 = λ y. (x : A) × Contains xs x × Contains (f x) y in
+      All-contains P (flat_map f xs) y (all_flat P xs (each_there (λ x. All P (f x)) xs (λ x there. each_there P (f x) (λ y here. (x, there, here)))))
+
+-- what stands at a place, with that place
+pub placed : {A : Type 0} (xs : List A) (k : ℕ) (x : A) → slice_get xs k ≡ Some x → Contains (enumerate_from 0 xs) (k, x)
+placed xs k x is =
+    let within = slice_get_within xs k x is in
+    let first : 0 + k ≡ k = omega arith in
+    (k, omega (arith, within, length-enumerate_from 0 xs), get_or-enumerate_from 0 xs k (k, x) within ∙ λ j. (first j, get_or_from_slice_get xs k x x is j))
+
+-- ---- what holds of each
+
+module _ {A B : Type 0} (f : A → Option B) where
+  pub all_filter_map : (P : A → Type 0) (Q : B → Type 0) → ((x : A) → P x → IfSome (f x) Q) → (xs : List A) → All P xs → All Q (filter_map f xs)
+  all_filter_map P Q made [] h = All-nil Q
+  all_filter_map P Q made (x ∷ xs) h = one (f x) (made x (All-head P x xs h)) (all_filter_map P Q made xs (All-tail P x xs h))
+    where
+      one : (o : Option B) → IfSome o Q → All Q (filter_map f xs) → All Q (cons_option o (filter_map f xs))
+      one None first rest = rest
+      one (Some y) first rest = All-cons Q y (filter_map f xs) first rest
+
+  pub map_filter_map : {C : Type 0} (g : B → C) (h : A → Option C) (xs : List A) → All (λ x. option_map g (f x) ≡ h x) xs → map g (filter_map f xs) ≡ filter_map h xs
+  map_filter_map g h [] same = refl
+  map_filter_map {C} g h (x ∷ xs) same = one (f x) (filter_map f xs) ∙ ap₂ cons_option (All-head (λ x. option_map g (f x) ≡ h x) x xs same) (map_filter_map g h xs (All-tail (λ x. option_map g (f x) ≡ h x) x xs same))
+    where
+      one : (o : Option B) (ys : List B) → map g (cons_option o ys) ≡ cons_option (option_map g o) (map g ys)
+      one None ys = refl
+      one (Some y) ys = refl
+
+-- what each is given by its place
+pub map_by_place : {A B : Type 0} (f : A → Option B) (xs : List A) (ys : List B) → length ys ≡ length xs → ((k : ℕ) (x : A) → slice_get xs k ≡ Some x → f x ≡ slice_get ys k) → map f xs ≡ map (λ y. Some y) ys
+map_by_place f [] [] e h = refl
+map_by_place f [] (y ∷ ys) e h = absurd (omega arith)
+map_by_place f (x ∷ xs) [] e h = absurd (omega arith)
+map_by_place f (x ∷ xs) (y ∷ ys) e h = ap₂ ◌∷◌ (h 0 x refl) (map_by_place f xs ys (omega arith) (λ k z is. h (suc k) z is))
+
+-- ---- in which order their keys stand
+
+pub sorted_map : {K L : Type 0} (cmp : K → K → Ordering) (order : L → L → Ordering) (g : K → L) → ((a b : K) → cmp a b ≡ Less → order (g a) (g b) ≡ Less) → (ks : List K) → IsStrictlySortedBy cmp ks → IsStrictlySortedBy order (map g ks)
+unfolding IsStrictlySortedBy
+sorted_map cmp order g keeps [] h = tt
+sorted_map cmp order g keeps (k ∷ ks) h = (
+  through (Behind cmp k) (Behind order (g k)) ks (map g ks) (λ all. All-map (Behind order (g k)) g ks (All-weaker (Behind cmp k) (λ y. Behind order (g k) (g y)) (λ y less. keeps k y less) ks all)) h.0,
+  sorted_map cmp order g keeps ks h.1,
+)
+
+-- rows of which each is made of one, under its key
+pub in_order_filter_map : {K X Y : Type 0} (cmp : K → K → Ordering) (f : K × X → Option (K × Y)) → ((e : K × X) → IfSome (f e) (λ y. y.0 ≡ e.0)) → (es : List (K × X)) → InOrder cmp es → InOrder cmp (filter_map f es)
+unfolding IsStrictlySortedBy
+in_order_filter_map cmp f own [] h = tt
+in_order_filter_map {K} {X} {Y} cmp f own (e ∷ es) h = one (f e) (own e) (in_order_filter_map cmp f own es h.1)
+  where
+    behind : All (Behind cmp e.0) (keys_of es) → All (Behind cmp e.0) (keys_of (filter_map f es))
+    behind all =
+        All-map (Behind cmp e.0) (λ y. y.0) (filter_map f es)
+        (all_filter_map f (λ r. Behind cmp e.0 r.0) (λ y. Behind cmp e.0 y.0) (λ r less. IfSome_then (f r) (own r) (λ y is. subst (Behind cmp e.0) (sym is) less)) es (each_row (Behind cmp e.0) es all))
+
+    one : (o : Option (K × Y)) → IfSome o (λ y. y.0 ≡ e.0) → InOrder cmp (filter_map f es) → InOrder cmp (cons_option o (filter_map f es))
+    one None is rest = rest
+    one (Some y) is rest = (subst (λ k. AllByRecursion (Behind cmp k) (keys_of (filter_map f es))) (sym is) (through (Behind cmp e.0) (Behind cmp e.0) (keys_of es) (keys_of (filter_map f es)) behind h.0), rest)
+
+in_order_append : {K X : Type 0} (cmp : K → K → Ordering) (xs ys : List (K × X)) → InOrder cmp xs → InOrder cmp ys → ((a b : K × X) → Contains xs a → Contains ys b → Behind cmp a.0 b.0) → InOrder cmp (xs ++ ys)
+unfolding IsStrictlySortedBy
+in_order_append cmp [] ys one other apart = other
+in_order_append {K} {X} cmp (x ∷ xs) ys one other apart = (
+  recursion_from_All (Behind cmp x.0) (keys_of (xs ++ ys))
+      (All-map (Behind cmp x.0) (λ r. r.0) (xs ++ ys)
+      (All-append (λ (r : K × X). Behind cmp x.0 r.0) xs ys (each_row (Behind cmp x.0) xs (All-from_recursion (Behind cmp x.0) (keys_of xs) one.0)) (each_there (λ r. Behind cmp x.0 r.0) ys (λ b there. apart x b (0, omega arith, refl) there)))),
+  in_order_append cmp xs ys one.1 other (λ a b mine. apart a b (Contains-append_right (x ∷ []) xs a mine)),
+)
+
+-- rows of which some are made of each, where their keys tell of which
+module _ {K L X Y : Type 0} (cmp : K → K → Ordering) (order : L → L → Ordering) (of : L → K) (keeps : (l m : L) → cmp (of l) (of m) ≡ Less → order l m ≡ Less) (f : K × X → List (L × Y)) (own : (e : K × X) → All (λ r. of r.0 ≡ e.0) (f e)) (each : (e : K × X) → InOrder order (f e)) where
+  pub in_order_flat : (es : List (K × X)) → InOrder cmp es → InOrder order (flat_map f es)
+  unfolding IsStrictlySortedBy
+  in_order_flat [] h = tt
+  in_order_flat (e ∷ es) h = in_order_append order (f e) (flat_map f es) (each e) (in_order_flat es h.1) (λ a b one other.
+      let d = from_flat f es b other in
+      let mine : of a.0 ≡ e.0 = All-contains (λ r. of r.0 ≡ e.0) (f e) a (own e) one in
+      let its : of b.0 ≡ d.0.0 = All-contains (λ r. of r.0 ≡ d.0.0) (f d.0) b (own d.0) d.2 in
+      let less : cmp e.0 d.0.0 ≡ Less = All-contains (λ (r : K × X). Behind cmp e.0 r.0) es d.0 (each_row (Behind cmp e.0) es (All-from_recursion (Behind cmp e.0) (keys_of es) h.0)) d.1 in
+      keeps a.0 b.0 (ap₂ cmp mine its ∙ less))
