@@ -14,3 +14,4 @@ pub mod StampLemmas
 pub mod ViewLemmas
 pub mod EnrolledLemmas
 pub mod EventLemmas
+pub mod SightLemmas

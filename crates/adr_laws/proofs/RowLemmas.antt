@@ -1,7 +1,7 @@
 -- Rows of a map after a put, a removal and a filter: which of them are there, and which keys are found.
 use Rattle.std.proofs.Common.{◌≡◌, ℕ, Bool, true, false, not, ◌==◌, List, [], ◌∷◌, map, filter, Some, None, Ordering, Less, Equal, Greater, ◌⊎◌, inl, inr, refl, sym, subst, ◌∙◌}
 use Rattle.std.specs.Prelude.{IsSome}
-use Rattle.adr_laws.proofs.Common.{All, Contains, nat_cmp, is_eq, match_ordering, keys_of, remove_entry, is_at, insert_entry, unsigned_tied, false≢true, not-true, cond_both, cond-false, nat_cmp_total, nat_eq_equiv, eq_by_cmp_equiv, map-id, All-cons, All-head, All-tail, All-weaker, All-contains, All-contains_itself, All-filter, filter_passes, IsDistinct-from_sorted, CmpEqualImpliesEq, exact_unsigned, All-map-remove_entry, Contains-from_lookup, tells_apart, at}
+use Rattle.adr_laws.proofs.Common.{All, Contains, nat_cmp, is_eq, match_ordering, keys_of, remove_entry, is_at, insert_entry, unsigned_tied, false≢true, not-true, cond_both, cond-false, nat_cmp_total, nat_eq_equiv, eq_by_cmp_equiv, map-id, All-cons, All-head, All-tail, All-weaker, All-contains, All-contains_itself, All-filter, filter_passes, IsDistinct-from_sorted, CmpEqualImpliesEq, exact_unsigned, All-map-remove_entry, Contains-from_lookup, tells_apart, at, with_rows}
 use Rattle.std.proofs.lemmas.Map.{lookup-remove_entry}
 use Rattle.adr_state.proofs.LawLemmas.{at-insert_entry}
 use Rattle.adr_laws.proofs.OrderLemmas.{InOrder}
@@ -20,6 +20,10 @@ module _ {K V : Type 0} where
     | Equal ↦ λ is. All-cons P (e.0, v) es (subst (λ (x : K). P (x, v)) (exact k e.0 is) new) (All-tail P e es old)
     | Greater ↦ λ is. All-cons P e (insert_entry cmp es k v) (All-head P e es old) (all_put exact k v P new es (All-tail P e es old))
   ] refl
+
+  pub all_rows : {cmp : K → K → Ordering} → CmpEqualImpliesEq cmp → (P : K × V → Type 0) (es rows : List (K × V)) → All P es → All P rows → All P (with_rows cmp es rows)
+  all_rows exact P es [] old new = old
+  all_rows exact P es (r ∷ rows) old new = all_rows exact P (insert_entry _ es r.0 r.1) rows (all_put exact r.0 r.1 P (All-head P r rows new) es old) (All-tail P r rows new)
 
   -- after a put: a row that was there, or the one that was put
   pub from_put : {cmp : K → K → Ordering} → CmpEqualImpliesEq cmp → (k : K) (v : V) (es : List (K × V)) (e : K × V) → Contains (insert_entry cmp es k v) e → Contains es e ⊎ (e ≡ (k, v))

@@ -1,6 +1,6 @@
 -- Laws over whole runs.
 use Rattle.std.specs.Prelude.{◌≡◌, ◌≢◌, ◌≤◌, ℕ, false, List, [], ◌∷◌, ◌++◌, map, filter, Option, Some, IsSome, Result, Ok, Err}
-use Rattle.std.specs.List.{All, AllPairs, Contains}
+use Rattle.std.specs.List.{All, AllPairs, AllZip, Contains}
 use Rattle.std.specs.List.Sorted.{IsStrictlySortedBy, IsNonDecreasing}
 use Rattle.std.specs.Map.{keys_of, values_of}
 use Rattle.std.specs.Ordering.{nat_cmp}
@@ -25,10 +25,13 @@ use Rattle.adr_view.specs.Views.{view}
 use Rattle.adr_machine.specs.declared.answer.Answer.{Answer}
 use Rattle.adr_machine.specs.declared.command.Command.{Command}
 use Rattle.adr_machine.specs.declared.command.Command.TheVariants.{Evidence, Gone}
+use Rattle.adr_machine.specs.declared.sight.Sight.{Sight}
 use Rattle.adr_machine.specs.Runs.{state_after, stands, step_at, IsRun}
+use Rattle.adr_machine.specs.Steps.{sees, events_in_sight}
 use Rattle.adr_laws.specs.Enrolled.{enrolled}
 use Rattle.adr_laws.specs.ShownParts.{IsLive, IsSharedOut}
 use Rattle.adr_laws.specs.Standing.{answers_of, state_of, standing}
+use Rattle.adr_laws.specs.Told.{is_of_event, Tells}
 
 -- what a command tells of upstream keys
 abbrev pub evidence_in : Command → List (MirrorKey × Mark)
@@ -148,6 +151,12 @@ StampsAreOfTheView = (settings : Settings) (cs : List (ℕ × Command)) → IsSt
 -- and where no command comes at a moment before that of an earlier one, nothing that is shown was modified before it was created
 abbrev pub StampsAreInTime : Type 0
 StampsAreInTime = (settings : Settings) (cs : List (ℕ × Command)) → IsNonDecreasing (map (λ c. c.0) cs) → All (λ stamps. stamps.created ≤ stamps.modified) (values_of (state_of (step_at settings) empty cs).stamps)
+
+-- ---- events in sight
+
+-- where what is shown is stamped, the events in sight are those at all keys of events that are in sight, one by one and in order: none lacks for want of stamps
+abbrev pub EventsLackNone : Type 0
+EventsLackNone = (s : State) (sight : Sight) → IsStampedAsShown s → AllZip (Tells s.stamps) (filter (λ r. is_of_event r.0) (filter (λ r. sees s.base sight r.0) (view s.base))) (events_in_sight s sight)
 
 -- ---- runs over desks
 

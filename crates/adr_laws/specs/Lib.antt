@@ -1,4 +1,5 @@
 pub mod Standing
 pub mod Enrolled
 pub mod ShownParts
+pub mod Told
 pub mod Laws

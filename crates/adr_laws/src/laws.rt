@@ -1,5 +1,5 @@
 //! Laws over whole runs.
-ghost use Rattle.adr_laws.specs.Laws.{MirrorIsGreatest, PortfolioIsWhole, RowsStandInOrder, ParticipantsLackNone, ShownPartsSumUp, ShownPartsSumUpAfterRuns, NumbersAreOwn, NumbersAreDrawnOnce, StampsAreOfTheView, StampsAreInTime, RunsAreOfTheStepsThatStand};
+ghost use Rattle.adr_laws.specs.Laws.{MirrorIsGreatest, PortfolioIsWhole, RowsStandInOrder, ParticipantsLackNone, ShownPartsSumUp, ShownPartsSumUpAfterRuns, EventsLackNone, NumbersAreOwn, NumbersAreDrawnOnce, StampsAreOfTheView, StampsAreInTime, RunsAreOfTheStepsThatStand};
 
 /// After any run from an empty start, the mirror at a key is the greatest mark in all accepted evidence
 /// for it, whatever was lost, repeated or reordered.
@@ -46,6 +46,12 @@ pub fn numbers_are_drawn_once()
 pub fn stamps_are_of_the_view()
     ensures view { StampsAreOfTheView }
     ensures time { StampsAreInTime }
+{}
+
+/// Where what is shown is stamped, the events in sight are exactly those at all keys of events that are in sight,
+/// in order, each with its stamps.
+pub fn events_lack_none()
+    ensures { EventsLackNone }
 {}
 
 /// Of whatever a run over a desk answers, the answers that stand are the machine's over the commands that
