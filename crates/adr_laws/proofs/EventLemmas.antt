@@ -3,9 +3,9 @@ use Rattle.std.proofs.Common.{◌≡◌, ℕ, ◌+◌, ℤ, Bool, true, false, c
 use Rattle.std.specs.Prelude.{IsSome, is_some, option_map, option_and_then, slice_get}
 use Rattle.std.specs.List.{enumerate_from}
 use Rattle.std.proofs.lemmas.List.Recursion.{or_at}
-use Rattle.std.proofs.lemmas.Option.{slice_get-map}
+use Rattle.std.proofs.lemmas.Option.{same_Some, slice_get-map}
 use Rattle.std.proofs.lemmas.Cmp.{nat_list_cmp_total, tied_itself}
-use Rattle.adr_laws.proofs.Common.{All, Contains, flat_map, list_any, IsStrictlySortedBy, keys_of, cond_both, eq_by_cmp_equiv, false≢true, All-cons, All-contains, All-map, All-nil, Contains-from_lookup, IsDistinct-from_sorted, tells_apart, nat_cmp, Base, empty, step_at, at, mirror_cmp, view_cmp, lookup-from_Contains, map-map, length-map, get_or_from_slice_get, slice_get_within}
+use Rattle.adr_laws.proofs.Common.{All, Contains, flat_map, list_any, IsStrictlySortedBy, keys_of, cond_both, eq_by_cmp_equiv, false≢true, All-contains, Contains-from_lookup, IsDistinct-from_sorted, tells_apart, nat_cmp, Base, empty, step_at, at, mirror_cmp, view_cmp, lookup-from_Contains, map-map, length-map, get_or_from_slice_get, slice_get_within}
 use Rattle.adr_split.specs.FairSplit.{IsFairSplit}
 use Rattle.adr_split.specs.Laws.{AreWeights}
 use Rattle.adr_split.specs.Parts.{fair_split}
@@ -15,7 +15,7 @@ use Rattle.adr_objects.specs.declared.body.Body.TheVariants as body
 use Rattle.adr_objects.specs.declared.body.EventBody.{EventBody}
 use Rattle.adr_objects.specs.declared.interval.Interval.{Interval}
 use Rattle.adr_state.specs.declared.base.Mark.{Mark}
-use Rattle.adr_state.specs.declared.base.Mark.TheVariants.{Live}
+use Rattle.adr_state.specs.declared.base.Mark.TheVariants.{Live, Dead}
 use Rattle.adr_state.specs.declared.keys.MirrorKey.{MirrorKey}
 use Rattle.adr_state.specs.declared.keys.ViewKey.{ViewKey}
 use Rattle.adr_state.specs.declared.keys.ViewKey.TheVariants as key
@@ -24,19 +24,18 @@ use Rattle.adr_state.specs.Participants.{participants}
 use Rattle.adr_state.proofs.LawLemmas.{key_order}
 use Rattle.adr_view.specs.declared.parts.SplitInterval.{SplitInterval}
 use Rattle.adr_view.specs.declared.view.Content.{Content}
-use Rattle.adr_view.specs.declared.view.Content.TheVariants as content
 use Rattle.adr_view.specs.Views.{weights_of, split_interval, interval_at, event_row, rows_for, carries, program_rows, event_rows, mark_rows, view}
 use Rattle.adr_laws.specs.Enrolled.{enrolled, enrolled_numbers, enrolled_weights}
 use Rattle.adr_laws.specs.ShownParts.{part_in, part_shown, AreFairParts, IsLive}
-use Rattle.adr_laws.specs.Laws.{IsWhole, StandsInOrder, ShownPartsSumUp, ShownPartsSumUpAfterRuns}
+use Rattle.adr_laws.specs.Laws.{IsWhole, StandsInOrder, OnlyLiveEventsAreShown, ShownPartsSumUp, ShownPartsSumUpAfterRuns}
 use Rattle.adr_laws.specs.Standing.{state_of}
 use Rattle.adr_laws.proofs.EnrolledLemmas.{enrolled_in_order, enrolled_positive, numbers_are, weights_are}
-use Rattle.adr_laws.proofs.KeyLemmas.{mirror_exact, view_exact, made_of, stand_alike, one_row}
-use Rattle.adr_laws.proofs.ListLemmas.{in_map, from_map, in_flat, from_flat, placed, map_by_place, sorted_map, in_order_flat}
+use Rattle.adr_laws.proofs.KeyLemmas.{mirror_exact, view_exact, made_of, stand_alike}
+use Rattle.adr_laws.proofs.ListLemmas.{in_map, from_map, in_flat, placed, map_by_place, sorted_map, in_order_flat}
 use Rattle.adr_laws.proofs.OrderLemmas.{InOrder, none_sorted, made_in_order}
 use Rattle.adr_laws.proofs.PortfolioLemmas.{portfolio_whole, rows_in_order}
 use Rattle.adr_laws.proofs.StampLemmas.{view_total, shown_in_order}
-use Rattle.adr_laws.proofs.ViewLemmas.{by_mark}
+use Rattle.adr_laws.proofs.ViewLemmas.{by_mark, each_by_mark, from_view}
 
 -- ---- the rows of an event
 
@@ -64,14 +63,39 @@ from_cond false xs x there = absurd (omega (arith, there.1))
 
 -- ---- the view as it is made
 
+-- the upstream key of an event
+abbrev event_key : List ℕ → MirrorKey
+event_key id = record { kind = kind.Event; id = id }
+
 -- the key of each row was made of the upstream key of its mark
 its_key : (base : Base) (e : MirrorKey × Mark) → All (λ r. made_of r.0 ≡ e.0) (mark_rows base e)
-its_key base =
-    let P : MirrorKey → List (ViewKey × Content) → Type 0 = λ k rows. All (λ r. made_of r.0 ≡ k) rows in
-    by_mark base P (λ k. All-nil (λ r. made_of r.0 ≡ k)) (λ id name. All-cons (λ r. made_of r.0 ≡ record { kind = kind.Program; id = id }) (key.Program id, content.Program name) [] refl (All-nil (λ r. made_of r.0 ≡ record { kind = kind.Program; id = id })))
-    (λ id event.
-    let Its : ViewKey × Content → Type 0 = λ r. made_of r.0 ≡ record { kind = kind.Event; id = id } in
-    cond_both (carries event) (rows_for id event (participants base.portfolio event)) [] (All Its) (λ some. All-map Its (event_row id event _) (enumerate_from 0 (participants base.portfolio event)) (λ i d l. refl)) (λ none. All-nil Its))
+its_key base = each_by_mark base (λ k r. made_of r.0 ≡ k) (λ id name. refl) (λ id event splits p. refl)
+
+-- what stands at the key of an event is a row of the mark that its upstream key has
+shown_of_mark : (base : Base) → StandsInOrder base → (id : List ℕ) (n : ℕ) (c : Content) → at view_cmp (key.Event id n) (view base) ≡ Some c
+    → (mark : Mark) × (at mirror_cmp (event_key id) base.mirror ≡ Some mark) × Contains (mark_rows base (event_key id, mark)) (key.Event id n, c)
+shown_of_mark base stands id n c found =
+    let e = from_view base (key.Event id n, c) (Contains-from_lookup (tells_apart view_exact) (key.Event id n) c (view base) found) in
+    let its : event_key id ≡ e.0.0 = All-contains (λ r. made_of r.0 ≡ e.0.0) (mark_rows base e.0) (key.Event id n, c) (its_key base e.0) e.2 in
+    let known : at mirror_cmp e.0.0 base.mirror ≡ Some e.0.1 = lookup-from_Contains (eq_by_cmp_equiv key_order) e.0.0 e.0.1 base.mirror (IsDistinct-from_sorted mirror_cmp (keys_of base.mirror) stands.upstream_keys) e.1 in
+    (e.0.1, ap (λ k. at mirror_cmp k base.mirror) its ∙ known, subst (λ k. Contains (mark_rows base (k, e.0.1)) (key.Event id n, c)) (sym its) e.2)
+
+-- which is an event's
+live_mark : (base : Base) (id : List ℕ) (r : ViewKey × Content) (mark : Mark) → Contains (mark_rows base (event_key id, mark)) r → (event : EventBody) × (moment : ℕ) × (mark ≡ Live moment (body.Event event))
+live_mark base id r Dead there = absurd (omega (arith, there.1))
+live_mark base id r (Live moment (body.Program name)) there = absurd (omega (arith, there.1))
+live_mark base id r (Live moment (body.Event event)) there = (event, moment, refl)
+live_mark base id r (Live moment (body.Opaque reason)) there = absurd (omega (arith, there.1))
+
+pub only_live_shown : OnlyLiveEventsAreShown
+only_live_shown base id n stands = by (at view_cmp (key.Event id n) (view base)) refl
+  where
+    by : (shown : Option Content) → at view_cmp (key.Event id n) (view base) ≡ shown → IsSome shown → (event : EventBody) × IsLive base id event
+    by None found some = absurd (false≢true some)
+    by (Some c) found some =
+        let m = shown_of_mark base stands id n c found in
+        let live = live_mark base id (key.Event id n, c) m.0 m.2 in
+        (live.0, (live.1, m.1 ∙ ap (λ mark. Some mark) live.2))
 
 program_in_order : (id name : List ℕ) → InOrder view_cmp (program_rows id name)
 unfolding IsStrictlySortedBy
@@ -95,9 +119,6 @@ module _ (base : Base) (whole : IsWhole base) (stands : StandsInOrder base) wher
   -- ---- the rows of a live event in it
 
   module _ (id : List ℕ) (event : EventBody) (live : IsLive base id event) where
-    abbrev upstream : MirrorKey
-    upstream = record { kind = kind.Event; id = id }
-
     abbrev ps : List Participant
     ps = participants base.portfolio event
 
@@ -107,18 +128,15 @@ module _ (base : Base) (whole : IsWhole base) (stands : StandsInOrder base) wher
     -- all of them
     there_shown : (r : ViewKey × Content) → Contains (event_rows base id event) r → Contains (view base) r
     there_shown r there =
-        subst (λ rows. Contains rows r) (sym view_made)
-        (in_flat (mark_rows base) base.mirror (upstream, Live live.0 (body.Event event)) r (Contains-from_lookup (tells_apart mirror_exact) upstream (Live live.0 (body.Event event)) base.mirror live.1) there)
+        let mark : Mark = Live live.0 (body.Event event) in
+        subst (λ rows. Contains rows r) (sym view_made) (in_flat (mark_rows base) base.mirror (event_key id, mark) r (Contains-from_lookup (tells_apart mirror_exact) (event_key id) mark base.mirror live.1) there)
 
     -- and no others
     shown_there : (n : ℕ) (c : Content) → at view_cmp (key.Event id n) (view base) ≡ Some c → Contains (rows_for id event ps) (key.Event id n, c)
     shown_there n c found =
-        let r : ViewKey × Content = (key.Event id n, c) in
-        let there : Contains (view base) r = Contains-from_lookup (tells_apart view_exact) (key.Event id n) c (view base) found in
-        let e = from_flat (mark_rows base) base.mirror r (subst (λ rows. Contains rows r) view_made there) in
-        let its : upstream ≡ e.0.0 = All-contains (λ r. made_of r.0 ≡ e.0.0) (mark_rows base e.0) r (its_key base e.0) e.2 in
-        let is : e.0 ≡ (upstream, Live live.0 (body.Event event)) = one_row key_order upstream (Live live.0 (body.Event event)) base.mirror e.0 stands.upstream_keys live.1 e.1 (sym its) in
-        from_cond (carries event) (rows_for id event ps) r (subst (λ (e : MirrorKey × Mark). Contains (mark_rows base e) r) is e.2)
+        let m = shown_of_mark base stands id n c found in
+        let same : m.0 ≡ Live live.0 (body.Event event) = same_Some m.0 (Live live.0 (body.Event event)) (sym m.1 ∙ live.1) in
+        from_cond (carries event) (rows_for id event ps) (key.Event id n, c) (subst (λ mark. Contains (mark_rows base (event_key id, mark)) (key.Event id n, c)) same m.2)
 
     -- what a participant is shown at its key
     shown_at : carries event ≡ true → (k : ℕ) (p : Participant) → slice_get ps k ≡ Some p → at view_cmp (key.Event id p.resource) (view base) ≡ Some (event_row id event splits (k, p)).1

@@ -1,14 +1,11 @@
 -- Keys that stand at one place in their order are one, and the upstream key that a key of the view was made of.
-use Rattle.std.proofs.Common.{◌≡◌, List, Some, Less, refl, sym, ap, ◌∙◌}
-use Rattle.std.proofs.lemmas.Option.{same_Some}
-use Rattle.adr_laws.proofs.Common.{Contains, IsTotalOrder, keys_of, IsDistinct-from_sorted, eq_by_cmp_equiv, CmpEqualImpliesEq, exact_unsigned, exact_bytes, exact_pairs, nat_cmp, id_cmp, mirror_cmp, share_cmp, view_cmp, at, lookup-from_Contains}
-use Rattle.std.specs.declared.cmp.Ordering.{Ordering}
+use Rattle.std.proofs.Common.{◌≡◌, Less, refl, ap}
+use Rattle.adr_laws.proofs.Common.{CmpEqualImpliesEq, exact_unsigned, exact_bytes, exact_pairs, nat_cmp, id_cmp, mirror_cmp, share_cmp, view_cmp}
 use Rattle.adr_objects.specs.declared.kind.Kind.TheVariants as kind
 use Rattle.adr_state.specs.declared.keys.MirrorKey.{MirrorKey}
 use Rattle.adr_state.specs.declared.keys.ViewKey.{ViewKey}
 use Rattle.adr_state.specs.declared.keys.ViewKey.TheVariants as key
 use Rattle.adr_state.specs.Keys.{kind_cmp}
-use Rattle.adr_laws.proofs.OrderLemmas.{InOrder}
 
 pub share_exact : CmpEqualImpliesEq share_cmp
 share_exact a b h =
@@ -45,10 +42,3 @@ stand_alike (key.Program a) (key.Program b) less = less
 stand_alike (key.Program a) (key.Event b n) less = refl
 stand_alike (key.Event a m) (key.Program b) less = less
 stand_alike (key.Event a m) (key.Event b n) less = rw less refl
-
--- a key has one row
-pub one_row : {K V : Type 0} {cmp : K → K → Ordering} (order : IsTotalOrder cmp) (k : K) (v : V) (es : List (K × V)) (e : K × V) → InOrder cmp es → at cmp k es ≡ Some v → Contains es e → e.0 ≡ k → e ≡ (k, v)
-one_row {cmp = cmp} order k v es e sorted found there is =
-    let its : at cmp e.0 es ≡ Some e.1 = lookup-from_Contains (eq_by_cmp_equiv order) e.0 e.1 es (IsDistinct-from_sorted cmp (keys_of es) sorted) there in
-    let same : e.1 ≡ v = same_Some e.1 v (sym its ∙ ap (λ j. at cmp j es) is ∙ found) in
-    λ j. (is j, same j)

@@ -1,28 +1,23 @@
 -- The events in sight: none lacks for want of stamps, and all that stands at the key of an event is one.
 use Rattle.std.proofs.Common.{◌≡◌, List, [], ◌∷◌, filter, Option, Some, None, refl, subst}
 use Rattle.std.specs.Prelude.{IsSome, option_and_then}
-use Rattle.std.specs.List.{AllZip, filter_map, cons_option, enumerate_from}
+use Rattle.std.specs.List.{AllZip, filter_map, cons_option}
 use Rattle.std.proofs.lemmas.Map.Views.{IsSome-lookup_from_Contains}
-use Rattle.adr_laws.proofs.Common.{All, AllByRecursion, flat_map, keys_of, eq_by_cmp_equiv, false≢true, cond_both, All-cons, All-filter, All-map, All-nil, recursion_from_All, Base, view_cmp, at}
+use Rattle.adr_laws.proofs.Common.{All, All-contains, AllByRecursion, keys_of, eq_by_cmp_equiv, false≢true, All-filter, recursion_from_All, Base, view_cmp, at}
 use Rattle.adr_objects.specs.declared.shown.Stamps.{Stamps}
-use Rattle.adr_state.specs.declared.base.Mark.{Mark}
-use Rattle.adr_state.specs.declared.keys.MirrorKey.{MirrorKey}
 use Rattle.adr_state.specs.declared.keys.ViewKey.{ViewKey}
 use Rattle.adr_state.specs.declared.keys.ViewKey.TheVariants as key
-use Rattle.adr_state.specs.Participants.{participants}
 use Rattle.adr_view.specs.declared.view.Content.{Content}
 use Rattle.adr_view.specs.declared.view.Content.TheVariants as content
-use Rattle.adr_view.specs.Views.{carries, event_row, rows_for, mark_rows, view}
+use Rattle.adr_view.specs.Views.{mark_rows, view}
 use Rattle.adr_machine.specs.declared.answer.Object.{Object}
 use Rattle.adr_machine.specs.Steps.{sees, event_of, event_at}
 use Rattle.adr_laws.specs.Told.{is_of_event, Tells}
 use Rattle.adr_laws.specs.Laws.{EventsLackNone}
-use Rattle.adr_laws.proofs.KeyLemmas.{view_exact}
-use Rattle.adr_laws.proofs.ListLemmas.{all_flat}
 use Rattle.adr_laws.proofs.OrderLemmas.{each_row}
-use Rattle.adr_laws.proofs.RowLemmas.{each_there, all_rows}
+use Rattle.adr_laws.proofs.RowLemmas.{each_there}
 use Rattle.adr_laws.proofs.StampLemmas.{view_total}
-use Rattle.adr_laws.proofs.ViewLemmas.{by_mark}
+use Rattle.adr_laws.proofs.ViewLemmas.{each_by_mark, from_view}
 
 -- ---- what stands at the key of an event is one
 
@@ -31,14 +26,8 @@ Fits (key.Event id resource, content.Program name) = ⊥
 Fits (key.Event id resource, content.Event shown) = Unit {0}
 Fits (key.Program id, shown) = Unit {0}
 
-mark_fits : (base : Base) (e : MirrorKey × Mark) → All Fits (mark_rows base e)
-mark_fits base =
-    by_mark base (λ k rows. All Fits rows) (λ k. All-nil Fits) (λ id name. All-cons Fits (key.Program id, content.Program name) [] tt (All-nil Fits))
-    (λ id event. cond_both (carries event) (rows_for id event (participants base.portfolio event)) [] (All Fits) (λ some. All-map Fits (event_row id event _) (enumerate_from 0 (participants base.portfolio event)) (λ i d l. tt)) (λ none. All-nil Fits))
-
 view_fits : (base : Base) → All Fits (view base)
-unfolding view
-view_fits base = all_rows view_exact Fits [] (flat_map (mark_rows base) base.mirror) (All-nil Fits) (all_flat (mark_rows base) Fits base.mirror (each_there (λ e. All Fits (mark_rows base e)) base.mirror (λ e there. mark_fits base e)))
+view_fits base = each_there Fits (view base) (λ r there. let e = from_view base r there in All-contains Fits (mark_rows base e.0) r (each_by_mark base (λ k. Fits) (λ id name. tt) (λ id event splits p. tt) e.0) e.2)
 
 -- ---- what is told of them
 

@@ -13,6 +13,7 @@ use Rattle.adr_state.specs.declared.base.Mark.{Mark}
 use Rattle.adr_state.specs.declared.base.Mark.TheVariants.{Dead}
 use Rattle.adr_state.specs.declared.keys.MirrorKey.{MirrorKey}
 use Rattle.adr_state.specs.declared.keys.ShareKey.{ShareKey}
+use Rattle.adr_state.specs.declared.keys.ViewKey.TheVariants as key
 use Rattle.adr_state.specs.declared.limits.Settings.{Settings}
 use Rattle.adr_state.specs.declared.state.State.{State}
 use Rattle.adr_state.specs.Keys.{mirror_cmp, view_cmp, at}
@@ -110,6 +111,10 @@ ShownPartsSumUp = (base : Base) (id : List ℕ) (event : EventBody) → IsWhole 
 -- so it is after any run from an empty start
 abbrev pub ShownPartsSumUpAfterRuns : Type 0
 ShownPartsSumUpAfterRuns = (settings : Settings) (cs : List (ℕ × Command)) (id : List ℕ) (event : EventBody) → IsLive (state_of (step_at settings) empty cs).base id event → IsSharedOut (state_of (step_at settings) empty cs).base id event
+
+-- where upstream keys stand in order, whatever is shown at the key of an event is of one that is live upstream
+abbrev pub OnlyLiveEventsAreShown : Type 0
+OnlyLiveEventsAreShown = (base : Base) (id : List ℕ) (resource : ℕ) → StandsInOrder base → IsSome (at view_cmp (key.Event id resource) (view base)) → (event : EventBody) × IsLive base id event
 
 -- ---- numbers
 

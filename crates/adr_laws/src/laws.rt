@@ -1,5 +1,5 @@
 //! Laws over whole runs.
-ghost use Rattle.adr_laws.specs.Laws.{MirrorIsGreatest, PortfolioIsWhole, RowsStandInOrder, ParticipantsLackNone, ShownPartsSumUp, ShownPartsSumUpAfterRuns, EventsLackNone, NumbersAreOwn, NumbersAreDrawnOnce, StampsAreOfTheView, StampsAreInTime, RunsAreOfTheStepsThatStand};
+ghost use Rattle.adr_laws.specs.Laws.{MirrorIsGreatest, PortfolioIsWhole, RowsStandInOrder, ParticipantsLackNone, ShownPartsSumUp, ShownPartsSumUpAfterRuns, OnlyLiveEventsAreShown, EventsLackNone, NumbersAreOwn, NumbersAreDrawnOnce, StampsAreOfTheView, StampsAreInTime, RunsAreOfTheStepsThatStand};
 
 /// After any run from an empty start, the mirror at a key is the greatest mark in all accepted evidence
 /// for it, whatever was lost, repeated or reordered.
@@ -32,6 +32,11 @@ pub fn participants_lack_none()
 pub fn shown_parts_sum_up()
     ensures base { ShownPartsSumUp }
     ensures run { ShownPartsSumUpAfterRuns }
+{}
+
+/// Where upstream keys stand in order, nothing is shown of an event that is not live upstream.
+pub fn only_live_events_are_shown()
+    ensures { OnlyLiveEventsAreShown }
 {}
 
 /// After any run from an empty start, each ven and each resource has a number of its own, from 1 up to the
