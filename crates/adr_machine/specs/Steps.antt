@@ -77,7 +77,7 @@ event_of _ _ stamps = None
 abbrev pub event_at : List (ViewKey × Stamps) → ViewKey × Content → Option Object
 event_at stamps r = option_and_then (event_of r.0 r.1) (at view_cmp r.0 stamps)
 
--- the events in sight, in the order of the keys, each with its stamps
+-- the events in sight, in the order of the keys, each with its stamps; on every state that a run reaches none is left out for want of stamps (law `events_lack_none` of adr_laws)
 abbrev pub events_in_sight : State → Sight → List Object
 events_in_sight s sight = filter_map (event_at s.stamps) (filter (λ r. sees s.base sight r.0) (view s.base))
 

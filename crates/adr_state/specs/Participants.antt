@@ -23,6 +23,6 @@ as_participant portfolio program r =
 abbrev pub participant_of : Portfolio → EventBody → ℕ × Resource → Option Participant
 participant_of portfolio event r = if is_for event.resource_names r.1.name then as_participant portfolio event.program r else None
 
--- the participants, in the order of their numbers
+-- the participants, in the order of their numbers; on every state that a run reaches none is left out for want of a ven (law `participants_lack_none` of adr_laws)
 abbrev pub participants : Portfolio → EventBody → List Participant
 participants portfolio event = filter_map (participant_of portfolio event) portfolio.resources
