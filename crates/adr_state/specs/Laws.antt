@@ -1,6 +1,7 @@
 -- Laws of the definitions: what they keep, whatever they are given.
 use Rattle.std.specs.Prelude.{◌≡◌, ◌⊎◌, ℕ, true, false, List, Option, None, Some}
 use Rattle.std.specs.List.{Contains}
+use Rattle.std.specs.declared.cmp.Ordering.{Ordering}
 use Rattle.adr_objects.specs.Canonical.{canonical_text}
 use Rattle.adr_objects.specs.declared.body.Body.{Body}
 use Rattle.adr_state.specs.declared.base.Mark.{Mark}
@@ -40,3 +41,7 @@ pub record IsJoined (mirror evidence : List (MirrorKey × Mark)) : Type 0 where
 
 abbrev pub JoinsAreGreatest : Type 0
 JoinsAreGreatest = (mirror evidence : List (MirrorKey × Mark)) → IsJoined mirror evidence
+
+-- the one order compares as the other does
+abbrev pub IsSameOrder : {K : Type 0} → (K → K → Ordering) → (K → K → Ordering) → Type 0
+IsSameOrder {K = K} one other = (a b : K) → one a b ≡ other a b
