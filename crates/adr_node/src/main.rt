@@ -2,16 +2,16 @@
 #![tactic(auto)]
 
 mod arguments;
+mod ending;
 mod script;
 
 use adr_script::ScriptFault;
 use adr_state::Limits;
+use ending::Ran;
 use std::env;
 use std::io::ErrorKind;
 use std::process::ExitCode;
 use std::rt::Env;
-
-const USAGE: &str = "usage: adr_node script [NAME=NUMBER ..] | serve CONFIG";
 
 /// The limits that the arguments set, if they are of the program's form.
 fn limits<R: Env + AllocGlobal>(rt: &R) -> Result<Option<Limits>, ScriptFault> {
@@ -31,20 +31,17 @@ fn limits<R: Env + AllocGlobal>(rt: &R) -> Result<Option<Limits>, ScriptFault> {
     Ok(arguments::limits_of(&behind))
 }
 
-fn main(rt: HostRuntime) -> ExitCode {
-    let ran = match limits(&rt) {
-        Ok(Some(limits)) => script::run(&rt, limits),
-        Ok(None) => {
-            let _ = eprintln!(rt; "{USAGE}");
-            return ExitCode::from(2);
-        }
-        Err(fault) => Err(fault),
-    };
-    match ran {
-        Ok(_) => ExitCode::SUCCESS,
-        Err(fault) => {
-            let _ = eprintln!(rt; "adr_node: {fault}");
-            ExitCode::FAILURE
-        }
+fn ran(rt: &HostRuntime) -> Ran {
+    match limits(rt)? {
+        Some(limits) => Ok(Some(script::run(rt, limits)?)),
+        None => Ok(None),
     }
+}
+
+fn main(rt: HostRuntime) -> ExitCode {
+    let ran = ran(&rt);
+    if let Some(line) = ending::line_of(&ran) {
+        let _ = eprintln!(rt; "{line}");
+    }
+    ending::status_of(&ran)
 }
