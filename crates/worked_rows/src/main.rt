@@ -58,19 +58,27 @@ fn folder<R: Env + AllocGlobal>(rt: &R) -> Result<String> {
     }
 }
 
-/// The paths of the files in the folder whose names end so, in order.
-fn files_of<R: Files + AllocGlobal + Clone + Drop>(
+fn path(alloc: Global, folder: &str, name: &str) -> Result<String> {
+    Ok(format!(in alloc; "{folder}/{name}")?)
+}
+
+/// The name of an entry of the folder goes behind the others, where it ends so.
+fn push_name(alloc: Global, names: &mut Vec<String>, name: &str, ending: &str) -> Result<()> {
+    if name.ends_with(ending) {
+        names.push(String::from_str(alloc, name)?)?;
+    }
+    Ok(())
+}
+
+/// The names of the files in the folder that end so, in order.
+fn names_of<R: Files + AllocGlobal + Clone + Drop>(
     rt: &R,
     folder: &str,
     ending: &str,
 ) -> Result<Vec<String>> {
     let mut names = Vec::new(rt.alloc());
     for entry in fs::read_dir(rt, folder)? {
-        let entry = entry?;
-        let name = entry.file_name();
-        if name.ends_with(ending) {
-            names.push(format!(in rt.alloc(); "{folder}/{name}")?)?;
-        }
+        push_name(rt.alloc(), &mut names, entry?.file_name(), ending)?;
     }
     names.sort()?;
     Ok(names)
@@ -108,14 +116,32 @@ fn run_row<R: Print + AllocGlobal>(rt: &R, row: &Row) -> Result<bool> {
     Ok(plain && tables)
 }
 
+fn bytes_of<R: Files + AllocGlobal>(rt: &R, folder: &str, name: &str) -> Result<Vec<u8>> {
+    Ok(fs::read(rt, path(rt.alloc(), folder, name)?.as_str())?)
+}
+
+fn run_row_of<R: Files + Print + AllocGlobal>(rt: &R, folder: &str, name: String) -> Result<bool> {
+    let bytes = bytes_of(rt, folder, name.as_str())?;
+    let row = read_row(rt.alloc(), &bytes).context(name)?;
+    run_row(rt, &row)
+}
+
 fn run_rows<R: Files + Print + AllocGlobal + Clone + Drop>(rt: &R, folder: &str) -> Result<bool> {
     let mut passed = true;
-    for file in files_of(rt, folder, ".row")? {
-        let bytes = fs::read(rt, file.as_str())?;
-        let row = read_row(rt.alloc(), &bytes).context(file)?;
-        passed &= run_row(rt, &row)?;
+    for name in names_of(rt, folder, ".row")? {
+        passed &= run_row_of(rt, folder, name)?;
     }
     Ok(passed)
+}
+
+fn run_table_of<R: Files + Print + AllocGlobal>(
+    rt: &R,
+    folder: &str,
+    name: String,
+) -> Result<bool> {
+    let bytes = bytes_of(rt, folder, name.as_str())?;
+    let texts = read_texts(rt.alloc(), &bytes).context(name)?;
+    run_texts(rt, &texts)
 }
 
 fn run_texts_of<R: Files + Print + AllocGlobal + Clone + Drop>(
@@ -123,10 +149,8 @@ fn run_texts_of<R: Files + Print + AllocGlobal + Clone + Drop>(
     folder: &str,
 ) -> Result<bool> {
     let mut passed = true;
-    for file in files_of(rt, folder, ".texts")? {
-        let bytes = fs::read(rt, file.as_str())?;
-        let texts = read_texts(rt.alloc(), &bytes).context(file)?;
-        passed &= run_texts(rt, &texts)?;
+    for name in names_of(rt, folder, ".texts")? {
+        passed &= run_table_of(rt, folder, name)?;
     }
     Ok(passed)
 }

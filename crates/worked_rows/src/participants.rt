@@ -115,19 +115,41 @@ fn event(alloc: Global, resource_names: Option<NameSet>) -> Result<EventBody, Re
     })
 }
 
+// Adds a number with its weight.
+fn push_part(
+    alloc: Global,
+    line: &mut String,
+    number: Number,
+    weight: Weight,
+) -> Result<(), AllocError> {
+    let words = format!(in alloc; "{} {};", number.get(), weight.get())?;
+    line.push_str(words.as_str())
+}
+
+fn line_of(alloc: Global, parts: &[(Number, Weight)]) -> Result<String, AllocError> {
+    let mut line = String::new(alloc);
+    for (number, weight) in parts {
+        push_part(alloc, &mut line, *number, *weight)?;
+    }
+    Ok(line)
+}
+
 // The numbers and the weights of those that take part.
+fn parts_of<S: Alter>(
+    alloc: Global,
+    tx: &mut Transaction<'_, S>,
+    event: &EventBody,
+) -> Result<String, Refusal> {
+    let parts = participants(alloc, tx, event)?;
+    Ok(line_of(alloc, parts.as_slice())?)
+}
+
 fn parts<S: Alter>(
     alloc: Global,
     tx: &mut Transaction<'_, S>,
     names: Option<NameSet>,
 ) -> Result<String, Refusal> {
-    let mut line = String::new(alloc);
-    let parts = participants(alloc, tx, &event(alloc, names)?)?;
-    for (number, weight) in parts.as_slice() {
-        let words = format!(in alloc; "{} {};", number.get(), weight.get())?;
-        line.push_str(words.as_str())?;
-    }
-    Ok(line)
+    parts_of(alloc, tx, &event(alloc, names)?)
 }
 
 fn one_name(alloc: Global, name: &str) -> Result<NameSet, Refusal> {
@@ -144,6 +166,24 @@ fn all_parts<S: Alter>(alloc: Global, tx: &mut Transaction<'_, S>) -> Result<[St
     Ok([all, one, none])
 }
 
+fn read_all<S: Alter>(
+    alloc: Global,
+    tx: &mut Transaction<'_, S>,
+) -> Result<(String, [String; 3]), Refusal> {
+    let shown = shown(alloc, tx)?;
+    let parts = all_parts(alloc, tx)?;
+    Ok((shown, parts))
+}
+
+fn run_in<S: Alter>(
+    alloc: Global,
+    tx: &mut Transaction<'_, S>,
+) -> Result<(String, [String; 3]), Refusal> {
+    create(tx)?;
+    fill(alloc, tx)?;
+    read_all(alloc, tx)
+}
+
 fn run<S: Alter>(
     alloc: Global,
     conn: &mut Connection<S>,
@@ -151,10 +191,7 @@ fn run<S: Alter>(
     if !conn.is_autocommit() {
         return Err(Refusal::Store);
     }
-    let mut tx = conn.transaction();
-    create(&mut tx)?;
-    fill(alloc, &mut tx)?;
-    Ok((shown(alloc, &mut tx)?, all_parts(alloc, &mut tx)?))
+    run_in(alloc, &mut conn.transaction())
 }
 
 /// What is shown of who shares in a program, and of who takes part in events of it, with these tables.

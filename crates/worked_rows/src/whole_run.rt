@@ -4,7 +4,7 @@ use adr_desk::{Edit, MemoryDesk, edit_each};
 use adr_machine::{Answer, Command, Desk, PlainDesk, Role, run};
 use adr_objects::Kind;
 use adr_schema::{read_page, read_resource, read_ven};
-use adr_state::Settings;
+use adr_state::{Settings, State};
 use adr_text::{Moment, ObjectId, Refusal};
 use std::alloc::Global;
 
@@ -74,15 +74,65 @@ fn accepted<T>(answers: &[Result<T, Refusal>]) -> usize {
     answers.iter().filter(|answer| answer.is_ok()).count()
 }
 
-fn is_like(alloc: Global, settings: Settings, again: Settings) -> Result<bool, Refusal> {
-    let steps = steps(alloc)?;
-    let mut plain = PlainDesk::new(alloc, settings);
-    let mut tables = MemoryDesk::open_memory(alloc, again)?;
-    let answers: Vec<Result<Answer, Refusal>> = run(alloc, &mut plain, &steps)?;
-    let edits: Vec<Result<Option<Edit>, Refusal>> = edit_each(alloc, &mut tables, &steps)?;
-    let image = plain.image()?;
+// The values of a call stand in functions of their own, since each owned one makes those behind it dearer to check.
+fn told_plain(
+    alloc: Global,
+    plain: &mut PlainDesk,
+    steps: &[(Moment, Command)],
+) -> Result<usize, Refusal> {
+    let answers: Vec<Result<Answer, Refusal>> = run(alloc, plain, steps)?;
+    Ok(accepted(&answers))
+}
+
+fn told_tables(
+    alloc: Global,
+    tables: &mut MemoryDesk,
+    steps: &[(Moment, Command)],
+) -> Result<usize, Refusal> {
+    let edits: Vec<Result<Option<Edit>, Refusal>> = edit_each(alloc, tables, steps)?;
+    Ok(accepted(&edits))
+}
+
+fn hold(alloc: Global, tables: &mut MemoryDesk, image: &State) -> Result<bool, Refusal> {
     let other = tables.image()?;
-    Ok(accepted(&answers) == 6 && accepted(&edits) == 6 && is_same(alloc, &image, &other)?)
+    Ok(is_same(alloc, image, &other)?)
+}
+
+fn hold_the_same(
+    alloc: Global,
+    plain: &mut PlainDesk,
+    tables: &mut MemoryDesk,
+) -> Result<bool, Refusal> {
+    let image = plain.image()?;
+    hold(alloc, tables, &image)
+}
+
+fn take_the_same(
+    alloc: Global,
+    plain: &mut PlainDesk,
+    tables: &mut MemoryDesk,
+    steps: &[(Moment, Command)],
+) -> Result<bool, Refusal> {
+    if told_plain(alloc, plain, steps)? != 6 || told_tables(alloc, tables, steps)? != 6 {
+        return Ok(false);
+    }
+    hold_the_same(alloc, plain, tables)
+}
+
+fn tables_are_like(
+    alloc: Global,
+    plain: &mut PlainDesk,
+    again: Settings,
+    steps: &[(Moment, Command)],
+) -> Result<bool, Refusal> {
+    let mut tables = MemoryDesk::open_memory(alloc, again)?;
+    take_the_same(alloc, plain, &mut tables, steps)
+}
+
+fn is_like(alloc: Global, settings: Settings, again: Settings) -> Result<bool, Refusal> {
+    let mut plain = PlainDesk::new(alloc, settings);
+    let steps = steps(alloc)?;
+    tables_are_like(alloc, &mut plain, again, &steps)
 }
 
 /// Tells the list to both, prints how it went, and answers whether they took the same and hold the same.
