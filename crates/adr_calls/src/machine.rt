@@ -67,9 +67,12 @@ fn ran(
     Ok(numbers_in(&answers))
 }
 
+fn ran_on(alloc: Global, desk: &mut PlainDesk) -> Result<[u64; 3], Refusal> {
+    ran(alloc, desk, &steps(alloc)?)
+}
+
 fn ran_anew(alloc: Global) -> Result<[u64; 3], Refusal> {
-    let steps = steps(alloc)?;
-    ran(alloc, &mut desk(alloc)?, &steps)
+    ran_on(alloc, &mut desk(alloc)?)
 }
 
 #[test]
@@ -83,8 +86,12 @@ fn apply(desk: &mut PlainDesk, now: Moment, command: &Command) -> Result<(), Ref
     Ok(())
 }
 
+fn enroll_at(alloc: Global, desk: &mut PlainDesk, now: Moment) -> Result<(), Refusal> {
+    apply(desk, now, &ven(alloc, "{\"venName\":\"alpha\"}")?)
+}
+
 fn enroll(alloc: Global, desk: &mut PlainDesk) -> Result<(), Refusal> {
-    apply(desk, ten()?, &ven(alloc, "{\"venName\":\"alpha\"}")?)
+    enroll_at(alloc, desk, ten()?)
 }
 
 fn desk_of_one(alloc: Global) -> Result<PlainDesk, Refusal> {
@@ -101,8 +108,12 @@ fn image(alloc: Global) -> Result<State, Refusal> {
     image_of(desk_of_one(alloc)?)
 }
 
+fn copy_of(state: &State) -> Result<State, Refusal> {
+    Ok(state.copy()?)
+}
+
 fn copy(alloc: Global) -> Result<State, Refusal> {
-    Ok(image(alloc)?.copy()?)
+    copy_of(&image(alloc)?)
 }
 
 // How many vens there are, and the serial.
@@ -110,10 +121,18 @@ fn sizes(state: &State) -> (usize, u64) {
     (state.base.portfolio.vens.len(), state.base.serial.get())
 }
 
+fn sizes_of_image(alloc: Global) -> Result<(usize, u64), Refusal> {
+    Ok(sizes(&image(alloc)?))
+}
+
+fn sizes_of_copy(alloc: Global) -> Result<(usize, u64), Refusal> {
+    Ok(sizes(&copy(alloc)?))
+}
+
 #[test]
 fn images(rt: HostRuntime) -> Result<(), Fail> {
-    assert!(rt; sizes(&image(rt.alloc())?) == (1, 1));
-    assert!(rt; sizes(&copy(rt.alloc())?) == (1, 1));
+    assert!(rt; sizes_of_image(rt.alloc())? == (1, 1));
+    assert!(rt; sizes_of_copy(rt.alloc())? == (1, 1));
     Ok(())
 }
 
@@ -180,17 +199,18 @@ const IDS: [(&str, Option<u64>); 10] = [
     ("1", None),
 ];
 
-fn ven_number(alloc: Global, id: &str) -> Result<Option<u64>, Refusal> {
-    match number_in(b'v', &ObjectId::new(alloc, id)?) {
-        Some(number) => Ok(Some(number.get())),
-        None => Ok(None),
-    }
+fn number_of(id: &ObjectId) -> Option<u64> {
+    Some(number_in(b'v', id)?.get())
+}
+
+fn is_of_number(alloc: Global, id: &str, number: Option<u64>) -> Result<bool, Refusal> {
+    Ok(number_of(&ObjectId::new(alloc, id)?) == number)
 }
 
 #[test]
 fn numbers_of_ids(rt: HostRuntime) -> Result<(), Fail> {
-    for (id, number) in IDS {
-        assert!(rt; ven_number(rt.alloc(), id)? == number, "{id}");
+    for (id, number) in &IDS {
+        assert!(rt; is_of_number(rt.alloc(), *id, *number)?, "{id}");
     }
     Ok(())
 }

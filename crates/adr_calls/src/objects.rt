@@ -107,9 +107,12 @@ fn shown(alloc: Global) -> Result<EventObject, Refusal> {
     })
 }
 
+fn written_of(alloc: Global, event: &EventObject) -> Result<String, Refusal> {
+    Ok(write_events(alloc, from_ref(event))?)
+}
+
 fn written(alloc: Global) -> Result<String, Refusal> {
-    let event = shown(alloc)?;
-    Ok(write_events(alloc, from_ref(&event))?)
+    written_of(alloc, &shown(alloc)?)
 }
 
 const WRITTEN: &str =
