@@ -3,3 +3,4 @@ pub mod Enrolled
 pub mod ShownParts
 pub mod Told
 pub mod Laws
+pub mod Refusals

@@ -2,5 +2,6 @@ pub mod Roles
 pub mod Listings
 pub mod Changes
 pub mod Edits
+pub mod Listed
 pub mod Steps
 pub mod Runs

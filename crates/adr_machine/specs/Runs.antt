@@ -1,11 +1,12 @@
 -- Whole runs, over any step. A step that was answered by want of memory or by the store stands for no step.
-use Rattle.std.specs.Prelude.{◌≡◌, ℕ, Bool, true, false, MatchBool, List, [], ◌∷◌, Result, Ok, Err}
+use Rattle.std.specs.Prelude.{◌≡◌, ℕ, Bool, true, false, MatchBool, List, [], ◌∷◌, Result, Ok, Err, IfErr}
 use Rattle.adr_text.specs.declared.refusal.Refusal.{Refusal}
 use Rattle.adr_text.specs.declared.refusal.Refusal.TheVariants.{OutOfMemory, Store}
 use Rattle.adr_state.specs.declared.state.State.{State}
 use Rattle.adr_state.specs.declared.limits.Settings.{Settings}
 use Rattle.adr_machine.specs.declared.command.Command.{Command}
 use Rattle.adr_machine.specs.declared.answer.Answer.{Answer}
+use Rattle.adr_machine.specs.Listed.{listed, IsListed}
 use Rattle.adr_machine.specs.Steps.{step}
 
 -- what a step tells the caller
@@ -38,3 +39,9 @@ IsRun step s _ _ t = ⊥
 -- the machine's step at a pair of a moment and a command
 abbrev pub step_at : Settings → State → ℕ × Command → Result (Answer × State) Refusal
 step_at settings s c = step settings s c.0 c.1
+
+-- to each command in turn, each refusal is one that is listed for it, or want of memory, or the store's, where that may refuse
+abbrev pub AreListed : Type 0 → List (ℕ × Command) → List (Result Answer Refusal) → Type 0
+AreListed may_refuse [] [] = Unit {0}
+AreListed may_refuse (c ∷ cs) (r ∷ rs) = IfErr r (IsListed may_refuse (listed c.1)) × AreListed may_refuse cs rs
+AreListed may_refuse _ _ = ⊥

@@ -1,5 +1,5 @@
 -- One step of the machine, and its replies to queries.
-use Rattle.std.specs.Prelude.{◌≡◌, ℕ, Bool, true, List, length, filter, take, Option, None, Some, option_map, option_and_then, Result, Ok, Err}
+use Rattle.std.specs.Prelude.{ℕ, Bool, true, List, length, filter, take, Option, None, Some, option_map, option_and_then, Result, Ok, Err}
 use Rattle.std.specs.List.{filter_map}
 use Rattle.std.specs.Ordering.{nat_cmp}
 use Rattle.std.specs.Option.{option_map_or}

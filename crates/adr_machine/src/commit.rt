@@ -1,6 +1,6 @@
 //! Steps: an edit, and then its commit.
-ghost use Rattle.std.specs.Prelude.{◌≡◌, ◌≢◌, Ok, Err, IfOk, IfErr};
-ghost use Rattle.adr_text.specs.declared.refusal.Refusal.TheVariants.{Store};
+ghost use Rattle.std.specs.Prelude.{◌≡◌, Ok, IfOk, IfErr};
+ghost use Rattle.adr_machine.specs.Listed.{listed, IsListed};
 ghost use Rattle.adr_machine.specs.Steps.{answer_or_count, changed, committed, step};
 ghost use Rattle.adr_text.specs.Refusals.{IsRefusalOf};
 
@@ -62,7 +62,7 @@ pub(crate) fn next(
 ) -> Result<(Answer, State), Refusal>
     ensures ok { IfOk result (λ next. step settings.now state.now now command.now ≡ Ok next) }
     ensures refused { IfErr result (λ refusal. IsRefusalOf refusal (step settings.now state.now now command.now)) }
-    ensures no_store { result ≢ Err Store }
+    ensures listed { IfErr result (IsListed ⊥ (listed command.now)) }
 {
     let mut base = state.base.copy()?;
     let answer = edited(alloc, &settings.limits, now, &mut base, command)?;

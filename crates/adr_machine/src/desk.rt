@@ -1,7 +1,8 @@
 //! A desk is whatever keeps the machine's state. Its clauses say that `apply` is the machine's step.
-ghost use Rattle.std.specs.Prelude.{◌≡◌, Ok, IfOk, IfErr, OnErr};
+ghost use Rattle.std.specs.Prelude.{◌≡◌, [], Ok, IfOk, IfErr, OnErr};
 ghost use Rattle.adr_state.specs.declared.state.State.{State};
 ghost use Rattle.adr_state.specs.declared.limits.Settings.{Settings};
+ghost use Rattle.adr_machine.specs.Listed.{listed, listed_for, IsListed};
 ghost use Rattle.adr_machine.specs.Steps.{step, reply, image_of};
 ghost use Rattle.adr_text.specs.Refusals.{IsRefusalOf};
 
@@ -21,10 +22,16 @@ pub trait Desk {
     /// What the clauses ask of the desk as a call ends. One that is sound after a call was so before.
     ghost is_sound: { Self → Type 0 };
 
-    /// Takes one step. Only want of memory and the store may stand in place of the machine's answer.
+    /// That the desk has a store, which may refuse. Where it is ⊥, the store's refusal is never answered.
+    ghost may_refuse: { Type 0 };
+
+    /// Takes one step. Only want of memory, and the store where it may refuse, may stand in place of the
+    /// machine's answer. Any other refusal is one that is listed for the command, also of a desk that isn't
+    /// sound.
     fn apply(&mut self, now: Moment, command: &Command) -> Result<Answer, Refusal>
         ensures ok { IfOk result (λ answer. is_sound self.new → step (settings self.old) (state self.old) now command.now ≡ Ok (answer, state self.new)) }
         ensures refused { IfErr result (λ refusal. is_sound self.new → IsRefusalOf refusal (step (settings self.old) (state self.old) now command.now)) }
+        ensures listed { IfErr result (IsListed may_refuse (listed command.now)) }
         ensures unchanged { OnErr result (is_sound self.new → state self.new ≡ state self.old) }
         ensures was_sound { is_sound self.new → is_sound self.old }
         ensures same_settings { settings self.new ≡ settings self.old };
@@ -33,6 +40,7 @@ pub trait Desk {
     fn ask(&mut self, query: &Query) -> Result<Answer, Refusal>
         ensures ok { IfOk result (λ answer. is_sound self.new → reply (state self.old) query.now ≡ Ok answer) }
         ensures refused { IfErr result (λ refusal. is_sound self.new → IsRefusalOf refusal (reply (state self.old) query.now)) }
+        ensures listed { IfErr result (IsListed may_refuse (listed_for query.now)) }
         ensures unchanged { is_sound self.new → state self.new ≡ state self.old }
         ensures was_sound { is_sound self.new → is_sound self.old }
         ensures same_settings { settings self.new ≡ settings self.old };
@@ -41,6 +49,7 @@ pub trait Desk {
     fn image(&mut self) -> Result<State, Refusal>
         ensures ok { IfOk result (λ image. is_sound self.new → image ≡ state self.old) }
         ensures refused { IfErr result (λ refusal. is_sound self.new → IsRefusalOf refusal (image_of (state self.old))) }
+        ensures listed { IfErr result (IsListed may_refuse []) }
         ensures unchanged { is_sound self.new → state self.new ≡ state self.old }
         ensures was_sound { is_sound self.new → is_sound self.old }
         ensures same_settings { settings self.new ≡ settings self.old };

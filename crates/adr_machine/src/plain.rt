@@ -1,7 +1,7 @@
 //! The plain desk: it works on a copy, and puts that in place when nothing can fail any more.
-ghost use Rattle.std.specs.Prelude.{◌≡◌, ◌≢◌, Ok, Err, IfOk, IfErr, OnErr};
-ghost use Rattle.adr_text.specs.declared.refusal.Refusal.TheVariants.{Store};
+ghost use Rattle.std.specs.Prelude.{◌≡◌, [], Ok, IfOk, IfErr, OnErr};
 ghost use Rattle.adr_state.specs.States.{empty};
+ghost use Rattle.adr_machine.specs.Listed.{listed, listed_for, IsListed};
 ghost use Rattle.adr_machine.specs.Steps.{step, reply, image_of};
 ghost use Rattle.adr_text.specs.Refusals.{IsRefusalOf};
 
@@ -44,13 +44,15 @@ impl Desk for PlainDesk {
 
     ghost is_sound = { λ _. Unit {0} };
 
+    ghost may_refuse = { ⊥ };
+
     fn apply(&mut self, now: Moment, command: &Command) -> Result<Answer, Refusal>
         ensures ok { IfOk result (λ answer. Unit {0} → step self.old.settings self.old.state now command.now ≡ Ok (answer, self.new.state)) }
         ensures refused { IfErr result (λ refusal. Unit {0} → IsRefusalOf refusal (step self.old.settings self.old.state now command.now)) }
+        ensures listed { IfErr result (IsListed ⊥ (listed command.now)) }
         ensures unchanged { OnErr result (Unit {0} → self.new.state ≡ self.old.state) }
         ensures was_sound { Unit {0} → Unit {0} }
         ensures same_settings { self.new.settings ≡ self.old.settings }
-        ensures no_store { result ≢ Err Store }
     {
         let (answer, state) = next(self.alloc, &self.settings, &self.state, now, command)?;
         self.state = state;
@@ -60,10 +62,10 @@ impl Desk for PlainDesk {
     fn ask(&mut self, query: &Query) -> Result<Answer, Refusal>
         ensures ok { IfOk result (λ answer. Unit {0} → reply self.old.state query.now ≡ Ok answer) }
         ensures refused { IfErr result (λ refusal. Unit {0} → IsRefusalOf refusal (reply self.old.state query.now)) }
+        ensures listed { IfErr result (IsListed ⊥ (listed_for query.now)) }
         ensures unchanged { Unit {0} → self.new.state ≡ self.old.state }
         ensures was_sound { Unit {0} → Unit {0} }
         ensures same_settings { self.new.settings ≡ self.old.settings }
-        ensures no_store { result ≢ Err Store }
     {
         reply::reply(self.alloc, &self.state, query)
     }
@@ -71,10 +73,10 @@ impl Desk for PlainDesk {
     fn image(&mut self) -> Result<State, Refusal>
         ensures ok { IfOk result (λ image. Unit {0} → image ≡ self.old.state) }
         ensures refused { IfErr result (λ refusal. Unit {0} → IsRefusalOf refusal (image_of self.old.state)) }
+        ensures listed { IfErr result (IsListed ⊥ []) }
         ensures unchanged { Unit {0} → self.new.state ≡ self.old.state }
         ensures was_sound { Unit {0} → Unit {0} }
         ensures same_settings { self.new.settings ≡ self.old.settings }
-        ensures no_store { result ≢ Err Store }
     {
         Ok(self.state.copy()?)
     }

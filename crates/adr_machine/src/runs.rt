@@ -1,6 +1,6 @@
 //! Whole runs, proved once for any desk.
 ghost use Rattle.std.specs.Prelude.{◌≡◌, length, IfOk, OnErr};
-ghost use Rattle.adr_machine.specs.Runs.{IsRun, step_at};
+ghost use Rattle.adr_machine.specs.Runs.{IsRun, AreListed, step_at};
 
 use crate::answer::Answer;
 use crate::command::Command;
@@ -16,6 +16,7 @@ pub fn run<D: Desk>(
     steps: &[(Moment, Command)],
 ) -> Result<Vec<Result<Answer, Refusal>>, AllocError>
     ensures run { IfOk result (λ answers. D.is_sound desk.new → IsRun (step_at (D.settings desk.old)) (D.state desk.old) steps.now answers.items (D.state desk.new)) }
+    ensures listed { IfOk result (λ answers. AreListed D.may_refuse steps.now answers.items) }
     ensures each { IfOk result (λ answers. length answers.items ≡ length steps.now) }
     ensures err { OnErr result (D.is_sound desk.new → D.state desk.new ≡ D.state desk.old) }
     ensures was_sound { D.is_sound desk.new → D.is_sound desk.old }

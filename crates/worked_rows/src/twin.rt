@@ -84,6 +84,9 @@ impl Desk for Twin {
 
     ghost is_sound = { λ twin. ⟦<PlainDesk as Desk>⟧.is_sound twin.plain };
 
+    // The tables are told, and never asked: what they refuse is counted, and not answered.
+    ghost may_refuse = { ⟦<PlainDesk as Desk>⟧.may_refuse };
+
     fn apply(&mut self, now: Moment, command: &Command) -> Result<Answer, Refusal> {
         let said = self.plain.apply(now, command);
         let image = self.plain.image();

@@ -1,0 +1,47 @@
+-- The refusals that are listed for each command and each query, in the order in which each is first tested.
+use Rattle.std.specs.Prelude.{Bool, true, false, List, [], ◌∷◌}
+use Rattle.std.specs.List.{Contains}
+use Rattle.adr_text.specs.declared.refusal.Refusal.{Refusal}
+use Rattle.adr_text.specs.declared.refusal.Refusal.TheVariants.{OutOfMemory, Store, Exhausted, TrailFull, NotFound, Conflict, Forbidden, BadShare, LimitReached, NoScan, Stale}
+use Rattle.adr_machine.specs.declared.command.Command.{Command}
+use Rattle.adr_machine.specs.declared.command.Command.TheVariants.{Evidence, Gone, ScanBegin, ScanEnd, VenAdd, VenPut, VenRemove, ResourceAdd, ResourcePut, ResourceRemove, ShareSet}
+use Rattle.adr_machine.specs.declared.query.Query.{Query}
+use Rattle.adr_machine.specs.declared.query.Query.TheVariants as query
+
+-- what a command may be refused by
+abbrev pub listed : Command → List Refusal
+listed (Evidence founds polled) = LimitReached ∷ []
+listed (Gone kind id) = LimitReached ∷ []
+listed ScanBegin = []
+listed ScanEnd = NoScan ∷ []
+listed (VenAdd role ven) = Forbidden ∷ Conflict ∷ LimitReached ∷ Exhausted ∷ []
+listed (VenPut role id ven) = Forbidden ∷ NotFound ∷ Conflict ∷ []
+listed (VenRemove role id) = Forbidden ∷ NotFound ∷ []
+listed (ResourceAdd role ven resource) = Forbidden ∷ NotFound ∷ Conflict ∷ LimitReached ∷ Exhausted ∷ []
+listed (ResourcePut role ven id resource) = Forbidden ∷ NotFound ∷ Conflict ∷ []
+listed (ResourceRemove role ven id) = Forbidden ∷ NotFound ∷ []
+listed (ShareSet role program resource share) = Forbidden ∷ NotFound ∷ BadShare ∷ LimitReached ∷ []
+
+-- what a query may be refused by
+abbrev pub listed_for : Query → List Refusal
+listed_for (query.Events role page) = Forbidden ∷ []
+listed_for (query.Vens role page) = Forbidden ∷ []
+listed_for (query.Ven role id) = Forbidden ∷ NotFound ∷ []
+listed_for (query.Resources role ven page) = Forbidden ∷ NotFound ∷ []
+listed_for (query.Resource role ven id) = Forbidden ∷ NotFound ∷ []
+listed_for (query.Shares role program) = Forbidden ∷ []
+listed_for (query.Probes limit) = NoScan ∷ []
+
+-- whether a refusal is the machine's: want of memory and the store's stand only in place of its answer, and it keeps no trail and takes no pass
+abbrev pub is_of_machine : Refusal → Bool
+is_of_machine OutOfMemory = false
+is_of_machine Store = false
+is_of_machine TrailFull = false
+is_of_machine (Stale turn) = false
+is_of_machine refusal = true
+
+-- how a desk may refuse: as is listed, for want of memory, and by its store, where that may refuse
+abbrev pub IsListed : Type 0 → List Refusal → Refusal → Type 0
+IsListed may_refuse listed OutOfMemory = Unit {0}
+IsListed may_refuse listed Store = may_refuse
+IsListed may_refuse listed refusal = Contains listed refusal
