@@ -14,13 +14,13 @@ use Rattle.adr_script.specs.Readings.{HasRead, HasStopped}
 use Rattle.adr_script.proofs.Lines.{short_lines, last_line-short, last_line-few}
 use Rattle.adr_script.proofs.Scripts.{Runs-nothing, Runs-append, Runs-last, Stops-at_once, Stops-after, LongLine-after, ManyLines-after, Stops-last}
 
-module _ {settings : Settings} where
-  pub HasRead-nothing : {P : Type 0} {s : State} {o : Option (List ℕ)} {p : Progress} → HasRead P settings s s o o p p []
+module _ {may_refuse : Type 0} {settings : Settings} where
+  pub HasRead-nothing : {P : Type 0} {s : State} {o : Option (List ℕ)} {p : Progress} → HasRead P may_refuse settings s s o o p p []
   HasRead-nothing = record { ended = []; lines = λ rest. refl; short = All-nil IsShort; seen = omega arith; runs = λ sound. Runs-nothing }
 
   -- a text, and then one more
   pub HasRead-append : {P Q : Type 0} {s u t : State} {o m w : Option (List ℕ)} {p q r : Progress} {xs ys : List ℕ} → (Q → P)
-      → HasRead P settings s u o m p q xs → HasRead Q settings u t m w q r ys → HasRead Q settings s t o w p r (xs ++ ys)
+      → HasRead P may_refuse settings s u o m p q xs → HasRead Q may_refuse settings u t m w q r ys → HasRead Q may_refuse settings s t o w p r (xs ++ ys)
   HasRead-append {r = r} {xs = xs} {ys = ys} was a b =
       record {
         ended = a.ended ++ b.ended;
@@ -32,7 +32,7 @@ module _ {settings : Settings} where
 
   -- a text, and then one in which a fault came
   pub HasStopped-after : {P Q : Type 0} {s u t : State} {o m w : Option (List ℕ)} {p q : Progress} {xs ys : List ℕ} {fault : ScriptFault} → (Q → P)
-      → HasRead P settings s u o m p q xs → HasStopped Q settings u t m w q ys fault → HasStopped Q settings s t o w p (xs ++ ys) fault
+      → HasRead P may_refuse settings s u o m p q xs → HasStopped Q may_refuse settings u t m w q ys fault → HasStopped Q may_refuse settings s t o w p (xs ++ ys) fault
   HasStopped-after {q = q} {ys = ys} was a b =
       record {
         stops = λ sound. rw (a.lines ys) (Stops-after (a.runs (was sound)) (b.stops sound));
@@ -42,25 +42,25 @@ module _ {settings : Settings} where
 
   -- a fault that is no limit's
   pub HasStopped-plain : {P : Type 0} {s t : State} {o w : Option (List ℕ)} {p : Progress} {text : List ℕ} {fault : ScriptFault} → fault ≢ LineTooLong → fault ≢ ScriptTooLong
-      → (P → StopsScript settings s (lines_of (p.line.items ++ text)) t o w) → HasStopped P settings s t o w p text fault
+      → (P → StopsScript may_refuse settings s (lines_of (p.line.items ++ text)) t o w) → HasStopped P may_refuse settings s t o w p text fault
   HasStopped-plain no_line no_script stops = record { stops = stops; long_line = λ e. absurd (no_line e); long_script = λ e. absurd (no_script e) }
 
   -- ---- whole scripts
 
-  module _ {P : Type 0} {s u : State} {o m : Option (List ℕ)} {p q : Progress} {text : List ℕ} (fresh : p.line.items ≡ []) (a : HasRead P settings s u o m p q text) where
+  module _ {P : Type 0} {s u : State} {o m : Option (List ℕ)} {p q : Progress} {text : List ℕ} (fresh : p.line.items ≡ []) (a : HasRead P may_refuse settings s u o m p q text) where
     goes_on : (rest : List ℕ) → lines_of (text ++ rest) ≡ a.ended ++ lines_of (q.line.items ++ rest)
     goes_on rest = ap (λ (l : List ℕ). lines_of (l ++ (text ++ rest))) (sym fresh) ∙ a.lines rest
 
     whole : lines_of text ≡ a.ended ++ lines_of q.line.items
     whole = simp append-nil at (goes_on [])
 
-    pub Stops-read : (rest : List ℕ) → P → StopsScript settings s (lines_of (text ++ rest)) u o m
+    pub Stops-read : (rest : List ℕ) → P → StopsScript may_refuse settings s (lines_of (text ++ rest)) u o m
     Stops-read rest sound = rw (goes_on rest) (Stops-after (a.runs sound) Stops-at_once)
 
-    pub Runs-whole : {t : State} {w : Option (List ℕ)} {n : ℕ} → P → RunsScript settings u (q.line.items ∷ []) t m w q.printed n → RunsScript settings s (lines_of text) t o w p.printed n
+    pub Runs-whole : {t : State} {w : Option (List ℕ)} {n : ℕ} → P → RunsScript may_refuse settings u (q.line.items ∷ []) t m w q.printed n → RunsScript may_refuse settings s (lines_of text) t o w p.printed n
     Runs-whole sound b = rw whole (Runs-append (a.runs sound) (Runs-last q.no_end b))
 
-    pub Stops-whole : {t : State} {w : Option (List ℕ)} → P → 0 < length q.line.items → StopsScript settings u (q.line.items ∷ []) t m w → StopsScript settings s (lines_of text) t o w
+    pub Stops-whole : {t : State} {w : Option (List ℕ)} → P → 0 < length q.line.items → StopsScript may_refuse settings u (q.line.items ∷ []) t m w → StopsScript may_refuse settings s (lines_of text) t o w
     Stops-whole sound some b = rw whole (Stops-after (a.runs sound) (Stops-last q.no_end some b))
 
     pub short_whole : ¬ HasLongLine text

@@ -29,9 +29,9 @@ fn end_line<D: Desk, W: Sink>(
     sink: &mut W,
     progress: &Progress,
 ) -> Result<u64, ScriptFault>
-    ensures ok { IfOk result (λ n. D.is_sound desk.new → RunsScript (D.settings desk.old) (D.state desk.old) (progress.now.line.items ∷ []) (D.state desk.new) (W.written sink.old) (W.written sink.new) progress.now.printed n) }
+    ensures ok { IfOk result (λ n. D.is_sound desk.new → RunsScript D.may_refuse (D.settings desk.old) (D.state desk.old) (progress.now.line.items ∷ []) (D.state desk.new) (W.written sink.old) (W.written sink.new) progress.now.printed n) }
     ensures few { IfOk result (λ n. n ≤ progress.now.printed + 1) }
-    ensures err { OnErr result ((0 < length progress.now.line.items) × (D.is_sound desk.new → (others : List (List ℕ)) → StopsScript (D.settings desk.old) (D.state desk.old) (progress.now.line.items ∷ others) (D.state desk.new) (W.written sink.old) (W.written sink.new))) }
+    ensures err { OnErr result ((0 < length progress.now.line.items) × (D.is_sound desk.new → (others : List (List ℕ)) → StopsScript D.may_refuse (D.settings desk.old) (D.state desk.old) (progress.now.line.items ∷ others) (D.state desk.new) (W.written sink.old) (W.written sink.new))) }
     ensures no_write_fault { result ≢ Err Write → NoneFails (W.calls sink.old) (W.calls sink.new) }
     ensures write_fault { result ≡ Err Write → LastFails (W.calls sink.old) (W.calls sink.new) }
     ensures no_read_fault { result ≢ Err Read }
@@ -59,8 +59,8 @@ fn take_end<D: Desk, W: Sink>(
     progress: &mut Progress,
 ) -> Result<(), ScriptFault>
     requires { progress.old.seen < most_lines }
-    ensures ok { OnOk result (HasRead (D.is_sound desk.new) (D.settings desk.old) (D.state desk.old) (D.state desk.new) (W.written sink.old) (W.written sink.new) progress.old progress.new (10 ∷ [])) }
-    ensures err { IfErr result (λ fault. (rest : List ℕ) → HasStopped (D.is_sound desk.new) (D.settings desk.old) (D.state desk.old) (D.state desk.new) (W.written sink.old) (W.written sink.new) progress.old (10 ∷ rest) fault) }
+    ensures ok { OnOk result (HasRead (D.is_sound desk.new) D.may_refuse (D.settings desk.old) (D.state desk.old) (D.state desk.new) (W.written sink.old) (W.written sink.new) progress.old progress.new (10 ∷ [])) }
+    ensures err { IfErr result (λ fault. (rest : List ℕ) → HasStopped (D.is_sound desk.new) D.may_refuse (D.settings desk.old) (D.state desk.old) (D.state desk.new) (W.written sink.old) (W.written sink.new) progress.old (10 ∷ rest) fault) }
     ensures no_write_fault { result ≢ Err Write → NoneFails (W.calls sink.old) (W.calls sink.new) }
     ensures write_fault { result ≡ Err Write → LastFails (W.calls sink.old) (W.calls sink.new) }
     ensures no_read_fault { result ≢ Err Read }
@@ -81,8 +81,8 @@ fn take_byte<D: Desk, W: Sink>(
     progress: &mut Progress,
     byte: u8,
 ) -> Result<(), ScriptFault>
-    ensures ok { OnOk result (HasRead (D.is_sound desk.new) (D.settings desk.old) (D.state desk.old) (D.state desk.new) (W.written sink.old) (W.written sink.new) progress.old progress.new (byte ∷ [])) }
-    ensures err { IfErr result (λ fault. (rest : List ℕ) → HasStopped (D.is_sound desk.new) (D.settings desk.old) (D.state desk.old) (D.state desk.new) (W.written sink.old) (W.written sink.new) progress.old (byte ∷ rest) fault) }
+    ensures ok { OnOk result (HasRead (D.is_sound desk.new) D.may_refuse (D.settings desk.old) (D.state desk.old) (D.state desk.new) (W.written sink.old) (W.written sink.new) progress.old progress.new (byte ∷ [])) }
+    ensures err { IfErr result (λ fault. (rest : List ℕ) → HasStopped (D.is_sound desk.new) D.may_refuse (D.settings desk.old) (D.state desk.old) (D.state desk.new) (W.written sink.old) (W.written sink.new) progress.old (byte ∷ rest) fault) }
     ensures long_script_is_told { progress.old.seen ≡ most_lines → result ≡ Err ScriptTooLong }
     ensures long_line_is_told { progress.old.seen < most_lines → byte ≢ 10 → length progress.old.line.items ≡ most_bytes → result ≡ Err LineTooLong }
     ensures no_write_fault { result ≢ Err Write → NoneFails (W.calls sink.old) (W.calls sink.new) }
@@ -113,8 +113,8 @@ fn take_piece<D: Desk, W: Sink>(
     progress: &mut Progress,
     piece: &[u8],
 ) -> Result<(), ScriptFault>
-    ensures ok { OnOk result (HasRead (D.is_sound desk.new) (D.settings desk.old) (D.state desk.old) (D.state desk.new) (W.written sink.old) (W.written sink.new) progress.old progress.new piece.now) }
-    ensures err { IfErr result (λ fault. (rest : List ℕ) → HasStopped (D.is_sound desk.new) (D.settings desk.old) (D.state desk.old) (D.state desk.new) (W.written sink.old) (W.written sink.new) progress.old (piece.now ++ rest) fault) }
+    ensures ok { OnOk result (HasRead (D.is_sound desk.new) D.may_refuse (D.settings desk.old) (D.state desk.old) (D.state desk.new) (W.written sink.old) (W.written sink.new) progress.old progress.new piece.now) }
+    ensures err { IfErr result (λ fault. (rest : List ℕ) → HasStopped (D.is_sound desk.new) D.may_refuse (D.settings desk.old) (D.state desk.old) (D.state desk.new) (W.written sink.old) (W.written sink.new) progress.old (piece.now ++ rest) fault) }
     ensures no_write_fault { result ≢ Err Write → NoneFails (W.calls sink.old) (W.calls sink.new) }
     ensures write_fault { result ≡ Err Write → LastFails (W.calls sink.old) (W.calls sink.new) }
     ensures no_read_fault { result ≢ Err Read }
@@ -138,15 +138,15 @@ pub fn run_script<D: Desk, S: Source, W: Sink>(
     source: &mut S,
     sink: &mut W,
 ) -> Result<u64, ScriptFault>
-    ensures all { IfOk result (λ n. IfSome (S.left source.old) (λ text. D.is_sound desk.new → RunsScript (D.settings desk.old) (D.state desk.old) (lines_of text) (D.state desk.new) (W.written sink.old) (W.written sink.new) 0 n)) }
-    ensures some { OnErr result (IfSome (S.left source.old) (λ text. D.is_sound desk.new → StopsScript (D.settings desk.old) (D.state desk.old) (lines_of text) (D.state desk.new) (W.written sink.old) (W.written sink.new))) }
+    ensures all { IfOk result (λ n. IfSome (S.left source.old) (λ text. D.is_sound desk.new → RunsScript D.may_refuse (D.settings desk.old) (D.state desk.old) (lines_of text) (D.state desk.new) (W.written sink.old) (W.written sink.new) 0 n)) }
+    ensures some { OnErr result (IfSome (S.left source.old) (λ text. D.is_sound desk.new → StopsScript D.may_refuse (D.settings desk.old) (D.state desk.old) (lines_of text) (D.state desk.new) (W.written sink.old) (W.written sink.new))) }
     ensures read_fault { result ≡ Err Read → LastFails (S.calls source.old) (S.calls source.new) ⊎ RunsOut (S.calls source.old) (S.calls source.new) }
     ensures no_read_fault { result ≢ Err Read → NoneFails (S.calls source.old) (S.calls source.new) }
     ensures write_fault { result ≡ Err Write → LastFails (W.calls sink.old) (W.calls sink.new) }
     ensures no_write_fault { result ≢ Err Write → NoneFails (W.calls sink.old) (W.calls sink.new) }
     ensures reads { (S.calls source.new).made ≤ (S.calls source.old).made + most_reads }
-    ensures long_line { result ≡ Err LineTooLong → IfSome (S.left source.old) (λ text. StopsAtLongLine (D.is_sound desk.new) (D.settings desk.old) (D.state desk.old) (lines_of text) (D.state desk.new) (W.written sink.old) (W.written sink.new) 0 0) }
-    ensures long_script { result ≡ Err ScriptTooLong → IfSome (S.left source.old) (λ text. StopsAtManyLines (D.is_sound desk.new) (D.settings desk.old) (D.state desk.old) (lines_of text) (D.state desk.new) (W.written sink.old) (W.written sink.new) 0 0) }
+    ensures long_line { result ≡ Err LineTooLong → IfSome (S.left source.old) (λ text. StopsAtLongLine (D.is_sound desk.new) D.may_refuse (D.settings desk.old) (D.state desk.old) (lines_of text) (D.state desk.new) (W.written sink.old) (W.written sink.new) 0 0) }
+    ensures long_script { result ≡ Err ScriptTooLong → IfSome (S.left source.old) (λ text. StopsAtManyLines (D.is_sound desk.new) D.may_refuse (D.settings desk.old) (D.state desk.old) (lines_of text) (D.state desk.new) (W.written sink.old) (W.written sink.new) 0 0) }
     ensures short_lines { OnOk result (IfSome (S.left source.old) (λ text. ¬ HasLongLine text)) }
     ensures few_lines { OnOk result (IfSome (S.left source.old) (λ text. ¬ HasManyLines text)) }
     ensures was_sound { D.is_sound desk.new → D.is_sound desk.old }

@@ -3,7 +3,7 @@ ghost use Rattle.std.specs.Prelude.{◌≡◌, Ok, Some, ℕ, List, IfOk, OnErr,
 ghost use Rattle.adr_text.specs.Refusals.{Gives};
 ghost use Rattle.adr_text.specs.declared.refusal.Refusal.TheVariants.{OutOfMemory};
 ghost use Rattle.adr_script.specs.Bodies.{want_by};
-ghost use Rattle.adr_script.specs.Turns.{asked_step, words_asked, turn_of, line_turn, want_line, Outcome, Takes, MayLeave, IsTurn};
+ghost use Rattle.adr_script.specs.Turns.{asked_step, asks_desk, words_asked, turn_of, line_turn, want_line, Outcome, Takes, MayLeave, IsTurn};
 
 use crate::asked::Asked;
 use crate::bodies::{bad_line, outcome_text, want_by};
@@ -17,7 +17,7 @@ use std::alloc::{AllocError, Global};
 
 /// Takes the step that is asked for.
 fn take_asked<D: Desk>(desk: &mut D, now: Moment, asked: &Asked) -> Result<Answer, Refusal>
-    ensures outcome { D.is_sound desk.new → Outcome (D.state desk.old) (asked_step (D.settings desk.old) (D.state desk.old) now asked.now) result (D.state desk.new) }
+    ensures outcome { D.is_sound desk.new → Outcome D.may_refuse (asks_desk asked.now) (D.state desk.old) (asked_step (D.settings desk.old) (D.state desk.old) now asked.now) result (D.state desk.new) }
     ensures was_sound { D.is_sound desk.new → D.is_sound desk.old }
     ensures same_settings { D.settings desk.new ≡ D.settings desk.old }
 {
@@ -36,7 +36,7 @@ fn answer_asked<D: Desk>(
     role: &[u8],
     asked: &Asked,
 ) -> Result<String, AllocError>
-    ensures ok { IfOk result (λ out. D.is_sound desk.new → Takes (want_by role.now) (D.state desk.old) (turn_of (D.settings desk.old) (D.state desk.old) now role.now (Ok (Some asked.now))) (string_bytes out) (D.state desk.new)) }
+    ensures ok { IfOk result (λ out. D.is_sound desk.new → Takes D.may_refuse (want_by role.now) (D.state desk.old) (turn_of (D.settings desk.old) (D.state desk.old) now role.now (Ok (Some asked.now))) (string_bytes out) (D.state desk.new)) }
     ensures err { OnErr result (D.is_sound desk.new → MayLeave (D.state desk.old) (turn_of (D.settings desk.old) (D.state desk.old) now role.now (Ok (Some asked.now))) (D.state desk.new)) }
     ensures was_sound { D.is_sound desk.new → D.is_sound desk.old }
     ensures same_settings { D.settings desk.new ≡ D.settings desk.old }
@@ -65,7 +65,7 @@ fn answer_role<D: Desk>(
     role: &[u8],
     rest: &[u8],
 ) -> Result<String, AllocError>
-    ensures ok { IfOk result (λ out. D.is_sound desk.new → Takes (want_by role.now) (D.state desk.old) (turn_of (D.settings desk.old) (D.state desk.old) now role.now (words_asked role.now rest.now)) (string_bytes out) (D.state desk.new)) }
+    ensures ok { IfOk result (λ out. D.is_sound desk.new → Takes D.may_refuse (want_by role.now) (D.state desk.old) (turn_of (D.settings desk.old) (D.state desk.old) now role.now (words_asked role.now rest.now)) (string_bytes out) (D.state desk.new)) }
     ensures err { OnErr result (D.is_sound desk.new → MayLeave (D.state desk.old) (turn_of (D.settings desk.old) (D.state desk.old) now role.now (words_asked role.now rest.now)) (D.state desk.new)) }
     ensures was_sound { D.is_sound desk.new → D.is_sound desk.old }
     ensures same_settings { D.settings desk.new ≡ D.settings desk.old }
@@ -80,7 +80,7 @@ fn answer_role<D: Desk>(
 /// The turn of a line.
 #[tactic(auto, unfolding(crate::specs::Turns::line_turn, crate::specs::Turns::want_line))]
 fn take_line<D: Desk>(alloc: Global, desk: &mut D, line: &[u8]) -> Result<String, AllocError>
-    ensures ok { IfOk result (λ out. D.is_sound desk.new → IsTurn (D.settings desk.old) (D.state desk.old) line.now (string_bytes out) (D.state desk.new)) }
+    ensures ok { IfOk result (λ out. D.is_sound desk.new → IsTurn D.may_refuse (D.settings desk.old) (D.state desk.old) line.now (string_bytes out) (D.state desk.new)) }
     ensures err { OnErr result (D.is_sound desk.new → MayLeave (D.state desk.old) (line_turn (D.settings desk.old) (D.state desk.old) line.now) (D.state desk.new)) }
     ensures was_sound { D.is_sound desk.new → D.is_sound desk.old }
     ensures same_settings { D.settings desk.new ≡ D.settings desk.old }
@@ -112,7 +112,7 @@ fn want_of_memory(alloc: Global, line: &[u8]) -> Result<String, AllocError>
 /// Takes the turn of a line that isn't empty, and gives what it prints, with its LF. Where memory runs
 /// out for the reply, that refusal is printed in its place.
 pub fn answer_line<D: Desk>(alloc: Global, desk: &mut D, line: &[u8]) -> Result<String, AllocError>
-    ensures ok { IfOk result (λ out. D.is_sound desk.new → IsTurn (D.settings desk.old) (D.state desk.old) line.now (string_bytes out) (D.state desk.new)) }
+    ensures ok { IfOk result (λ out. D.is_sound desk.new → IsTurn D.may_refuse (D.settings desk.old) (D.state desk.old) line.now (string_bytes out) (D.state desk.new)) }
     ensures err { OnErr result (D.is_sound desk.new → MayLeave (D.state desk.old) (line_turn (D.settings desk.old) (D.state desk.old) line.now) (D.state desk.new)) }
     ensures was_sound { D.is_sound desk.new → D.is_sound desk.old }
     ensures same_settings { D.settings desk.new ≡ D.settings desk.old }

@@ -31,17 +31,17 @@ module _ (limits : Limits) (settings : Settings) (s : State) (are : settings ≡
   from_empty : (P : Settings → State → Type 0) → P settings s → P (settings_of limits) empty
   from_empty P h = subst (λ (x : Settings). P x empty) are (subst (λ (u : State). P settings u) at h)
 
-  runs : (n : ℕ) → RunsScript settings s (lines_of text) t old new 0 n → RunsFromEmpty limits text old new n
-  runs n h = (t, from_empty (λ x u. RunsScript x u (lines_of text) t old new 0 n) h)
+  runs : (n : ℕ) → RunsScript ⊥ settings s (lines_of text) t old new 0 n → RunsFromEmpty limits text old new n
+  runs n h = (t, from_empty (λ x u. RunsScript ⊥ x u (lines_of text) t old new 0 n) h)
 
-  stops : StopsScript settings s (lines_of text) t old new → StopsFromEmpty limits text old new
-  stops h = (t, from_empty (λ x u. StopsScript x u (lines_of text) t old new) h)
+  stops : StopsScript ⊥ settings s (lines_of text) t old new → StopsFromEmpty limits text old new
+  stops h = (t, from_empty (λ x u. StopsScript ⊥ x u (lines_of text) t old new) h)
 
-  stops_at_long_line : StopsAtLongLine (Unit {0}) settings s (lines_of text) t old new 0 0 → EndsAtLongLine limits text old new
-  stops_at_long_line h = (t, from_empty (λ x u. StopsAtLongLine (Unit {0}) x u (lines_of text) t old new 0 0) h)
+  stops_at_long_line : StopsAtLongLine (Unit {0}) ⊥ settings s (lines_of text) t old new 0 0 → EndsAtLongLine limits text old new
+  stops_at_long_line h = (t, from_empty (λ x u. StopsAtLongLine (Unit {0}) ⊥ x u (lines_of text) t old new 0 0) h)
 
-  stops_at_many_lines : StopsAtManyLines (Unit {0}) settings s (lines_of text) t old new 0 0 → EndsAtManyLines limits text old new
-  stops_at_many_lines h = (t, from_empty (λ x u. StopsAtManyLines (Unit {0}) x u (lines_of text) t old new 0 0) h)
+  stops_at_many_lines : StopsAtManyLines (Unit {0}) ⊥ settings s (lines_of text) t old new 0 0 → EndsAtManyLines limits text old new
+  stops_at_many_lines h = (t, from_empty (λ x u. StopsAtManyLines (Unit {0}) ⊥ x u (lines_of text) t old new 0 0) h)
 
 -- no memory for the client's name: no line was taken
 pub returns-in_default-clause-some : goal.returns-in_default-clause-some

@@ -16,7 +16,7 @@ invariant-loop g l =
       write_failed : NoneFails (sink.calls l.fn.sink) (sink.calls l.sink);
       bytes : List ℕ;
       consumed : Consumes (source.left l.fn.source) (source.left l.source) bytes;
-      read : HasRead (desk.is_sound l.desk) (desk.settings l.fn.desk) (desk.state l.fn.desk) (desk.state l.desk) (sink.written l.fn.sink) (sink.written l.sink) l.initial.progress l.progress bytes;
+      read : HasRead (desk.is_sound l.desk) desk.may_refuse (desk.settings l.fn.desk) (desk.state l.fn.desk) (desk.state l.desk) (sink.written l.fn.sink) (sink.written l.sink) l.initial.progress l.progress bytes;
       was_sound : desk.is_sound l.desk → desk.is_sound l.fn.desk;
       settings : desk.settings l.desk ≡ desk.settings l.fn.desk;
     }

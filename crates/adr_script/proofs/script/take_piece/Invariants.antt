@@ -9,7 +9,7 @@ invariant-loop-byte g l =
     let desk = g.D.Desk in
     let sink = g.W.Sink in
     record {
-      read : HasRead (desk.is_sound l.desk) (desk.settings l.fn.desk) (desk.state l.fn.desk) (desk.state l.desk) (sink.written l.fn.sink) (sink.written l.sink) l.fn.progress l.progress (take l.byte-index l.piece);
+      read : HasRead (desk.is_sound l.desk) desk.may_refuse (desk.settings l.fn.desk) (desk.state l.fn.desk) (desk.state l.desk) (sink.written l.fn.sink) (sink.written l.sink) l.fn.progress l.progress (take l.byte-index l.piece);
       write_failed : NoneFails (sink.calls l.fn.sink) (sink.calls l.sink);
       was_sound : desk.is_sound l.desk → desk.is_sound l.fn.desk;
       settings : desk.settings l.desk ≡ desk.settings l.fn.desk;
