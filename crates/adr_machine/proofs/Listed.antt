@@ -214,11 +214,11 @@ listed_for_of_machine (query.Probes limit) = refl
 -- ---- desks
 
 -- a desk that refuses as the machine does, or for want of memory, refuses as is listed
-pub as_listed : {A B : Type 0} (may : List Refusal) (r : Result A Refusal) (taken : Result B Refusal) → IfErr taken (Contains may) → IfErr r (λ e. IsRefusalOf e taken) → r ≢ Err Store → IfErr r (IsListed ⊥ may)
-as_listed may (Ok a) taken so refused no_store = tt
-as_listed may (Err OutOfMemory) taken so refused no_store = tt
-as_listed may (Err Store) taken so refused no_store = no_store refl
-as_listed may (Err e) taken so refused no_store = IfErr-at_err (Contains may) refused so
+pub as_listed : {A B : Type 0} (these : List Refusal) (r : Result A Refusal) (taken : Result B Refusal) → IfErr taken (Contains these) → IfErr r (λ e. IsRefusalOf e taken) → r ≢ Err Store → IfErr r (IsListed ⊥ these)
+as_listed these (Ok a) taken so refused no_store = tt
+as_listed these (Err OutOfMemory) taken so refused no_store = tt
+as_listed these (Err Store) taken so refused no_store = no_store refl
+as_listed these (Err e) taken so refused no_store = IfErr-at_err (Contains these) refused so
 
 -- one answer more
 pub AreListed-push : (P : Type 0) (cs : List (ℕ × Command)) (rs : List (Result Answer Refusal)) (c : ℕ × Command) (r : Result Answer Refusal) → AreListed P cs rs → IfErr r (IsListed P (listed c.1)) → AreListed P (cs ++ c ∷ []) (rs ++ r ∷ [])

@@ -42,6 +42,6 @@ is_of_machine refusal = true
 
 -- how a desk may refuse: as is listed, for want of memory, and by its store, where that may refuse
 abbrev pub IsListed : Type 0 → List Refusal → Refusal → Type 0
-IsListed may_refuse listed OutOfMemory = Unit {0}
-IsListed may_refuse listed Store = may_refuse
-IsListed may_refuse listed refusal = Contains listed refusal
+IsListed may_refuse these OutOfMemory = Unit {0}
+IsListed may_refuse these Store = may_refuse
+IsListed may_refuse these refusal = Contains these refusal

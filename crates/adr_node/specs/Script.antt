@@ -1,4 +1,4 @@
--- A script that runs from the empty state, over a desk that has no store: so no line prints that one refused.
+-- A script that runs from the empty state, over a desk that has no store: so no line prints a store's refusal in place of its own (⊥).
 use Rattle.std.specs.Prelude.{ℕ, List, codes, Option}
 use Rattle.adr_state.specs.States.{empty}
 use Rattle.adr_state.specs.declared.state.State.{State}
