@@ -1,8 +1,9 @@
 //! Whether two images hold the same base.
 use crate::portfolio::is_same_portfolio;
+use adr_desk::MemoryDesk;
 use adr_objects::{Body, canonical};
 use adr_state::{Image, Mark, MirrorKey, Polled};
-use adr_text::Table;
+use adr_text::{Refusal, Table};
 use std::alloc::{AllocError, Global};
 
 // Bodies are one where their canonical texts are.
@@ -63,4 +64,10 @@ pub fn is_same(alloc: Global, image: &Image, other: &Image) -> Result<bool, Allo
     let mirror = is_same_mirror(alloc, &image.base.mirror, &other.base.mirror)?;
     let scan = is_same_scan(&image.base.scan, &other.base.scan);
     Ok(mirror && scan && is_same_portfolio(&image.base, &other.base))
+}
+
+/// Whether the tables hold the same base as an image.
+pub fn hold(alloc: Global, tables: &mut MemoryDesk, image: &Image) -> Result<bool, Refusal> {
+    let other = tables.image()?;
+    Ok(is_same(alloc, image, &other)?)
 }

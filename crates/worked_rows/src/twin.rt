@@ -1,6 +1,8 @@
 //! A plain desk, and a desk over SQL that is told the same commands.
+ghost use Rattle.std.specs.Prelude.{◌≡◌};
+
 use crate::portfolio::is_same_object;
-use crate::same::is_same;
+use crate::same::hold;
 use adr_desk::{Edit, MemoryDesk};
 use adr_machine::{Answer, Command, Desk, PlainDesk, Query};
 use adr_state::{Image, Settings, State};
@@ -46,6 +48,16 @@ fn agrees(said: &Result<Answer, Refusal>, edit: &Result<Option<Edit>, Refusal>) 
     }
 }
 
+// What is owned stands in functions of its own, since each owned value makes those behind it dearer to check.
+fn answers_alike(
+    tables: &mut MemoryDesk,
+    now: Moment,
+    command: &Command,
+    said: &Result<Answer, Refusal>,
+) -> bool {
+    agrees(said, &tables.edit(now, command))
+}
+
 /// Tells the tables the command, and answers whether they hold the same then.
 fn follow(
     alloc: Global,
@@ -55,24 +67,26 @@ fn follow(
     said: &Result<Answer, Refusal>,
     image: &Image,
 ) -> Result<bool, Refusal> {
-    let edit = tables.edit(now, command);
-    if !agrees(said, &edit) {
+    if !answers_alike(tables, now, command, said) {
         return Ok(false);
     }
-    let other = tables.image()?;
-    Ok(is_same(alloc, image, &other)?)
+    hold(alloc, tables, image)
 }
 
+/// Whether the tables answer as the plain desk did, and hold what it holds. The plain desk stays as it is.
 fn has_followed(
     alloc: Global,
+    plain: &mut PlainDesk,
     tables: &mut MemoryDesk,
     now: Moment,
     command: &Command,
     said: &Result<Answer, Refusal>,
-    image: &Result<Image, Refusal>,
-) -> bool {
-    match image {
-        Ok(image) => follow(alloc, tables, now, command, said, image) == Ok(true),
+) -> bool
+    ensures state { ⟦<PlainDesk as Desk>⟧.state plain.new ≡ ⟦<PlainDesk as Desk>⟧.state plain.old }
+    ensures settings { ⟦<PlainDesk as Desk>⟧.settings plain.new ≡ ⟦<PlainDesk as Desk>⟧.settings plain.old }
+{
+    match plain.image() {
+        Ok(image) => follow(alloc, tables, now, command, said, &image) == Ok(true),
         Err(_) => false,
     }
 }
@@ -89,8 +103,8 @@ impl Desk for Twin {
 
     fn apply(&mut self, now: Moment, command: &Command) -> Result<Answer, Refusal> {
         let said = self.plain.apply(now, command);
-        let image = self.plain.image();
-        if !has_followed(self.alloc, &mut self.tables, now, command, &said, &image) {
+        let alloc = self.alloc;
+        if !has_followed(alloc, &mut self.plain, &mut self.tables, now, command, &said) {
             self.apart = self.apart.saturating_add(1);
         }
         said

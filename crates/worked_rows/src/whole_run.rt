@@ -1,5 +1,5 @@
 //! A list of commands, told as a whole to the plain desk and to the tables.
-use crate::same::is_same;
+use crate::same::hold;
 use adr_desk::{Edit, MemoryDesk, edit_each};
 use adr_machine::{Answer, Command, Desk, PlainDesk, Role, run};
 use adr_objects::Kind;
@@ -91,11 +91,6 @@ fn told_tables(
 ) -> Result<usize, Refusal> {
     let edits: Vec<Result<Option<Edit>, Refusal>> = edit_each(alloc, tables, steps)?;
     Ok(accepted(&edits))
-}
-
-fn hold(alloc: Global, tables: &mut MemoryDesk, image: &State) -> Result<bool, Refusal> {
-    let other = tables.image()?;
-    Ok(is_same(alloc, image, &other)?)
 }
 
 fn hold_the_same(
