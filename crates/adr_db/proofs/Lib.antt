@@ -19,3 +19,4 @@ pub mod Sharing
 pub mod Calls
 pub mod Marks
 pub mod Results
+pub mod Unread

@@ -12,6 +12,7 @@ use Rattle.adr_objects.proofs.RoundTrips.{canonical_reads_back}
 use Rattle.adr_db.specs.Rows.{number, key_row, mark_columns, mark_row, columns_row, live_from, mark_from}
 use Rattle.adr_db.specs.declared.mirror.MarkColumns.{MarkColumns}
 use Rattle.adr_db.specs.Kept.{IsMark, AreMarks}
+use Rattle.adr_db.specs.Admitted.{ReadsEntry}
 use Rattle.adr_db.proofs.Rows.{key_kept, columns_are}
 
 row_parts : (columns : MarkColumns) (state moment : ℕ) (text : List ℕ) → columns_row columns ≡ number state ∷ number moment ∷ Text text ∷ [] → (columns.state ≡ state) × (columns.moment ≡ moment) × (string_bytes columns.body ≡ text)
@@ -44,10 +45,8 @@ mark_read columns read h Dead valid same =
     let is = row_parts columns 2 0 [] same in
     let dead : ◌≡◌ {A = Result Mark Refusal} (Ok Dead) (Ok read) = rw is.0 at h in cc
 
--- a key with its mark, as a row is read
-abbrev pub ReadsEntry : Row → MirrorKey × Mark → Type 0
-ReadsEntry row e = (key_row e.0 ≡ cells 0 2 row) × ((valid : Mark) → IsMark valid → cells 2 3 row ≡ mark_columns valid → e.1 ≡ valid)
-
 pub entry_read : (marks : List (MirrorKey × Mark)) → AreMarks marks → (e kept : MirrorKey × Mark) → Has marks kept → ReadsEntry (mark_row kept) e → e ≡ kept
 entry_read marks are e kept has reads =
-    ap₂ (λ (key : MirrorKey) (mark : Mark). (key, mark)) (key_kept e.0 kept.0 reads.0) (reads.1 kept.1 (all_has (λ m. IsMark m.1) marks kept are has) (columns_are kept.0 kept.1))
+    let it = reads.1 in
+    let valid = all_has (λ m. IsMark m.1) marks kept are has in
+    ap₂ (λ (key : MirrorKey) (mark : Mark). (key, mark)) (key_kept e.0 kept.0 reads.0) (mark_read it.0 e.1 it.3 kept.1 valid (it.2 ∙ columns_are kept.0 kept.1))

@@ -4,15 +4,11 @@ use Rattle.adr_db.proofs.Common.{match_ordering, Null, Int, Row, lit, col, end, 
 use Rattle.adr_db.specs.declared.meta.Meta.{Meta}
 use Rattle.adr_db.specs.declared.meta.TheConstants.{PUT, READ}
 use Rattle.adr_db.specs.Tables.{schema}
-use Rattle.adr_db.specs.Rows.{number, meta_row}
+use Rattle.adr_db.specs.Rows.{number, meta_row, meta_numbers}
 use Rattle.adr_db.specs.Kept.{Kept, Keeps, AreMarks, contents_of, with_meta}
 use Rattle.adr_db.proofs.Tables.{meta, meta_keyed}
 
--- the parameters: all but the key and the version
-abbrev pub numbers : Meta → Row
-numbers m = number m.serial ∷ Int (cond m.scan (pos 1) (pos 0)) ∷ number m.made ∷ number m.sent ∷ number m.given_up ∷ number m.dropped ∷ number m.keys ∷ []
-
-puts : (m : Meta) → IsUpsertText schema 0 meta PUT.now (numbers m) (meta_row m)
+puts : (m : Meta) → IsUpsertText schema 0 meta PUT.now (meta_numbers m) (meta_row m)
 unfolding understood everything
 puts m = record {
   terms = lit Null ∷ lit (number 1) ∷ lit (number 1) ∷ col 0 0 ∷ col 0 1 ∷ col 0 2 ∷ col 0 3 ∷ col 0 4 ∷ col 0 5 ∷ col 0 6 ∷ [];
@@ -28,8 +24,8 @@ puts m = record {
 values : (m : Meta) → AreValues meta (meta_row m)
 values m = record { fits = refl; full = refl; width = refl }
 
-pub meta_put : (m : Meta) (old new : State) (count : ℕ) (all : Contents) → Executes PUT.now (numbers m) old new (Ok count) → Holds schema all old → Holds schema (with_table all 0 (with_row 1 (meta_row m) (rows_of_table all 0))) new
-meta_put m = upsert_runs schema 0 meta meta_keyed PUT.now (numbers m) (meta_row m) (puts m) (values m)
+pub meta_put : (m : Meta) (old new : State) (count : ℕ) (all : Contents) → Executes PUT.now (meta_numbers m) old new (Ok count) → Holds schema all old → Holds schema (with_table all 0 (with_row 1 (meta_row m) (rows_of_table all 0))) new
+meta_put m = upsert_runs schema 0 meta meta_keyed PUT.now (meta_numbers m) (meta_row m) (puts m) (values m)
 
 -- the new row takes the place of the old one
 one_row : (m n : Meta) → with_row 1 (meta_row m) (meta_row n ∷ []) ≡ meta_row m ∷ []

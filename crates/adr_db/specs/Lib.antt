@@ -4,4 +4,6 @@ pub mod Kept
 pub mod Bases
 pub mod Sharing
 pub mod Calls
+pub mod Refusals
+pub mod Admitted
 pub mod BaseCalls

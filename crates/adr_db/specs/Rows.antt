@@ -40,6 +40,10 @@ meta_row m =
     ∷ number m.keys
     ∷ []
 
+-- the numbers of the node alone
+abbrev pub meta_numbers : Meta → Row
+meta_numbers m = number m.serial ∷ Int (if m.scan then pos 1 else pos 0) ∷ number m.made ∷ number m.sent ∷ number m.given_up ∷ number m.dropped ∷ number m.keys ∷ []
+
 -- 1 a program, 2 an event
 abbrev pub kind_number : Kind → ℕ
 kind_number Program = 1

@@ -1,11 +1,16 @@
 //! Columns of a row as the values that they stand for. What no call of this crate wrote is the store's
 //! refusal.
-ghost use Rattle.std.specs.Prelude.{◌≡◌, ◌<◌, ◌+◌, pos, [], ◌∷◌, IfOk, IfErr};
+ghost use Rattle.std.specs.Prelude.{◌≡◌, ◌<◌, ◌+◌, pos, [], ◌∷◌, IfOk, IfErr, IsTrue};
 ghost use Rattle.sqlite.specs.Order.{column};
 ghost use Rattle.sqlite_value.specs.Value.{owned};
 ghost use Rattle.sqlite.specs.declared.types.Value.TheVariants.{Int, Text};
 ghost use Rattle.adr_sql.specs.Keys.{cells};
 ghost use Rattle.adr_db.specs.Calls.{IsOfStore};
+ghost use Rattle.adr_db.specs.Refusals.{IsBeyond, IsMisread, CannotRead};
+ghost use Rattle.adr_db.specs.Admitted.{IsIdText, IsNameText, IsMoment, AreStamps, IsNumber, IsKey, ReadsNumber, ReadsKey};
+ghost use Rattle.adr_state.specs.Weights.{is_weight};
+ghost use Rattle.adr_objects.specs.declared.kind.Kind.{Kind as KindOf};
+ghost use Rattle.adr_text.specs.declared.refusal.Refusal.TheVariants.{Store};
 ghost use Rattle.adr_db.specs.Rows.{as_stored, number, kind_number, key_row, stamps_columns};
 
 use crate::reading::FromRow;
@@ -20,7 +25,7 @@ use std::alloc::Global;
 /// The value of a column.
 pub(crate) fn column<T: FromSql>(row: &Row, at: usize) -> Result<T, Refusal>
     ensures reads { IfOk result (λ x. T.FromSql.reads_as (column row.now at) x) }
-    ensures refused { IfErr result IsOfStore }
+    ensures refused { IfErr result (IsMisread T.FromSql.is_readable (column row.now at)) }
 {
     row.get(at).map_err(refusal_of)
 }
@@ -28,7 +33,7 @@ pub(crate) fn column<T: FromSql>(row: &Row, at: usize) -> Result<T, Refusal>
 /// A number as SQL keeps it, or the store's refusal of one above 9,223,372,036,854,775,807.
 pub(crate) fn number(n: u64) -> Result<ValueRef<'static>, Refusal>
     ensures value { IfOk result (λ value. owned value ≡ Int (pos n)) }
-    ensures refused { IfErr result IsOfStore }
+    ensures refused { IfErr result (λ refusal. (refusal ≡ Store) × IsBeyond (number n)) }
 {
     match i64::try_from(n) {
         Ok(n) => Ok(ValueRef::Int(n)),
@@ -48,7 +53,7 @@ pub(crate) fn kind_number(kind: Kind) -> u32
 
 fn kind_of(number: u32) -> Result<Kind, Refusal>
     ensures kind { IfOk result (λ kind. number ≡ kind_number kind) }
-    ensures refused { IfErr result IsOfStore }
+    ensures refused { IfErr result (λ refusal. (refusal ≡ Store) × ((kind : KindOf) → ¬ (number ≡ kind_number kind))) }
 {
     match number {
         1 => Ok(Kind::Program),
@@ -72,7 +77,7 @@ pub(crate) fn as_stored<T>(read: Result<T, Refusal>) -> Result<T, Refusal>
 /// The id in a column.
 pub(crate) fn id_in(alloc: Global, row: &Row, at: usize) -> Result<ObjectId, Refusal>
     ensures id { IfOk result (λ id. column row.now at ≡ Text id) }
-    ensures refused { IfErr result IsOfStore }
+    ensures refused { IfErr result (CannotRead IsIdText (λ value id. value ≡ Text id) (column row.now at)) }
 {
     let text: String = column(row, at)?;
     as_stored(ObjectId::new(alloc, text.as_str()))
@@ -81,7 +86,7 @@ pub(crate) fn id_in(alloc: Global, row: &Row, at: usize) -> Result<ObjectId, Ref
 /// The name in a column.
 pub(crate) fn name_in(alloc: Global, row: &Row, at: usize) -> Result<Name, Refusal>
     ensures name { IfOk result (λ name. column row.now at ≡ Text name) }
-    ensures refused { IfErr result IsOfStore }
+    ensures refused { IfErr result (CannotRead IsNameText (λ value name. value ≡ Text name) (column row.now at)) }
 {
     let text: String = column(row, at)?;
     as_stored(Name::new(alloc, text.as_str()))
@@ -89,7 +94,7 @@ pub(crate) fn name_in(alloc: Global, row: &Row, at: usize) -> Result<Name, Refus
 
 fn moment_in(row: &Row, at: usize) -> Result<Moment, Refusal>
     ensures moment { IfOk result (λ moment. column row.now at ≡ Int (pos moment)) }
-    ensures refused { IfErr result IsOfStore }
+    ensures refused { IfErr result (CannotRead IsMoment (λ value moment. value ≡ Int (pos moment)) (column row.now at)) }
 {
     let nanos: u64 = column(row, at)?;
     as_stored(Moment::at(nanos))
@@ -98,7 +103,7 @@ fn moment_in(row: &Row, at: usize) -> Result<Moment, Refusal>
 /// The weight in a column.
 pub(crate) fn weight_in(row: &Row, at: usize) -> Result<Weight, Refusal>
     ensures weight { IfOk result (λ weight. column row.now at ≡ Int (pos weight)) }
-    ensures refused { IfErr result IsOfStore }
+    ensures refused { IfErr result (CannotRead (λ weight. IsTrue (is_weight weight)) (λ value weight. value ≡ Int (pos weight)) (column row.now at)) }
 {
     let amount: u32 = column(row, at)?;
     Weight::new(amount).ok_or(Refusal::Store)
@@ -108,7 +113,7 @@ pub(crate) fn weight_in(row: &Row, at: usize) -> Result<Weight, Refusal>
 pub(crate) fn stamps_in(row: &Row, at: usize) -> Result<Stamps, Refusal>
     requires { at < 100 }
     ensures stamps { IfOk result (λ stamps. stamps_columns stamps ≡ column row.now at ∷ column row.now (at + 1) ∷ []) }
-    ensures refused { IfErr result IsOfStore }
+    ensures refused { IfErr result (CannotRead AreStamps (λ cells stamps. stamps_columns stamps ≡ cells) (column row.now at ∷ column row.now (at + 1) ∷ [])) }
 {
     Ok(Stamps {
         created: moment_in(row, at)?,
@@ -117,7 +122,9 @@ pub(crate) fn stamps_in(row: &Row, at: usize) -> Result<Stamps, Refusal>
 }
 
 impl FromRow for Number {
-    ghost reads = { λ row n. number n ≡ column row 0 };
+    ghost reads = { ReadsNumber };
+
+    ghost admits = { IsNumber };
 
     fn from_row(_: Global, row: &Row) -> Result<Number, Refusal> {
         Ok(Number::new(column(row, 0)?))
@@ -125,7 +132,9 @@ impl FromRow for Number {
 }
 
 impl FromRow for MirrorKey {
-    ghost reads = { λ row key. key_row key ≡ cells 0 2 row };
+    ghost reads = { ReadsKey };
+
+    ghost admits = { IsKey };
 
     fn from_row(alloc: Global, row: &Row) -> Result<MirrorKey, Refusal> {
         Ok(MirrorKey {

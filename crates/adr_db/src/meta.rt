@@ -1,12 +1,15 @@
 //! The table `meta`: the numbers of the node, in one row.
-ghost use Rattle.std.specs.Prelude.{◌≡◌, pos, if◌then◌else◌, [], ◌∷◌, length, IfOk, IfErr};
+ghost use Rattle.std.specs.Prelude.{◌≡◌, pos, Bool, if◌then◌else◌, [], ◌∷◌, take, IfOk, IfErr};
 ghost use Rattle.sqlite.specs.Order.{column};
 ghost use Rattle.sqlite.specs.declared.types.Value.TheVariants.{Int};
 ghost use Rattle.adr_sql.specs.Keys.{with_row};
 ghost use Rattle.adr_sql.specs.Contents.{rows_of_table, with_table};
 ghost use Rattle.adr_sql.specs.Calls.{Stays, Changes};
 ghost use Rattle.adr_db.specs.Tables.{schema};
-ghost use Rattle.adr_db.specs.Rows.{meta_row};
+ghost use Rattle.adr_db.specs.Rows.{meta_row, meta_numbers};
+ghost use Rattle.adr_db.specs.Refusals.{RefusesToPut, RefusesToShow, IsMisread, CannotRead};
+ghost use Rattle.adr_db.specs.Admitted.{AreNumbers, ReadsMeta};
+ghost use Rattle.std.specs.List.{AllZip};
 ghost use Rattle.adr_db.specs.Kept.{first_meta, with_meta};
 ghost use Rattle.adr_db.specs.Calls.{LeavesKept, Finds, IsOfStore};
 
@@ -64,6 +67,7 @@ pub(crate) fn write_meta<S: Alter>(tx: &mut Transaction<'_, S>, meta: &Meta) -> 
     ensures stays { Stays S.Store tx.old.conn.now tx.new.conn.now result }
     ensures changes { Changes S.Store tx.old.conn.now tx.new.conn.now schema (λ all. with_table all 0 (with_row 1 (meta_row meta.now) (rows_of_table all 0))) result }
     ensures refused { IfErr result IsOfStore }
+    ensures fails { RefusesToPut S.Store tx.old.conn.now tx.new.conn.now PUT.now (meta_numbers meta.now) result }
 {
     run(
         tx,
@@ -86,6 +90,7 @@ pub fn put_meta<S: Alter>(tx: &mut Transaction<'_, S>, meta: &Meta) -> Result<()
     ensures stays { Stays S.Store tx.old.conn.now tx.new.conn.now result }
     ensures leaves { LeavesKept S.Store tx.old.conn.now tx.new.conn.now (with_meta meta.now) result }
     ensures refused { IfErr result IsOfStore }
+    ensures fails { RefusesToPut S.Store tx.old.conn.now tx.new.conn.now PUT.now (meta_numbers meta.now) result }
 {
     write_meta(tx, meta)
 }
@@ -93,7 +98,7 @@ pub fn put_meta<S: Alter>(tx: &mut Transaction<'_, S>, meta: &Meta) -> Result<()
 /// A number that has to be this one.
 fn expect(row: &Row, at: usize, wanted: u32) -> Result<(), Refusal>
     ensures same { IfOk result (λ _. column row.now at ≡ Int (pos wanted)) }
-    ensures refused { IfErr result IsOfStore }
+    ensures refused { IfErr result (IsMisread (λ value. value ≡ Int (pos wanted)) (column row.now at)) }
 {
     let found: u32 = column(row, at)?;
     if found != wanted {
@@ -105,7 +110,7 @@ fn expect(row: &Row, at: usize, wanted: u32) -> Result<(), Refusal>
 /// Whether it is 1; another number than 0 and 1 is refused.
 fn flag(row: &Row, at: usize) -> Result<bool, Refusal>
     ensures value { IfOk result (λ b. column row.now at ≡ Int (if b then pos 1 else pos 0)) }
-    ensures refused { IfErr result IsOfStore }
+    ensures refused { IfErr result (IsMisread (λ value. (b : Bool) × (value ≡ Int (if b then pos 1 else pos 0))) (column row.now at)) }
 {
     let found: u32 = column(row, at)?;
     match found {
@@ -116,10 +121,9 @@ fn flag(row: &Row, at: usize) -> Result<bool, Refusal>
 }
 
 impl FromRow for Meta {
-    ghost use Rattle.adr_sql.specs.Keys.{cells};
-    ghost use Rattle.adr_db.specs.Rows.{meta_row};
+    ghost reads = { ReadsMeta };
 
-    ghost reads = { λ row meta. meta_row meta ≡ cells 0 9 row };
+    ghost admits = { AreNumbers };
 
     fn from_row(_: Global, row: &Row) -> Result<Meta, Refusal> {
         expect(row, 0, 1)?;
@@ -142,6 +146,7 @@ pub fn read_meta<S: Alter>(tx: &mut Transaction<'_, S>) -> Result<Meta, Refusal>
     ensures stays { Stays S.Store tx.old.conn.now tx.new.conn.now result }
     ensures finds { Finds S.Store tx.old.conn.now tx.new.conn.now (λ kept meta. meta ≡ kept.meta) result }
     ensures refused { IfErr result IsOfStore }
+    ensures fails { RefusesToShow S.Store tx.old.conn.now tx.new.conn.now READ.now [] (CannotRead AreNumbers (λ rows meta. AllZip ReadsMeta (take 1 rows) (meta ∷ []))) result }
 {
     let rows = rows_of(tx, READ, &[])?;
     match first_in(*rows.allocator(), &rows)? {

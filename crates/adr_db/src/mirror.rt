@@ -1,11 +1,13 @@
 //! The table `mirror`: what is known of each upstream key.
-ghost use Rattle.std.specs.Prelude.{◌≡◌, map, option_map, IfOk, OnOk, IfErr};
+ghost use Rattle.std.specs.Prelude.{◌≡◌, [], map, option_map, IfOk, OnOk, IfErr};
 ghost use Rattle.adr_state.specs.Keys.{mirror_cmp, at};
 ghost use Rattle.adr_text.specs.Refusals.{Gives};
 ghost use Rattle.adr_sql.specs.Calls.{Stays};
-ghost use Rattle.adr_db.specs.Rows.{mark_columns, mark_row, columns_row, mirror_row, mark_from};
+ghost use Rattle.adr_db.specs.Rows.{key_row, mark_columns, mark_row, columns_row, mirror_row, mark_from};
 ghost use Rattle.adr_db.specs.Kept.{IsMark, with_mark};
 ghost use Rattle.adr_db.specs.Calls.{LeavesKept, Finds, IsOfStore};
+ghost use Rattle.adr_db.specs.Refusals.{RefusesToPut, RefusesToPutText, RefusesToShow, CannotReadFirst, CannotReadAll};
+ghost use Rattle.adr_db.specs.Admitted.{AreColumns, IsMirrorRow, IsEntry, ReadsColumns, ReadsMirrorRow, ReadsMark, ReadsEntry};
 
 use crate::cells::{as_stored, column, kind_number, number};
 use crate::reading::{FromRow, all_of, first_in, table_of};
@@ -72,6 +74,7 @@ fn put_columns<S: Alter>(
     ensures stays { Stays S.Store tx.old.conn.now tx.new.conn.now result }
     ensures leaves { LeavesKept S.Store tx.old.conn.now tx.new.conn.now (with_mark key.now mark.now) result }
     ensures refused { IfErr result IsOfStore }
+    ensures fails { RefusesToPut S.Store tx.old.conn.now tx.new.conn.now PUT.now (mark_row (key.now, mark.now)) result }
 {
     run(
         tx,
@@ -97,16 +100,16 @@ pub fn put_mark<S: Alter>(
     ensures stays { Stays S.Store tx.old.conn.now tx.new.conn.now result }
     ensures leaves { LeavesKept S.Store tx.old.conn.now tx.new.conn.now (with_mark key.now mark.now) result }
     ensures refused { IfErr result IsOfStore }
+    ensures fails { RefusesToPutText S.Store tx.old.conn.now tx.new.conn.now PUT.now (mark_row (key.now, mark.now)) result }
 {
     let columns = columns_of(alloc, mark)?;
     put_columns(tx, key, mark, &columns)
 }
 
 impl FromRow for MarkColumns {
-    ghost use Rattle.adr_sql.specs.Keys.{cells};
-    ghost use Rattle.adr_db.specs.Rows.{columns_row};
+    ghost reads = { ReadsColumns };
 
-    ghost reads = { λ row columns. columns_row columns ≡ cells 2 3 row };
+    ghost admits = { AreColumns };
 
     fn from_row(_: Global, row: &Row) -> Result<MarkColumns, Refusal> {
         Ok(MarkColumns {
@@ -118,10 +121,9 @@ impl FromRow for MarkColumns {
 }
 
 impl FromRow for MirrorRow {
-    ghost use Rattle.adr_sql.specs.Keys.{cells};
-    ghost use Rattle.adr_db.specs.Rows.{mirror_row};
+    ghost reads = { ReadsMirrorRow };
 
-    ghost reads = { λ row it. mirror_row it ≡ cells 0 5 row };
+    ghost admits = { IsMirrorRow };
 
     fn from_row(alloc: Global, row: &Row) -> Result<MirrorRow, Refusal> {
         Ok(MirrorRow {
@@ -134,12 +136,14 @@ impl FromRow for MirrorRow {
 /// The mark that the columns stand for.
 fn mark_from(alloc: Global, columns: &MarkColumns) -> Result<Mark, Refusal>
     ensures mark { Gives (λ mark. mark) result (mark_from columns.now) }
+    ensures admitted { OnOk result (AreColumns columns.now) }
     ensures refused { IfErr result IsOfStore }
 {
+    let text = columns.body.as_str();
     match columns.state {
         1 => Ok(Mark::Live(
             as_stored(Moment::at(columns.moment))?,
-            as_stored(read_canonical(alloc, columns.body.as_str()))?,
+            as_stored(read_canonical(alloc, text))?,
         )),
         2 => Ok(Mark::Dead),
         _ => Err(Refusal::Store),
@@ -147,12 +151,11 @@ fn mark_from(alloc: Global, columns: &MarkColumns) -> Result<Mark, Refusal>
 }
 
 impl FromRow for Mark {
-    ghost use Rattle.adr_sql.specs.Keys.{cells};
-    ghost use Rattle.adr_db.specs.Rows.{mark_columns};
-    ghost use Rattle.adr_db.specs.Kept.{IsMark};
-    ghost use Rattle.adr_state.specs.declared.base.Mark.{Mark as KeptMark};
+    ghost use Rattle.std.specs.Prelude.{⊤};
 
-    ghost reads = { λ row mark. (valid : KeptMark) → IsMark valid → cells 2 3 row ≡ mark_columns valid → mark ≡ valid };
+    ghost reads = { ReadsMark };
+
+    ghost admits = { λ mark. ⊤ };
 
     fn from_row(alloc: Global, row: &Row) -> Result<Mark, Refusal> {
         let columns = MarkColumns::from_row(alloc, row)?;
@@ -169,6 +172,7 @@ pub fn read_mark<S: Alter>(
     ensures stays { Stays S.Store tx.old.conn.now tx.new.conn.now result }
     ensures finds { Finds S.Store tx.old.conn.now tx.new.conn.now (λ kept found. option_map columns_row found ≡ option_map mark_columns (at mirror_cmp key.now kept.mirror)) result }
     ensures refused { IfErr result IsOfStore }
+    ensures fails { RefusesToShow S.Store tx.old.conn.now tx.new.conn.now READ_ONE.now (key_row key.now) (CannotReadFirst AreColumns ReadsColumns) result }
 {
     let rows = rows_of(
         tx,
@@ -187,6 +191,7 @@ pub fn read_marks<S: Alter>(
     ensures stays { Stays S.Store tx.old.conn.now tx.new.conn.now result }
     ensures finds { Finds S.Store tx.old.conn.now tx.new.conn.now (λ kept rows. map mirror_row rows ≡ map mark_row kept.mirror) result }
     ensures refused { IfErr result IsOfStore }
+    ensures fails { RefusesToShow S.Store tx.old.conn.now tx.new.conn.now READ_ALL.now [] (CannotReadAll IsMirrorRow ReadsMirrorRow) result }
 {
     all_of(alloc, tx, READ_ALL, &[])
 }
@@ -200,6 +205,7 @@ pub fn read_mirror<S: Alter>(
     ensures stays { Stays S.Store tx.old.conn.now tx.new.conn.now result }
     ensures finds { Finds S.Store tx.old.conn.now tx.new.conn.now (λ kept mirror. mirror ≡ kept.mirror) result }
     ensures refused { IfErr result IsOfStore }
+    ensures fails { RefusesToShow S.Store tx.old.conn.now tx.new.conn.now READ_ALL.now [] (CannotReadAll IsEntry ReadsEntry) result }
 {
     let entries = all_of(alloc, tx, READ_ALL, &[])?;
     table_of(alloc, entries)

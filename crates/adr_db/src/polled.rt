@@ -1,10 +1,15 @@
 //! The table `polled`: the keys that were polled since the scan began.
 ghost use Rattle.std.specs.Prelude.{◌≡◌, [], fold, IfOk, IfErr};
 ghost use Rattle.std.specs.BTreeSet.{insert_key};
+ghost use Rattle.std.specs.List.{AllZip};
+ghost use Rattle.adr_text.specs.declared.refusal.Refusal.TheVariants.{OutOfMemory};
 ghost use Rattle.adr_state.specs.Keys.{mirror_cmp};
 ghost use Rattle.adr_sql.specs.Calls.{Stays};
 ghost use Rattle.adr_db.specs.Kept.{with_polled, with_none_polled};
-ghost use Rattle.adr_db.specs.Calls.{LeavesKept, Finds, IsOfStore};
+ghost use Rattle.adr_db.specs.Calls.{LeavesKept, Finds, Shows, IsOfStore};
+ghost use Rattle.adr_db.specs.Rows.{key_row};
+ghost use Rattle.adr_db.specs.Refusals.{RefusesToRun, RefusesToShow, CannotReadAll};
+ghost use Rattle.adr_db.specs.Admitted.{IsKey, ReadsKey};
 
 use crate::cells::kind_number;
 use crate::reading::all_of;
@@ -28,6 +33,7 @@ pub fn put_polled<S: Alter>(tx: &mut Transaction<'_, S>, key: &MirrorKey) -> Res
     ensures stays { Stays S.Store tx.old.conn.now tx.new.conn.now result }
     ensures leaves { LeavesKept S.Store tx.old.conn.now tx.new.conn.now (with_polled key.now) result }
     ensures refused { IfErr result IsOfStore }
+    ensures fails { RefusesToRun S.Store tx.old.conn.now tx.new.conn.now PUT.now (key_row key.now) result }
 {
     run(
         tx,
@@ -42,6 +48,7 @@ pub fn clear_polled<S: Alter>(tx: &mut Transaction<'_, S>) -> Result<(), Refusal
     ensures stays { Stays S.Store tx.old.conn.now tx.new.conn.now result }
     ensures leaves { LeavesKept S.Store tx.old.conn.now tx.new.conn.now with_none_polled result }
     ensures refused { IfErr result IsOfStore }
+    ensures fails { RefusesToRun S.Store tx.old.conn.now tx.new.conn.now CLEAR.now [] result }
 {
     run(tx, CLEAR, &[])
 }
@@ -54,7 +61,9 @@ pub fn read_polled<S: Alter>(
     ensures same_reference { tx.new.conn.ghost_name ≡ tx.old.conn.ghost_name }
     ensures stays { Stays S.Store tx.old.conn.now tx.new.conn.now result }
     ensures finds { Finds S.Store tx.old.conn.now tx.new.conn.now (λ kept keys. keys ≡ kept.polled) result }
+    ensures shows { Shows S.Store tx.old.conn.now tx.new.conn.now READ_ALL.now [] (AllZip ReadsKey) result }
     ensures refused { IfErr result IsOfStore }
+    ensures fails { RefusesToShow S.Store tx.old.conn.now tx.new.conn.now READ_ALL.now [] (CannotReadAll IsKey ReadsKey) result }
 {
     all_of(alloc, tx, READ_ALL, &[])
 }
@@ -62,7 +71,7 @@ pub fn read_polled<S: Alter>(
 // The set of the keys.
 fn set_of(alloc: Global, keys: Rows<MirrorKey>) -> Result<Polled, Refusal>
     ensures set { IfOk result (λ set. set ≡ fold (insert_key mirror_cmp) [] keys) }
-    ensures refused { IfErr result IsOfStore }
+    ensures refused { IfErr result (λ refusal. refusal ≡ OutOfMemory) }
 {
     let mut set = Polled::new(alloc);
     'keys: for key in keys.into_vec() {
@@ -80,6 +89,7 @@ pub fn read_polled_set<S: Alter>(
     ensures stays { Stays S.Store tx.old.conn.now tx.new.conn.now result }
     ensures finds { Finds S.Store tx.old.conn.now tx.new.conn.now (λ kept polled. polled ≡ kept.polled) result }
     ensures refused { IfErr result IsOfStore }
+    ensures fails { RefusesToShow S.Store tx.old.conn.now tx.new.conn.now READ_ALL.now [] (CannotReadAll IsKey ReadsKey) result }
 {
     let keys = read_polled(alloc, tx)?;
     set_of(alloc, keys)

@@ -1,11 +1,13 @@
 //! What a scan has not seen, from the tables `mirror` and `polled`.
-ghost use Rattle.std.specs.Prelude.{◌≡◌, IfErr};
+ghost use Rattle.std.specs.Prelude.{◌≡◌, [], ◌∷◌, IfErr};
 ghost use Rattle.sqlite_value.specs.Value.{owned};
 ghost use Rattle.sqlite.specs.declared.types.Value.TheVariants.{Int};
 ghost use Rattle.adr_sql.specs.Calls.{Stays};
 ghost use Rattle.adr_state.specs.Scans.{probes};
 ghost use Rattle.adr_db.specs.Kept.{at_most, limit_number};
 ghost use Rattle.adr_db.specs.Calls.{Finds, IsOfStore};
+ghost use Rattle.adr_db.specs.Refusals.{RefusesToShow, CannotReadAll};
+ghost use Rattle.adr_db.specs.Admitted.{IsKey, ReadsKey};
 
 use crate::reading::all_of;
 use adr_state::MirrorKey;
@@ -38,6 +40,7 @@ pub fn read_unseen<S: Alter>(
     ensures stays { Stays S.Store tx.old.conn.now tx.new.conn.now result }
     ensures finds { Finds S.Store tx.old.conn.now tx.new.conn.now (λ kept keys. keys ≡ at_most limit (probes kept.mirror kept.polled)) result }
     ensures refused { IfErr result IsOfStore }
+    ensures fails { RefusesToShow S.Store tx.old.conn.now tx.new.conn.now READ_UNSEEN.now (Int (limit_number limit) ∷ []) (CannotReadAll IsKey ReadsKey) result }
 {
     all_of(alloc, tx, READ_UNSEEN, &[limit_of(limit)])
 }

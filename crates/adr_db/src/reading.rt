@@ -7,6 +7,8 @@ ghost use Rattle.sqlite_sql.specs.Aggregate.{count};
 ghost use Rattle.adr_sql.specs.Calls.{Stays};
 ghost use Rattle.adr_state.specs.Keys.{map_of};
 ghost use Rattle.adr_db.specs.Calls.{Shows, IsOfStore};
+ghost use Rattle.adr_db.specs.Refusals.{CannotRead, CannotReadAll, CannotReadFirst, CannotCount, RefusesToShow};
+ghost use Rattle.adr_text.specs.declared.refusal.Refusal.TheVariants.{OutOfMemory};
 
 use crate::cells::column;
 use crate::statement::rows_of;
@@ -22,14 +24,19 @@ pub(crate) trait FromRow: Drop {
 
     ghost reads: { SqlRow → Self → Type 0 };
 
+    // what its type admits
+    ghost admits: { Self → Type 0 };
+
     fn from_row(alloc: Global, row: &Row) -> Result<Self, Refusal>
         ensures reads { IfOk result (reads row.now) }
-        ensures refused { IfErr result IsOfStore };
+        ensures refused { IfErr result (CannotRead admits reads row.now) };
 }
 
 /// A key with its value.
 impl<K: FromRow, V: FromRow> FromRow for (K, V) {
     ghost reads = { λ row e. K.reads row e.0 × V.reads row e.1 };
+
+    ghost admits = { λ e. K.admits e.0 × V.admits e.1 };
 
     fn from_row(alloc: Global, row: &Row) -> Result<(K, V), Refusal> {
         let key = K::from_row(alloc, row)?;
@@ -40,7 +47,7 @@ impl<K: FromRow, V: FromRow> FromRow for (K, V) {
 
 fn all_in<T: FromRow>(alloc: Global, rows: &[Row]) -> Result<Rows<T>, Refusal>
     ensures read { IfOk result (AllZip T.reads rows.now) }
-    ensures refused { IfErr result IsOfStore }
+    ensures refused { IfErr result (CannotReadAll T.admits T.reads rows.now) }
 {
     let mut all = Rows::new(alloc);
     'rows: for row in rows {
@@ -60,6 +67,7 @@ pub(crate) fn all_of<T: FromRow, S: Alter>(
     ensures stays { Stays S.Store tx.old.conn.now tx.new.conn.now result }
     ensures shows { Shows S.Store tx.old.conn.now tx.new.conn.now sql.now (bound params.now) (AllZip T.reads) result }
     ensures refused { IfErr result IsOfStore }
+    ensures fails { RefusesToShow S.Store tx.old.conn.now tx.new.conn.now sql.now (bound params.now) (CannotReadAll T.admits T.reads) result }
 {
     let rows = rows_of(tx, sql, params)?;
     all_in(alloc, &rows)
@@ -68,7 +76,7 @@ pub(crate) fn all_of<T: FromRow, S: Alter>(
 /// The first row, read, where there is one.
 pub(crate) fn first_in<T: FromRow>(alloc: Global, rows: &[Row]) -> Result<Option<T>, Refusal>
     ensures read { IfOk result (λ found. AllZip T.reads (take 1 rows.now) (option_to_list found)) }
-    ensures refused { IfErr result IsOfStore }
+    ensures refused { IfErr result (CannotReadFirst T.admits T.reads rows.now) }
 {
     match rows.first() {
         Some(row) => Ok(Some(T::from_row(alloc, row)?)),
@@ -87,6 +95,7 @@ pub(crate) fn first_of<T: FromRow, S: Alter>(
     ensures stays { Stays S.Store tx.old.conn.now tx.new.conn.now result }
     ensures shows { Shows S.Store tx.old.conn.now tx.new.conn.now sql.now (bound params.now) (λ rows found. AllZip T.reads (take 1 rows) (option_to_list found)) result }
     ensures refused { IfErr result IsOfStore }
+    ensures fails { RefusesToShow S.Store tx.old.conn.now tx.new.conn.now sql.now (bound params.now) (CannotReadFirst T.admits T.reads) result }
 {
     let rows = rows_of(tx, sql, params)?;
     first_in(alloc, &rows)
@@ -98,7 +107,7 @@ pub(crate) fn table_of<K: Ord + Drop, V: Drop>(
     rows: Rows<(K, V)>,
 ) -> Result<Table<K, V>, Refusal>
     ensures map { IfOk result (λ table. table ≡ map_of K.cmp rows) }
-    ensures refused { IfErr result IsOfStore }
+    ensures refused { IfErr result (λ refusal. refusal ≡ OutOfMemory) }
 {
     let mut table = Table::new(alloc);
     'rows: for row in rows.into_vec() {
@@ -114,6 +123,7 @@ pub(crate) fn count_of<S: Alter>(tx: &mut Transaction<'_, S>, sql: &str) -> Resu
     ensures stays { Stays S.Store tx.old.conn.now tx.new.conn.now result }
     ensures shows { Shows S.Store tx.old.conn.now tx.new.conn.now sql.now [] (λ rows n. (m : ℕ) → rows ≡ (count m ∷ []) ∷ [] → n ≡ m) result }
     ensures refused { IfErr result IsOfStore }
+    ensures fails { RefusesToShow S.Store tx.old.conn.now tx.new.conn.now sql.now [] CannotCount result }
 {
     let rows = rows_of(tx, sql, &[])?;
     let row = rows.first().ok_or(Refusal::Store)?;

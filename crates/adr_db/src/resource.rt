@@ -1,5 +1,5 @@
 //! The table `resource`: the resources of the vens.
-ghost use Rattle.std.specs.Prelude.{◌≡◌, [], ◌∷◌, map, length, IfOk, IfErr};
+ghost use Rattle.std.specs.Prelude.{◌≡◌, ◌⊎◌, ◌<◌, [], ◌∷◌, map, length, IfOk, IfErr};
 ghost use Rattle.std.specs.Ordering.{nat_cmp};
 ghost use Rattle.adr_state.specs.Names.{resource_name};
 ghost use Rattle.adr_state.specs.Keys.{at, map_of};
@@ -8,8 +8,11 @@ ghost use Rattle.sqlite.specs.declared.types.Value.TheVariants.{Text};
 ghost use Rattle.adr_sql.specs.Calls.{Stays};
 ghost use Rattle.adr_state.specs.Portfolios.{with_resource, without_resource};
 ghost use Rattle.adr_db.specs.Kept.{numbers_named, with_portfolio};
-ghost use Rattle.adr_sql.specs.Keys.{cells};
-ghost use Rattle.adr_db.specs.Rows.{resource_columns};
+ghost use Rattle.adr_db.specs.Rows.{resource_row, number_row};
+ghost use Rattle.adr_db.specs.Refusals.{RefusesToPut, RefusesToShow, CannotRead, CannotReadAll, CannotReadFirst, CannotCount};
+ghost use Rattle.std.specs.List.{AllZip};
+ghost use Rattle.adr_text.specs.declared.refusal.Refusal.TheVariants.{OutOfMemory, Store};
+ghost use Rattle.adr_db.specs.Admitted.{IsNumber, IsResource, IsResourceNameText, AreResources, ReadsNumber, ReadsResource, ReadsResourceEntry};
 ghost use Rattle.adr_db.specs.Calls.{LeavesKept, Finds, IsOfStore};
 
 use crate::cells::{as_stored, column, number, stamps_in};
@@ -46,6 +49,7 @@ pub fn put_resource<S: Alter>(
     ensures stays { Stays S.Store tx.old.conn.now tx.new.conn.now result }
     ensures leaves { LeavesKept S.Store tx.old.conn.now tx.new.conn.now (with_portfolio (with_resource id resource.now)) result }
     ensures refused { IfErr result IsOfStore }
+    ensures fails { RefusesToPut S.Store tx.old.conn.now tx.new.conn.now PUT.now (resource_row (id, resource.now)) result }
 {
     run(
         tx,
@@ -66,6 +70,7 @@ pub fn remove_resource<S: Alter>(tx: &mut Transaction<'_, S>, id: Number) -> Res
     ensures stays { Stays S.Store tx.old.conn.now tx.new.conn.now result }
     ensures leaves { LeavesKept S.Store tx.old.conn.now tx.new.conn.now (with_portfolio (without_resource id)) result }
     ensures refused { IfErr result IsOfStore }
+    ensures fails { RefusesToPut S.Store tx.old.conn.now tx.new.conn.now REMOVE.now (number_row id) result }
 {
     run(tx, REMOVE, &[number(id.get())?])
 }
@@ -73,7 +78,7 @@ pub fn remove_resource<S: Alter>(tx: &mut Transaction<'_, S>, id: Number) -> Res
 // The name in the third column.
 fn resource_name_in(alloc: Global, row: &Row) -> Result<ResourceName, Refusal>
     ensures name { IfOk result (λ name. column row.now 2 ≡ Text name) }
-    ensures refused { IfErr result IsOfStore }
+    ensures refused { IfErr result (CannotRead IsResourceNameText (λ value name. value ≡ Text name) (column row.now 2)) }
 {
     let text: String = column(row, 2)?;
     match ResourceName::new(alloc, text.as_str()) {
@@ -83,7 +88,9 @@ fn resource_name_in(alloc: Global, row: &Row) -> Result<ResourceName, Refusal>
 }
 
 impl FromRow for Resource {
-    ghost reads = { λ row resource. resource_columns resource ≡ cells 1 4 row };
+    ghost reads = { ReadsResource };
+
+    ghost admits = { IsResource };
 
     fn from_row(alloc: Global, row: &Row) -> Result<Resource, Refusal> {
         Ok(Resource {
@@ -97,7 +104,7 @@ impl FromRow for Resource {
 // More than a node has is the store's refusal.
 fn resources_of(alloc: Global, rows: Rows<(Number, Resource)>) -> Result<Resources, Refusal>
     ensures map { IfOk result (λ resources. resources ≡ map_of nat_cmp rows) }
-    ensures refused { IfErr result IsOfStore }
+    ensures refused { IfErr result (λ refusal. (refusal ≡ OutOfMemory) ⊎ ((refusal ≡ Store) × (10_000 < length rows))) }
 {
     let mut resources = Resources::new(alloc);
     'rows: for row in rows.into_vec() {
@@ -119,6 +126,7 @@ pub fn read_resource<S: Alter>(
     ensures stays { Stays S.Store tx.old.conn.now tx.new.conn.now result }
     ensures finds { Finds S.Store tx.old.conn.now tx.new.conn.now (λ kept found. found ≡ at nat_cmp id kept.portfolio.resources) result }
     ensures refused { IfErr result IsOfStore }
+    ensures fails { RefusesToShow S.Store tx.old.conn.now tx.new.conn.now READ_ONE.now (number_row id) (CannotReadFirst IsResource ReadsResource) result }
 {
     first_of(alloc, tx, READ_ONE, &[number(id.get())?])
 }
@@ -132,6 +140,7 @@ pub fn read_resources<S: Alter>(
     ensures stays { Stays S.Store tx.old.conn.now tx.new.conn.now result }
     ensures finds { Finds S.Store tx.old.conn.now tx.new.conn.now (λ kept resources. resources ≡ kept.portfolio.resources) result }
     ensures refused { IfErr result IsOfStore }
+    ensures fails { RefusesToShow S.Store tx.old.conn.now tx.new.conn.now READ_ALL.now [] (CannotRead AreResources (AllZip ReadsResourceEntry)) result }
 {
     let entries = all_of(alloc, tx, READ_ALL, &[])?;
     resources_of(alloc, entries)
@@ -147,6 +156,7 @@ pub fn read_resources_named<S: Alter>(
     ensures stays { Stays S.Store tx.old.conn.now tx.new.conn.now result }
     ensures finds { Finds S.Store tx.old.conn.now tx.new.conn.now (λ kept numbers. numbers ≡ numbers_named resource_name name.now kept.portfolio.resources) result }
     ensures refused { IfErr result IsOfStore }
+    ensures fails { RefusesToShow S.Store tx.old.conn.now tx.new.conn.now READ_NAMED.now (Text name.now ∷ []) (CannotReadAll IsNumber ReadsNumber) result }
 {
     all_of(alloc, tx, READ_NAMED, &[name.as_name().as_str().to_sql()])
 }
@@ -157,6 +167,7 @@ pub fn count_resources<S: Alter>(tx: &mut Transaction<'_, S>) -> Result<u64, Ref
     ensures stays { Stays S.Store tx.old.conn.now tx.new.conn.now result }
     ensures finds { Finds S.Store tx.old.conn.now tx.new.conn.now (λ kept count. count ≡ length kept.portfolio.resources) result }
     ensures refused { IfErr result IsOfStore }
+    ensures fails { RefusesToShow S.Store tx.old.conn.now tx.new.conn.now COUNT.now [] CannotCount result }
 {
     count_of(tx, COUNT)
 }

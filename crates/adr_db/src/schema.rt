@@ -1,13 +1,16 @@
 //! The tables are made in a transaction.
-ghost use Rattle.std.specs.Prelude.{◌≡◌, [], OnOk, IfErr};
+ghost use Rattle.std.specs.Prelude.{◌≡◌, [], ◌∷◌, OnOk, IfErr};
 ghost use Rattle.sqlite.specs.Held.{state};
 ghost use Rattle.sqlite.specs.State.{HasCleanDisk};
 ghost use Rattle.adr_sql.specs.Contents.{Holds, empty_tables};
 ghost use Rattle.adr_sql.specs.Schemas.{no_schema};
 ghost use Rattle.adr_sql.specs.Calls.{Stays};
 ghost use Rattle.adr_db.specs.Tables.{schema, tables};
-ghost use Rattle.adr_db.specs.Kept.{Keeps, nothing_kept};
+ghost use Rattle.adr_db.specs.Kept.{Keeps, nothing_kept, first_meta};
 ghost use Rattle.adr_db.specs.Calls.{IsOfStore};
+ghost use Rattle.adr_db.specs.Refusals.{RefusesToRunAll};
+ghost use Rattle.adr_db.specs.declared.meta.TheConstants.{PUT};
+ghost use Rattle.adr_db.specs.Rows.{meta_numbers};
 
 use crate::meta::{Meta, write_meta};
 use crate::statement::refusal_of;
@@ -39,6 +42,7 @@ pub fn create<S: Alter>(tx: &mut Transaction<'_, S>) -> Result<(), Refusal>
     ensures stays { Stays S.Store tx.old.conn.now tx.new.conn.now result }
     ensures made { HasCleanDisk (state S.Store tx.new.conn.now) → OnOk result (Holds no_schema [] (state S.Store tx.old.conn.now) → Keeps nothing_kept (state S.Store tx.new.conn.now)) }
     ensures refused { IfErr result IsOfStore }
+    ensures fails { RefusesToRunAll S.Store tx.old.conn.now tx.new.conn.now (META.now ∷ MIRROR.now ∷ POLLED.now ∷ VEN.now ∷ RESOURCE.now ∷ SHARE.now ∷ []) PUT.now (meta_numbers first_meta) result }
 {
     let texts = [META, MIRROR, POLLED, VEN, RESOURCE, SHARE];
     match create_tables(tx, &texts) {

@@ -4,9 +4,9 @@ ghost use Rattle.adr_state.specs.Keys.{share_cmp, at};
 ghost use Rattle.adr_sql.specs.Calls.{Stays};
 ghost use Rattle.adr_state.specs.Portfolios.{with_share, without_share};
 ghost use Rattle.adr_db.specs.Kept.{with_portfolio};
-ghost use Rattle.sqlite.specs.Order.{column};
-ghost use Rattle.adr_sql.specs.Keys.{cells};
-ghost use Rattle.adr_db.specs.Rows.{number, share_key_row};
+ghost use Rattle.adr_db.specs.Rows.{share_key_row, share_row};
+ghost use Rattle.adr_db.specs.Refusals.{RefusesToPut, RefusesToShow, CannotReadAll, CannotReadFirst, CannotCount};
+ghost use Rattle.adr_db.specs.Admitted.{IsShareKey, IsShareWeight, IsShare, ReadsShareKey, ReadsShareWeight, ReadsShare};
 ghost use Rattle.adr_db.specs.Calls.{LeavesKept, Finds, IsOfStore};
 
 use crate::cells::{column, id_in, number, weight_in};
@@ -41,6 +41,7 @@ pub fn put_share<S: Alter>(
     ensures stays { Stays S.Store tx.old.conn.now tx.new.conn.now result }
     ensures leaves { LeavesKept S.Store tx.old.conn.now tx.new.conn.now (with_portfolio (with_share key.now weight)) result }
     ensures refused { IfErr result IsOfStore }
+    ensures fails { RefusesToPut S.Store tx.old.conn.now tx.new.conn.now PUT.now (share_row (key.now, weight)) result }
 {
     run(
         tx,
@@ -59,13 +60,16 @@ pub fn remove_share<S: Alter>(tx: &mut Transaction<'_, S>, key: &ShareKey) -> Re
     ensures stays { Stays S.Store tx.old.conn.now tx.new.conn.now result }
     ensures leaves { LeavesKept S.Store tx.old.conn.now tx.new.conn.now (with_portfolio (without_share key.now)) result }
     ensures refused { IfErr result IsOfStore }
+    ensures fails { RefusesToPut S.Store tx.old.conn.now tx.new.conn.now REMOVE.now (share_key_row key.now) result }
 {
     let resource = number(key.resource.get())?;
     run(tx, REMOVE, &[key.program.as_str().to_sql(), resource])
 }
 
 impl FromRow for ShareKey {
-    ghost reads = { λ row key. share_key_row key ≡ cells 0 2 row };
+    ghost reads = { ReadsShareKey };
+
+    ghost admits = { IsShareKey };
 
     fn from_row(alloc: Global, row: &Row) -> Result<ShareKey, Refusal> {
         Ok(ShareKey {
@@ -76,7 +80,9 @@ impl FromRow for ShareKey {
 }
 
 impl FromRow for Weight {
-    ghost reads = { λ row weight. number weight ≡ column row 2 };
+    ghost reads = { ReadsShareWeight };
+
+    ghost admits = { IsShareWeight };
 
     fn from_row(_: Global, row: &Row) -> Result<Weight, Refusal> {
         weight_in(row, 2)
@@ -92,6 +98,7 @@ pub fn read_share<S: Alter>(
     ensures stays { Stays S.Store tx.old.conn.now tx.new.conn.now result }
     ensures finds { Finds S.Store tx.old.conn.now tx.new.conn.now (λ kept found. found ≡ at share_cmp key.now kept.portfolio.shares) result }
     ensures refused { IfErr result IsOfStore }
+    ensures fails { RefusesToShow S.Store tx.old.conn.now tx.new.conn.now READ_ONE.now (share_key_row key.now) (CannotReadFirst IsShareWeight ReadsShareWeight) result }
 {
     let resource = number(key.resource.get())?;
     let rows = rows_of(tx, READ_ONE, &[key.program.as_str().to_sql(), resource])?;
@@ -107,6 +114,7 @@ pub fn read_shares<S: Alter>(
     ensures stays { Stays S.Store tx.old.conn.now tx.new.conn.now result }
     ensures finds { Finds S.Store tx.old.conn.now tx.new.conn.now (λ kept shares. shares ≡ kept.portfolio.shares) result }
     ensures refused { IfErr result IsOfStore }
+    ensures fails { RefusesToShow S.Store tx.old.conn.now tx.new.conn.now READ_ALL.now [] (CannotReadAll IsShare ReadsShare) result }
 {
     let entries = all_of(alloc, tx, READ_ALL, &[])?;
     table_of(alloc, entries)
@@ -118,6 +126,7 @@ pub fn count_shares<S: Alter>(tx: &mut Transaction<'_, S>) -> Result<u64, Refusa
     ensures stays { Stays S.Store tx.old.conn.now tx.new.conn.now result }
     ensures finds { Finds S.Store tx.old.conn.now tx.new.conn.now (λ kept count. count ≡ length kept.portfolio.shares) result }
     ensures refused { IfErr result IsOfStore }
+    ensures fails { RefusesToShow S.Store tx.old.conn.now tx.new.conn.now COUNT.now [] CannotCount result }
 {
     count_of(tx, COUNT)
 }

@@ -1,10 +1,11 @@
 //! Who shares in a program, from the tables `share`, `resource` and `ven`.
-ghost use Rattle.std.specs.Prelude.{◌≡◌, IfErr};
+ghost use Rattle.std.specs.Prelude.{◌≡◌, [], ◌∷◌, IfErr};
 ghost use Rattle.adr_sql.specs.Calls.{Stays};
 ghost use Rattle.adr_db.specs.Sharing.{sharers};
-ghost use Rattle.adr_sql.specs.Keys.{cells};
-ghost use Rattle.adr_db.specs.Rows.{participant_row};
 ghost use Rattle.adr_db.specs.Calls.{Finds, IsOfStore};
+ghost use Rattle.adr_db.specs.Admitted.{IsParticipant, ReadsParticipant};
+ghost use Rattle.adr_db.specs.Refusals.{RefusesToShow, CannotReadAll};
+ghost use Rattle.sqlite.specs.declared.types.Value.TheVariants.{Text};
 
 use crate::cells::{column, name_in, weight_in};
 use crate::reading::{FromRow, all_of};
@@ -19,7 +20,9 @@ const READ_SHARERS: &str =
     "SELECT s.resource, s.weight, r.name, v.name FROM share s JOIN resource r ON r.id = s.resource JOIN ven v ON v.id = r.ven WHERE s.program = ?1 ORDER BY s.program, s.resource";
 
 impl FromRow for Participant {
-    ghost reads = { λ row p. participant_row p ≡ cells 0 4 row };
+    ghost reads = { ReadsParticipant };
+
+    ghost admits = { IsParticipant };
 
     fn from_row(alloc: Global, row: &Row) -> Result<Participant, Refusal> {
         Ok(Participant {
@@ -42,6 +45,7 @@ pub fn read_sharers<S: Alter>(
     ensures stays { Stays S.Store tx.old.conn.now tx.new.conn.now result }
     ensures finds { Finds S.Store tx.old.conn.now tx.new.conn.now (λ kept all. all ≡ sharers program.now kept) result }
     ensures refused { IfErr result IsOfStore }
+    ensures fails { RefusesToShow S.Store tx.old.conn.now tx.new.conn.now READ_SHARERS.now (Text program.now ∷ []) (CannotReadAll IsParticipant ReadsParticipant) result }
 {
     all_of(alloc, tx, READ_SHARERS, &[program.as_str().to_sql()])
 }

@@ -3,6 +3,7 @@ ghost use Rattle.std.specs.Prelude.{◌≡◌, IfErr};
 ghost use Rattle.sqlite.specs.Values.{bound};
 ghost use Rattle.adr_sql.specs.Calls.{Stays, Runs, Answers};
 ghost use Rattle.adr_db.specs.Calls.{IsOfStore, refusal_of};
+ghost use Rattle.adr_db.specs.Refusals.{RefusesToRun, RefusesToAnswer};
 
 use adr_text::Refusal;
 use sqlite::types::ValueRef;
@@ -29,6 +30,7 @@ pub(crate) fn run<S: Alter>(
     ensures stays { Stays S.Store tx.old.conn.now tx.new.conn.now result }
     ensures runs { Runs S.Store tx.old.conn.now tx.new.conn.now sql.now (bound params.now) result }
     ensures refused { IfErr result IsOfStore }
+    ensures fails { RefusesToRun S.Store tx.old.conn.now tx.new.conn.now sql.now (bound params.now) result }
 {
     adr_sql::run(tx, sql, params).map_err(refusal_of)
 }
@@ -43,6 +45,7 @@ pub(crate) fn rows_of<S: Alter>(
     ensures stays { Stays S.Store tx.old.conn.now tx.new.conn.now result }
     ensures answers { Answers S.Store tx.old.conn.now tx.new.conn.now sql.now (bound params.now) (λ rows. rows.items) result }
     ensures refused { IfErr result IsOfStore }
+    ensures fails { RefusesToAnswer S.Store tx.old.conn.now tx.new.conn.now sql.now (bound params.now) result }
 {
     adr_sql::rows_of(tx, sql, params).map_err(refusal_of)
 }

@@ -6,8 +6,10 @@ ghost use Rattle.adr_state.specs.Keys.{at};
 ghost use Rattle.adr_sql.specs.Calls.{Stays};
 ghost use Rattle.adr_state.specs.Portfolios.{with_ven, without_ven};
 ghost use Rattle.adr_db.specs.Kept.{numbers_named, with_portfolio};
-ghost use Rattle.adr_sql.specs.Keys.{cells};
-ghost use Rattle.adr_db.specs.Rows.{ven_columns};
+ghost use Rattle.adr_db.specs.Rows.{ven_row, number_row};
+ghost use Rattle.adr_db.specs.Refusals.{RefusesToPut, RefusesToShow, CannotReadAll, CannotReadFirst, CannotCount};
+ghost use Rattle.sqlite.specs.declared.types.Value.TheVariants.{Text};
+ghost use Rattle.adr_db.specs.Admitted.{IsNumber, IsVen, IsVenEntry, ReadsNumber, ReadsVen, ReadsVenEntry};
 ghost use Rattle.adr_db.specs.Calls.{LeavesKept, Finds, IsOfStore};
 
 use crate::cells::{name_in, number, stamps_in};
@@ -39,6 +41,7 @@ pub fn put_ven<S: Alter>(tx: &mut Transaction<'_, S>, id: Number, ven: &Ven) -> 
     ensures stays { Stays S.Store tx.old.conn.now tx.new.conn.now result }
     ensures leaves { LeavesKept S.Store tx.old.conn.now tx.new.conn.now (with_portfolio (with_ven id ven.now)) result }
     ensures refused { IfErr result IsOfStore }
+    ensures fails { RefusesToPut S.Store tx.old.conn.now tx.new.conn.now PUT.now (ven_row (id, ven.now)) result }
 {
     run(
         tx,
@@ -58,12 +61,15 @@ pub fn remove_ven<S: Alter>(tx: &mut Transaction<'_, S>, id: Number) -> Result<(
     ensures stays { Stays S.Store tx.old.conn.now tx.new.conn.now result }
     ensures leaves { LeavesKept S.Store tx.old.conn.now tx.new.conn.now (with_portfolio (without_ven id)) result }
     ensures refused { IfErr result IsOfStore }
+    ensures fails { RefusesToPut S.Store tx.old.conn.now tx.new.conn.now REMOVE.now (number_row id) result }
 {
     run(tx, REMOVE, &[number(id.get())?])
 }
 
 impl FromRow for Ven {
-    ghost reads = { λ row ven. ven_columns ven ≡ cells 1 3 row };
+    ghost reads = { ReadsVen };
+
+    ghost admits = { IsVen };
 
     fn from_row(alloc: Global, row: &Row) -> Result<Ven, Refusal> {
         Ok(Ven {
@@ -83,6 +89,7 @@ pub fn read_ven<S: Alter>(
     ensures stays { Stays S.Store tx.old.conn.now tx.new.conn.now result }
     ensures finds { Finds S.Store tx.old.conn.now tx.new.conn.now (λ kept found. found ≡ at nat_cmp id kept.portfolio.vens) result }
     ensures refused { IfErr result IsOfStore }
+    ensures fails { RefusesToShow S.Store tx.old.conn.now tx.new.conn.now READ_ONE.now (number_row id) (CannotReadFirst IsVen ReadsVen) result }
 {
     first_of(alloc, tx, READ_ONE, &[number(id.get())?])
 }
@@ -96,6 +103,7 @@ pub fn read_vens<S: Alter>(
     ensures stays { Stays S.Store tx.old.conn.now tx.new.conn.now result }
     ensures finds { Finds S.Store tx.old.conn.now tx.new.conn.now (λ kept vens. vens ≡ kept.portfolio.vens) result }
     ensures refused { IfErr result IsOfStore }
+    ensures fails { RefusesToShow S.Store tx.old.conn.now tx.new.conn.now READ_ALL.now [] (CannotReadAll IsVenEntry ReadsVenEntry) result }
 {
     let entries = all_of(alloc, tx, READ_ALL, &[])?;
     table_of(alloc, entries)
@@ -111,6 +119,7 @@ pub fn read_vens_named<S: Alter>(
     ensures stays { Stays S.Store tx.old.conn.now tx.new.conn.now result }
     ensures finds { Finds S.Store tx.old.conn.now tx.new.conn.now (λ kept numbers. numbers ≡ numbers_named ven_name name.now kept.portfolio.vens) result }
     ensures refused { IfErr result IsOfStore }
+    ensures fails { RefusesToShow S.Store tx.old.conn.now tx.new.conn.now READ_NAMED.now (Text name.now ∷ []) (CannotReadAll IsNumber ReadsNumber) result }
 {
     all_of(alloc, tx, READ_NAMED, &[name.as_str().to_sql()])
 }
@@ -121,6 +130,7 @@ pub fn count_vens<S: Alter>(tx: &mut Transaction<'_, S>) -> Result<u64, Refusal>
     ensures stays { Stays S.Store tx.old.conn.now tx.new.conn.now result }
     ensures finds { Finds S.Store tx.old.conn.now tx.new.conn.now (λ kept count. count ≡ length kept.portfolio.vens) result }
     ensures refused { IfErr result IsOfStore }
+    ensures fails { RefusesToShow S.Store tx.old.conn.now tx.new.conn.now COUNT.now [] CannotCount result }
 {
     count_of(tx, COUNT)
 }

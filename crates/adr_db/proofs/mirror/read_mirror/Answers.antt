@@ -1,5 +1,6 @@
 use Rattle.adr_state.proofs.KeyLemmas.{mirror_order}
-use Rattle.adr_db.proofs.Marks.{ReadsEntry, entry_read}
+use Rattle.adr_db.specs.Admitted.{ReadsEntry}
+use Rattle.adr_db.proofs.Marks.{entry_read}
 use Rattle.adr_db.proofs.KeptMaps.{map_finds}
 use Rattle.adr_db.proofs.Maps.{mirror_map}
 use Rattle.adr_db.proofs.MirrorStatements.{reads_all}

@@ -10,3 +10,6 @@ use Rattle.adr_db.proofs.resource.read_resource.Goals as goal
 pub returns-clause-finds : goal.returns-clause-finds
 returns-clause-finds g c =
     one_finds resource_map g.S.Store c.args.tx.now.conn.now c.first_of.new.tx.conn.now _ (λ row resource. resource_columns resource ≡ cells 1 4 row) (λ (found there : Option Resource). found ≡ there) c.args.id _ refl texts.reads_one refl (λ a b same. ap Some (resource_kept a b same)) (rw (c.in_ok-number.ensures.value, c.get.ensures) at c.first_of.ensures.shows)
+
+pub returns-clause-fails : goal.returns-clause-fails
+returns-clause-fails g c = rw (c.in_ok-number.ensures.value, c.get.ensures) at c.first_of.ensures.fails

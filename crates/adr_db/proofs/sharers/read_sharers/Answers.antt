@@ -14,3 +14,6 @@ returns-clause-finds g c =
     shown_finds g.S.Store c.args.tx.now.conn.now c.all_of.new.tx.conn.now _ _ (AllZip (λ row p. participant_row p ≡ cells 0 4 row)) (λ kept all. all ≡ sharers program kept) _ reads.alone (λ all rows kept shown was read.
     read_back (λ row p. participant_row p ≡ cells 0 4 row) participant_row all (sharers program kept) (λ p q has same. participant_kept p q same) (subst (λ rows. AllZip (λ row p. participant_row p ≡ cells 0 4 row) rows all) (sharers_read program _ _ rows kept shown was) read))
     (rw (c.to_sql.ensures, c.as_str.ensures.text) at c.all_of.ensures.shows)
+
+pub returns-clause-fails : goal.returns-clause-fails
+returns-clause-fails g c = rw (c.to_sql.ensures, c.as_str.ensures.text) at c.all_of.ensures.fails

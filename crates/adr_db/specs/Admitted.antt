@@ -1,0 +1,132 @@
+-- What the types of what is kept admit, and how a row reads.
+use Rattle.std.specs.Prelude.{◌≡◌, ◌≤◌, ⊤, length, ◌<◌, ◌^◌, ℕ, List, string_bytes, IsUtf8, IsTrue, Ok}
+use Rattle.std.specs.List.{AllByRecursion}
+use Rattle.sqlite.specs.Order.{Row, column}
+use Rattle.adr_text.specs.Ids.{is_id}
+use Rattle.adr_text.specs.Names.{is_name}
+use Rattle.adr_text.specs.Moments.{last_nanos}
+use Rattle.adr_objects.specs.Limits.{is_resource_name}
+use Rattle.adr_objects.specs.declared.shown.Stamps.{Stamps}
+use Rattle.adr_state.specs.declared.base.Mark.{Mark}
+use Rattle.adr_state.specs.declared.keys.MirrorKey.{MirrorKey}
+use Rattle.adr_state.specs.declared.keys.ShareKey.{ShareKey}
+use Rattle.adr_state.specs.declared.portfolio.Ven.{Ven}
+use Rattle.adr_state.specs.declared.portfolio.Resource.{Resource}
+use Rattle.adr_state.specs.declared.participants.Participant.{Participant}
+use Rattle.adr_state.specs.Digits.{most_number}
+use Rattle.adr_state.specs.Weights.{is_weight}
+use Rattle.adr_db.specs.declared.meta.Meta.{Meta}
+use Rattle.adr_db.specs.declared.mirror.MarkColumns.{MarkColumns}
+use Rattle.adr_db.specs.declared.mirror.MirrorRow.{MirrorRow}
+use Rattle.adr_sql.specs.Keys.{cells}
+use Rattle.adr_db.specs.Rows.{number, meta_row, key_row, columns_row, mark_from, mirror_row, ven_columns, resource_columns, share_key_row, participant_row}
+
+abbrev pub IsNumber : ℕ → Type 0
+IsNumber n = ⊤
+
+abbrev pub IsIdText : List ℕ → Type 0
+IsIdText text = IsUtf8 text × IsTrue (is_id text)
+
+abbrev pub IsNameText : List ℕ → Type 0
+IsNameText text = IsUtf8 text × IsTrue (is_name text)
+
+abbrev pub IsMoment : ℕ → Type 0
+IsMoment moment = moment ≤ last_nanos
+
+abbrev pub AreStamps : Stamps → Type 0
+AreStamps stamps = IsMoment stamps.created × IsMoment stamps.modified
+
+abbrev pub AreNumbers : Meta → Type 0
+AreNumbers meta = meta.serial ≤ most_number
+
+abbrev pub IsKey : MirrorKey → Type 0
+IsKey key = IsIdText key.id
+
+abbrev pub AreColumns : MarkColumns → Type 0
+AreColumns columns = (columns.state < 2 ^ 32) × IsUtf8 (string_bytes columns.body)
+
+abbrev pub IsMirrorRow : MirrorRow → Type 0
+IsMirrorRow row = IsKey row.key × AreColumns row.mark
+
+abbrev pub IsVen : Ven → Type 0
+IsVen ven = IsNameText ven.name × AreStamps ven.stamps
+
+abbrev pub IsResourceNameText : List ℕ → Type 0
+IsResourceNameText text = IsUtf8 text × IsTrue (is_resource_name text)
+
+abbrev pub IsResource : Resource → Type 0
+IsResource resource = IsResourceNameText resource.name × AreStamps resource.stamps
+
+abbrev pub IsShareKey : ShareKey → Type 0
+IsShareKey key = IsIdText key.program
+
+abbrev pub IsParticipant : Participant → Type 0
+IsParticipant p = IsTrue (is_weight p.weight) × (IsNameText p.name × IsNameText p.ven_name)
+
+-- a weight alone, and entries behind their keys
+abbrev pub IsShareWeight : ℕ → Type 0
+IsShareWeight weight = IsTrue (is_weight weight)
+
+abbrev pub IsEntry : MirrorKey × Mark → Type 0
+IsEntry e = IsKey e.0 × ⊤
+
+abbrev pub IsVenEntry : ℕ × Ven → Type 0
+IsVenEntry e = IsNumber e.0 × IsVen e.1
+
+abbrev pub IsResourceEntry : ℕ × Resource → Type 0
+IsResourceEntry e = IsNumber e.0 × IsResource e.1
+
+-- a node has 10,000 of them at most
+abbrev pub AreResources : List (ℕ × Resource) → Type 0
+AreResources es = (length es ≤ 10_000) × AllByRecursion IsResourceEntry es
+
+abbrev pub IsShare : ShareKey × ℕ → Type 0
+IsShare e = IsShareKey e.0 × IsShareWeight e.1
+
+-- ---- how a row reads
+
+abbrev pub ReadsNumber : Row → ℕ → Type 0
+ReadsNumber row n = number n ≡ column row 0
+
+abbrev pub ReadsMeta : Row → Meta → Type 0
+ReadsMeta row meta = meta_row meta ≡ cells 0 9 row
+
+abbrev pub ReadsKey : Row → MirrorKey → Type 0
+ReadsKey row key = key_row key ≡ cells 0 2 row
+
+abbrev pub ReadsColumns : Row → MarkColumns → Type 0
+ReadsColumns row columns = columns_row columns ≡ cells 2 3 row
+
+abbrev pub ReadsMirrorRow : Row → MirrorRow → Type 0
+ReadsMirrorRow row it = mirror_row it ≡ cells 0 5 row
+
+-- a mark as it is read of a row: the columns stand for it
+abbrev pub ReadsMark : Row → Mark → Type 0
+ReadsMark row mark = (columns : MarkColumns) × AreColumns columns × (columns_row columns ≡ cells 2 3 row) × (mark_from columns ≡ Ok mark)
+
+abbrev pub ReadsEntry : Row → MirrorKey × Mark → Type 0
+ReadsEntry row e = ReadsKey row e.0 × ReadsMark row e.1
+
+abbrev pub ReadsVen : Row → Ven → Type 0
+ReadsVen row ven = ven_columns ven ≡ cells 1 3 row
+
+abbrev pub ReadsVenEntry : Row → ℕ × Ven → Type 0
+ReadsVenEntry row e = ReadsNumber row e.0 × ReadsVen row e.1
+
+abbrev pub ReadsResource : Row → Resource → Type 0
+ReadsResource row resource = resource_columns resource ≡ cells 1 4 row
+
+abbrev pub ReadsResourceEntry : Row → ℕ × Resource → Type 0
+ReadsResourceEntry row e = ReadsNumber row e.0 × ReadsResource row e.1
+
+abbrev pub ReadsShareKey : Row → ShareKey → Type 0
+ReadsShareKey row key = share_key_row key ≡ cells 0 2 row
+
+abbrev pub ReadsShareWeight : Row → ℕ → Type 0
+ReadsShareWeight row weight = number weight ≡ column row 2
+
+abbrev pub ReadsShare : Row → ShareKey × ℕ → Type 0
+ReadsShare row e = ReadsShareKey row e.0 × ReadsShareWeight row e.1
+
+abbrev pub ReadsParticipant : Row → Participant → Type 0
+ReadsParticipant row p = participant_row p ≡ cells 0 4 row
