@@ -2,7 +2,7 @@
 -- any chain of tables, and no other row goes.
 use Rattle.std.proofs.Common.{◌≡◌, ◌≢◌, ◌⊎◌, inl, inr, ℕ, zero, suc, ◌<◌, ℤ, Bool, true, false, not, ◌&&◌, ◌||◌, ◌==◌, cond, List, [], ◌∷◌, ◌++◌, map, filter, drop, length, slice_get, Option, Some, None, Ok, Result, MatchBool, IsTrue, true≢false, refl, sym, ap, ap₂, subst, ◌∙◌, Equal, is_eq, arith, length-append, eqb-true, IsPermutation, fold, ◌+◌}
 use Rattle.std.specs.Prelude.{nat_lt, is_some}
-use Rattle.adr_sql.proofs.Common.{AllByRecursion, list_all, list_any, flat_map, filter_map, cons_option, eq-eqb, cases_Bool, both_ways, not-true, and_parts, or_parts, tied_back, tied_itself, Value, Null, Int, Real, Text, Blob, Row, column, value_cmp, Binary, plain, first_key, value_cmp_total, Trees, rowid, has_rowid, IsTable, is_int, filter_same, filter_all, all_of, all-flat_map, all-append, binary, is_null, end as no_join, Enforced, Table, Schema, ParentKey, parent_key, agree, equal, has_null, is_held, Keeps, Has, Given, Work, works, work_for, work_by, deed_for, pairs, loses, is_child_of, AreChildren, action_edit, Acts, ActsOn, Goes, Leads, Writes, max_depth, edit_of, taken_by, row_at, without_all, Applies, all_has, all_from, test_has, some_has, some_from, has_kept, has_filtered, has_got, has_either, has_left, has_right, tied_same, row_at_is, named_parent, without_all_has, int_is, ids_of, Database, IsDatabase, State, Executes}
+use Rattle.adr_sql.proofs.Common.{AllByRecursion, list_all, list_any, flat_map, filter_map, cons_option, eq-eqb, cases_Bool, both_ways, not-true, and_parts, or_parts, tied_back, tied_itself, Value, Null, Int, Real, Text, Blob, Row, column, value_cmp, Binary, plain, first_key, value_cmp_total, Trees, rowid, has_rowid, IsTable, is_int, filter_same, filter_all, all_of, all-flat_map, all-append, binary, is_null, end as no_join, Enforced, Table, Schema, ParentKey, parent_key, agree, equal, has_null, is_held, Keeps, Has, Given, Work, works, work_for, work_by, deed_for, pairs, loses, is_child_of, AreChildren, action_edit, Acts, ActsOn, Goes, Leads, Writes, max_depth, edit_of, taken_by, row_at, without_all, Applies, all_has, all_from, test_has, some_has, some_from, has_kept, has_filtered, has_got, has_either, has_left, has_right, tied_same, row_at_is, named_parent, without_all_has, int_is, ids_of, Database, IsDatabase, IsSound, State, Executes}
 use Rattle.sqlite_value.proofs.KeyLemmas.{first_key-plain}
 use Rattle.sqlite_schema.specs.declared.schema.Action.{Action}
 use Rattle.sqlite_schema.specs.declared.schema.Action.TheVariants.{Cascade}
@@ -428,5 +428,6 @@ module _ (schema : Schema) (at k : ℕ) (table : Table) (it : IsFound schema at 
       let lessens = leaves schema table (λ tree r. lost_by (loss_of losses tree) (drop 1 r)) db (is_cascade schema table losses all chain db was.each) listed (ids_of gone.rows) gone.end sound none gone.writes keeps in
       record {
         has = ap (λ (d : Database). d.schema) gone.now;
+        sound = subst (λ s. IsSound s new.now.trees) (ap (λ (d : Database). d.schema) gone.now) gone.sound;
         each = subst (λ (d : Database). StoresEach schema.tables d.trees (lessened_each losses schema.tables all)) (sym gone.now) (stores_less schema table losses all schema.tables db gone.end all lessens was.each);
       }

@@ -11,6 +11,7 @@ pub use Rattle.sqlite.proofs.Callers.{command_of, one_permutation, one_step, rea
 pub use Rattle.sqlite.specs.Command.TheVariants.{CreateTable, Delete, InsertOr, Select}
 pub use Rattle.sqlite.specs.Does.{AtPlace, Does, OnRows, Tally, lacks_sequence}
 pub use Rattle.sqlite.specs.Effect.{Database, IsDatabase, value_rows}
+pub use Rattle.sqlite_catalog.specs.Listing.{IsSound}
 pub use Rattle.sqlite.specs.Given.{IsPlain}
 pub use Rattle.sqlite.specs.Held.{Held, state}
 pub use Rattle.sqlite.specs.Listing.{reads_listing, understood}

@@ -1,9 +1,10 @@
 -- CREATE TABLE, one text after another.
 use Rattle.std.proofs.Common.{◌≡◌, ℕ, false, List, [], ◌∷◌, ◌++◌, fold, None, Ok, Err, inl, inr, sym, ap, subst, ◌∙◌, refl}
-use Rattle.adr_sql.proofs.Common.{AllByRecursion, Table, Schema, Database, Tally, lacks_sequence, Ghosts, Held, state, State, Executes, ExecutesInside, Error, CreateTable, runs_as, zip_more, map-append}
+use Rattle.adr_sql.proofs.Common.{AllByRecursion, Table, Schema, Database, IsSound, Tally, lacks_sequence, Ghosts, Held, state, State, Executes, ExecutesInside, Error, CreateTable, runs_as, zip_more, map-append}
 use Rattle.sqlite.specs.Change.{created, next_tree}
 use Rattle.sqlite.specs.State.{Writes}
 use Rattle.adr_sql.specs.Contents.{Contents, empty_tables, StoresEach, Holds}
+use Rattle.adr_sql.specs.Schemas.{no_schema, schema_of}
 use Rattle.adr_sql.specs.Calls.{FailsAmong}
 use Rattle.adr_sql.specs.Creations.{IsCreateText, Makes, IsUnderWay}
 use Rattle.adr_sql.proofs.Places.{stores_none, stores_same}
@@ -27,6 +28,7 @@ create_runs schema table sql text old new count h was =
     let after = zip_more _ schema.tables (empty_tables schema.tables) (record table { tree = next_tree schema }) [] before (stores_none _ _ _ empty) in
     record {
       has = ap (λ (d : Database). d.schema) now ∙ is;
+      sound = subst (λ s. IsSound s new.now.trees) (ap (λ (d : Database). d.schema) now ∙ is) w.sound;
       each = subst (λ (d : Database). StoresEach (created schema table).tables d.trees (empty_tables (created schema table).tables)) (sym now)
           (subst (StoresEach (created schema table).tables first.0.trees) (sym (map-append (λ (t : Table). []) schema.tables (record table { tree = next_tree schema } ∷ []))) after);
     }
@@ -37,6 +39,12 @@ makes_one schema tables sql rest old new count it h = go it.others it.makes it.s
     go : (others : List Table) → Makes it.so_far (sql ∷ rest) others → fold created it.so_far others ≡ fold created schema tables → IsUnderWay schema tables rest new
     go [] none same = absurd none
     go (t ∷ ts) makes same = record { so_far = created it.so_far t; others = ts; holds = create_runs it.so_far t sql makes.0 old new count h it.holds; makes = makes.1; same = same }
+
+-- no text is left: all tables are made
+pub all_made : (tables : List Table) (texts : List (List ℕ)) (s : State) → texts ≡ [] → IsUnderWay no_schema tables texts s → Holds (schema_of tables) (empty_tables (schema_of tables).tables) s
+all_made tables texts s none it =
+    let others : it.others ≡ [] = subst (λ texts. Makes it.so_far texts it.others) none it.makes in
+    subst (λ schema. Holds schema (empty_tables schema.tables) s) (sym (ap (fold created it.so_far) others) ∙ it.same) it.holds
 
 -- ---- an error of one of the texts
 

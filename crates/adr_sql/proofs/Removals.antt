@@ -1,6 +1,6 @@
 -- DELETE of the rows that pass, in a table to which no reference points. Its tests may ask whether another table has a row.
 use Rattle.std.proofs.Common.{◌≡◌, ℕ, zero, ℤ, pos, negsuc, min, Bool, true, false, not, List, [], ◌∷◌, ◌++◌, map, filter, flat_map, drop, length, None, Ok, IsTrue, refl, sym, ap, subst, ◌∙◌, Equal, is_eq, IsPermutation}
-use Rattle.adr_sql.proofs.Common.{AllByRecursion, list_all, list_any, and_parts, tied_itself, length-map, IsPermutation-map, IsPermutation-sym, Contains-permutation, length_permutation, Null, Int, Row, column, value_cmp, value_cmp_total, Trees, rowid, has_rowid, IsTable, is_int, filter_same, map-map, Enforced, Table, Schema, Given, Has, ids_of, Edit, edit_of, taken_by, id_in, without_all, Writes, all_from, all_has, has_filtered, has_kept, has_contained, contains_had, some_has, some_from, int_is, tied_same, Term, Env, col, holds, Query, Join, counted, end, matches, Output, output, IsAnswer, IsSureAnswer, overlay, Database, IsDatabase, Tally, Does, AtPlace, OnRows, State, mode_of, Executes, understood, IsPlain as IsPlainText, Delete, one_step, runs_as, command_of, statement_of}
+use Rattle.adr_sql.proofs.Common.{AllByRecursion, list_all, list_any, and_parts, tied_itself, length-map, IsPermutation-map, IsPermutation-sym, Contains-permutation, length_permutation, Null, Int, Row, column, value_cmp, value_cmp_total, Trees, rowid, has_rowid, IsTable, is_int, filter_same, map-map, Enforced, Table, Schema, Given, Has, ids_of, Edit, edit_of, taken_by, id_in, without_all, Writes, all_from, all_has, has_filtered, has_kept, has_contained, contains_had, some_has, some_from, int_is, tied_same, Term, Env, col, holds, Query, Join, counted, end, matches, Output, output, IsAnswer, IsSureAnswer, overlay, Database, IsDatabase, IsSound, Tally, Does, AtPlace, OnRows, State, mode_of, Executes, understood, IsPlain as IsPlainText, Delete, one_step, runs_as, command_of, statement_of}
 use Rattle.sqlite_rules.proofs.ProbeLemmas.{mapped_has, has_mapped}
 use Rattle.sqlite.specs.Rows.{Task, Written}
 use Rattle.adr_sql.specs.Keys.{rows_without}
@@ -134,6 +134,7 @@ module _ (schema : Schema) (at : ℕ) (table : Table) (it : IsFound schema at ta
       subst (λ stored. Stores (length table.primary) (length table.columns) stored left) (sym rows) (stores_filter _ _ (λ row. not (goes all row)) (db table.tree) (rows_of_table all at) here) in
       record {
         has = ap (λ (d : Database). d.schema) gone.now;
+        sound = subst (λ s. IsSound s new.now.trees) (ap (λ (d : Database). d.schema) gone.now) gone.sound;
         each = subst (λ d. StoresEach schema.tables d (with_table all at left)) (sym (ap (λ (d : Database). d.trees) gone.now)) (stores_with_table schema.tables at table db gone.end all left it.found it.alone a.tables kept was.each);
       }
 

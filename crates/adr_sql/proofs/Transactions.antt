@@ -4,7 +4,7 @@ use Rattle.sqlite_schema.specs.declared.command.Returning.{Returning}
 use Rattle.sqlite_resolve.specs.declared.compiled.Compiled.{Compiled}
 use Rattle.sqlite.specs.Order.{Row}
 use Rattle.sqlite.specs.Schema.{Schema}
-use Rattle.adr_sql.proofs.Common.{Ghosts, Held, state, Database, IsPlain, understood, State, HasCleanDisk, IsUnchanged, IsRolledBack, KeepsCommit, Survives, Shows, ShowsRows, FailsToShow, FailsToQuery, IsNotRun, IsTooLate, Shown, Error}
+use Rattle.adr_sql.proofs.Common.{Ghosts, Held, state, Database, IsSound, IsPlain, understood, State, HasCleanDisk, IsUnchanged, IsRolledBack, KeepsCommit, Survives, Shows, ShowsRows, FailsToShow, FailsToQuery, IsNotRun, IsTooLate, Shown, Error}
 use Rattle.sqlite.proofs.StateLemmas.{survives_then}
 use Rattle.adr_sql.specs.Contents.{Contents, Holds, StoresEach}
 use Rattle.adr_sql.specs.Calls.{Stays}
@@ -80,7 +80,7 @@ still schema sql params old new rows has alone h =
     it.3
 
 pub holds_now : (schema : Schema) (all : Contents) (a b : State) → b.now ≡ a.now → Holds schema all a → Holds schema all b
-holds_now schema all a b same was = record { has = ap (λ (d : Database). d.schema) same ∙ was.has; each = subst (λ (d : Database). StoresEach schema.tables d.trees all) (sym same) was.each }
+holds_now schema all a b same was = record { has = ap (λ (d : Database). d.schema) same ∙ was.has; sound = subst (λ (d : Database). IsSound schema d.trees) (sym same) was.sound; each = subst (λ (d : Database). StoresEach schema.tables d.trees all) (sym same) was.each }
 
 pub holds_still : (schema : Schema) (sql : List ℕ) (params : Row) (old new : State) (rows : List Row) (all : Contents) → IsPlain (understood schema sql) → Shown sql params old new rows → Holds schema all old → Holds schema all new
 holds_still schema sql params old new rows all alone h was = holds_now schema all old new (still schema sql params old new rows was.has alone h).0.now_is was

@@ -6,6 +6,7 @@ use Rattle.std.specs.List.Sorted.{IsPermutation}
 use Rattle.sqlite.specs.Order.{Row}
 use Rattle.sqlite.specs.Tree.{Trees, rowid, IsTable, IsAscending}
 use Rattle.sqlite.specs.View.{is_int}
+use Rattle.sqlite_catalog.specs.Listing.{IsSound}
 use Rattle.sqlite.specs.Table.{Table}
 use Rattle.sqlite.specs.Schema.{Schema}
 use Rattle.sqlite.specs.State.{State}
@@ -43,7 +44,8 @@ pub record Stores (n width : ℕ) (stored rows : List Row) : Type 0 where
 abbrev pub StoresEach : List Table → Trees → Contents → Type 0
 StoresEach ts trees all = AllZip (λ t rows. Stores (length t.primary) (length t.columns) (trees t.tree) rows) ts all
 
--- the database has this schema, and its tables hold this
+-- the database has this schema, which its trees list and obey, and its tables hold this
 pub record Holds (schema : Schema) (all : Contents) (s : State) : Type 0 where
   pub has : s.now.schema ≡ schema
+  pub sound : IsSound schema s.now.trees
   pub each : StoresEach schema.tables s.now.trees all

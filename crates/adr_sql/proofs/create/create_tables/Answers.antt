@@ -1,9 +1,10 @@
 use Rattle.std.proofs.lemmas.Result.{err_from_is_err_and}
-use Rattle.std.proofs.Common.{map, drop, subst, arith, rules, drop-cons, add-one, suc}
+use Rattle.std.proofs.lemmas.List.{drop_all}
+use Rattle.std.proofs.Common.{map, drop, ap, subst, arith, rules, drop-cons, add-one, suc}
 use Rattle.adr_sql.proofs.Common.{HasCleanDisk, state}
 use Rattle.adr_sql.specs.Creations.{IsUnderWay}
 use Rattle.adr_sql.specs.Schemas.{no_schema}
-use Rattle.adr_sql.proofs.Creations.{makes_one, HaveRun, one_ran, one_failed}
+use Rattle.adr_sql.proofs.Creations.{makes_one, all_made, HaveRun, one_ran, one_failed}
 use Rattle.adr_sql.proofs.Transactions.{stays_then}
 use Rattle.adr_sql.proofs.create.create_tables.Goals as goal
 
@@ -39,3 +40,7 @@ returns-in_err-run-clause-fails g c clean inside =
     let p = err_from_is_err_and c.from_residual.result c.from_residual.ensures.1 in
     rw (p.1, p.2) (one_failed g.S.Store texts _ (map (λ t. t.now) (drop (suc c.texts.text-index) c.args.texts.now)) c.args.tx.now.conn.now c.texts.tx.conn.now c.run.new.tx.conn.now _
     (subst (λ l. HaveRun g.S.Store texts (map (λ t. t.now) l) c.args.tx.now.conn.now c.texts.tx.conn.now) cell so_far) (c.in_err-run.ensures.fails clean (c.texts.invariant.stays.inside early inside)))
+
+pub returns-clause-made : goal.returns-clause-made
+returns-clause-made g c clean tables makes was =
+    all_made tables _ (state g.S.Store c.texts.tx.conn.now) (ap (map (λ t. t.now)) (drop_all c.texts.text-index c.args.texts.now (omega (arith, c.texts-test.false)))) (c.texts.invariant.made clean tables makes was)
