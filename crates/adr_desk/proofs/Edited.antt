@@ -22,7 +22,7 @@ module _ {S : Type 0} (g : Ghosts S) (old begun last end : Held S) (limits : Lim
       rw same (told_whole g old end ended edited _ _ (ends_whole g old last end edited ended _ _ (subst (λ (b : Held S). Stays g b last {T = Option Edit} {E = Refusal} (Ok edited)) is stays)
       (λ clean base was. let it = (subst (λ (b : Held S). EditsTables (edit_by limits now command) (state g b) (state g last) (Ok edited)) is makes) clean base (held_now base (state g old) _ refl was) in (it.said, it.after, it.edited, it.holds))
       (λ a b same done base was. let it = done base was in (it.0, it.1, it.2, held_now it.1 a b same it.3))
-      (λ s done base was. let it = done base was in (it.0, it.1, it.2, it.3.rows.each))
+      (λ s done base was. let it = done base was in (it.0, it.1, it.2, record { sound = it.3.rows.sound; rows = it.3.rows.each; marks = it.3.marks }))
       ends))
 
   -- and what is answered is right for what was committed

@@ -17,7 +17,7 @@ module _ {S : Type 0} (g : Ghosts S) (old last end : Held S) where
   abbrev begun : Held S
   begun = record old { in_transaction = true }
 
-  pub ends_whole : {A F T E : Type 0} (x : A) (r : Result T E) (IsDone : State → Type 0) (IsLeft : Trees → Type 0)
+  pub ends_whole : {A F T : Type 0} (x : A) (r : Result T Refusal) (IsDone : State → Type 0) (IsLeft : Trees → Type 0)
       → Stays g begun last {T = A} {E = F} (Ok x)
       → (HasCleanDisk (state g last) → IsDone (state g last))
       → ((a b : State) → b.now ≡ a.now → IsDone a → IsDone b)
@@ -28,7 +28,7 @@ module _ {S : Type 0} (g : Ghosts S) (old last end : Held S) where
       let it = committed g old last end {T = T} x (Ok y) IsDone IsLeft stays made moves leaves ends.over ends.ok (λ clean. tt) ends.crash in
       record { done = it.done; is_open = it.is_open; undone = λ clean is_open. tt; over = it.over; crash = it.crash }
   ends_whole {T = T} x (Err e) IsDone IsLeft stays made moves leaves ends =
-      let it = committed g old last end {T = T} x (Err ends.err.0) IsDone IsLeft stays made moves leaves ends.over (λ clean. tt) ends.err.1 ends.crash in
+      let it = committed g old last end {T = T} x (Err ends.err.0) IsDone IsLeft stays made moves leaves ends.over (λ clean. tt) ends.err.2 ends.crash in
       record { done = λ clean. tt; is_open = λ clean. tt; undone = it.undone; over = it.over; crash = it.crash }
 
 pub told_ok : (r : Result Unit Refusal) (edit : Option Edit) (P : Option Edit → Type 0) → OnOk r (P edit) → IfOk (told_by (λ u. edit) r) P

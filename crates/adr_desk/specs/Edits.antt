@@ -5,10 +5,7 @@ use Rattle.sqlite.specs.State.{State, HasCleanDisk}
 use Rattle.adr_text.specs.Refusals.{IsRefusalOf}
 use Rattle.adr_text.specs.declared.refusal.Refusal.{Refusal}
 use Rattle.adr_state.specs.declared.base.Base.{Base}
-use Rattle.adr_sql.specs.Contents.{StoresEach}
-use Rattle.adr_db.specs.Tables.{schema}
-use Rattle.adr_db.specs.Kept.{contents_of}
-use Rattle.adr_db.specs.Bases.{kept_of, HoldsBase}
+use Rattle.adr_db.specs.Bases.{HoldsBase, AreLeftWith}
 use Rattle.adr_machine.specs.declared.answer.Answer.{Answer}
 use Rattle.adr_machine.specs.declared.answer.Answer.TheVariants as answer
 use Rattle.adr_state.specs.declared.limits.Limits.{Limits}
@@ -18,9 +15,9 @@ use Rattle.adr_mirror.specs.Raises.{HaveRisen}
 use Rattle.adr_desk.specs.declared.edit.Edit.{Edit}
 use Rattle.adr_desk.specs.declared.edit.Edit.TheVariants.{Raised, Done, Probes, Object, Share}
 
--- what is answered beside what the machine says: for evidence and a deletion the keys whose mark rose
+-- what is answered beside what the machine says: for evidence and a deletion the keys whose mark rose. No answer is never right.
 abbrev pub IsAnswer : Base → Option Answer → Base → Option Edit → Type 0
-IsAnswer before said after None = Unit {0}
+IsAnswer before said after None = ⊥
 IsAnswer before said after (Some (Raised keys)) = (said ≡ None) × HaveRisen before.mirror after.mirror keys
 IsAnswer before said after (Some Done) = said ≡ Some answer.Done
 IsAnswer before said after (Some (Probes keys)) = said ≡ Some (answer.Probes keys)
@@ -53,4 +50,4 @@ abbrev pub HoldsEdited : (Base → Result (Option Answer × Base) Refusal) → B
 HoldsEdited edit base s = (said : Option Answer) × (after : Base) × (edit base ≡ Ok (said, after)) × HoldsBase after s
 
 abbrev pub LeftEdited : (Base → Result (Option Answer × Base) Refusal) → Base → Trees → Type 0
-LeftEdited edit base trees = (said : Option Answer) × (after : Base) × (edit base ≡ Ok (said, after)) × StoresEach schema.tables trees (contents_of (kept_of after))
+LeftEdited edit base trees = (said : Option Answer) × (after : Base) × (edit base ≡ Ok (said, after)) × AreLeftWith after trees

@@ -1,11 +1,12 @@
 //! The tables of a new node, made in one transaction.
 ghost use Rattle.std.specs.Prelude.{◌≡◌, false, [], IfErr};
 ghost use Rattle.sqlite.specs.Held.{state};
-ghost use Rattle.adr_sql.specs.Contents.{Holds, StoresEach};
+ghost use Rattle.adr_state.specs.States.{empty};
+ghost use Rattle.adr_sql.specs.Contents.{Holds};
 ghost use Rattle.adr_sql.specs.Schemas.{no_schema};
 ghost use Rattle.adr_sql.specs.Calls.{Commits};
-ghost use Rattle.adr_db.specs.Tables.{schema};
-ghost use Rattle.adr_db.specs.Kept.{Keeps, nothing_kept, contents_of};
+ghost use Rattle.adr_db.specs.Kept.{Keeps, nothing_kept};
+ghost use Rattle.adr_db.specs.Bases.{AreLeftWith};
 ghost use Rattle.adr_db.specs.Calls.{IsOfStore};
 
 use crate::frame::{begin, commit};
@@ -18,7 +19,7 @@ pub(crate) fn create_in<S: Alter>(conn: &mut Connection<S>) -> Result<(), Refusa
     requires { conn.old.in_transaction ≡ false }
     ensures whole { Commits S.Store conn.old conn.new
         (λ s. Holds no_schema [] (state S.Store conn.old) → Keeps nothing_kept s)
-        (λ trees. Holds no_schema [] (state S.Store conn.old) → StoresEach schema.tables trees (contents_of nothing_kept))
+        (λ trees. Holds no_schema [] (state S.Store conn.old) → AreLeftWith empty.base trees)
         result }
     ensures refused { IfErr result IsOfStore }
 {
