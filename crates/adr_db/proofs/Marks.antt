@@ -1,7 +1,7 @@
 -- A mark that is kept reads back.
 use Rattle.std.proofs.Common.{◌≡◌, ℕ, pos, Bool, true, false, cond, nat_le, List, [], ◌∷◌, Result, Ok, Err, refl, sym, ap, ap₂, ◌∙◌}
 use Rattle.std.specs.String.{string_bytes}
-use Rattle.adr_db.proofs.Common.{Text, Row, Has, Refusal, BadShape, Mark, Live, Dead, MirrorKey, cells}
+use Rattle.adr_db.proofs.Common.{Text, Has, Refusal, BadShape, Mark, Live, Dead, MirrorKey}
 use Rattle.sqlite_rules.proofs.ListLemmas.{all_has}
 use Rattle.adr_text.specs.Moments.{moment_at, last_nanos}
 use Rattle.adr_objects.specs.declared.body.Body.{Body}
@@ -9,7 +9,7 @@ use Rattle.adr_objects.specs.Canonical.{canonical_text}
 use Rattle.adr_objects.specs.ReadBack.{canonical_of}
 use Rattle.adr_objects.specs.Bodies.{IsBody}
 use Rattle.adr_objects.proofs.RoundTrips.{canonical_reads_back}
-use Rattle.adr_db.specs.Rows.{number, key_row, mark_columns, mark_row, columns_row, live_from, mark_from}
+use Rattle.adr_db.specs.Rows.{number, mark_columns, mark_row, columns_row, live_from, mark_from}
 use Rattle.adr_db.specs.declared.mirror.MarkColumns.{MarkColumns}
 use Rattle.adr_db.specs.Kept.{IsMark, AreMarks}
 use Rattle.adr_db.specs.Admitted.{ReadsEntry}

@@ -1,6 +1,6 @@
 -- The statements on the table `meta`.
-use Rattle.std.proofs.Common.{◌≡◌, ℕ, pos, List, [], ◌∷◌, codes, cond, drop, Ok, refl, ap, subst, Ordering}
-use Rattle.adr_db.proofs.Common.{match_ordering, Null, Int, Row, lit, col, end, State, Executes, Shown, understood, everything, with_row, Contents, rows_of_table, with_table, Holds, AreValues, IsUpsertText, upsert_runs, IsSelectText, whole_rows, read_runs, number_key}
+use Rattle.std.proofs.Common.{◌≡◌, ℕ, pos, List, [], ◌∷◌, codes, drop, Ok, refl, ap, subst, Ordering}
+use Rattle.adr_db.proofs.Common.{match_ordering, Null, Row, lit, col, end, State, Executes, Shown, understood, everything, with_row, Contents, rows_of_table, with_table, Holds, AreValues, IsUpsertText, upsert_runs, IsSelectText, whole_rows, read_runs, number_key}
 use Rattle.adr_db.specs.declared.meta.Meta.{Meta}
 use Rattle.adr_db.specs.declared.meta.TheConstants.{PUT, READ}
 use Rattle.adr_db.specs.Tables.{schema}

@@ -1,4 +1,4 @@
-use Rattle.std.proofs.Common.{◌≡◌, ◌+◌, List, [], ◌∷◌, ◌++◌, take, sym, ap, subst, ◌∙◌}
+use Rattle.std.proofs.Common.{◌≡◌, ◌+◌, [], ◌∷◌, ◌++◌, take, sym, ap, subst, ◌∙◌}
 use Rattle.adr_db.proofs.Common.{AllZip, take_more}
 use Rattle.adr_db.proofs.Results.{handed_on}
 use Rattle.adr_db.proofs.Unread.{rows_unread}

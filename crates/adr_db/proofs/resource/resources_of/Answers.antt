@@ -1,4 +1,4 @@
-use Rattle.std.proofs.Common.{refl, inr, ap, length, sym, ◌∙◌, arith, List, ◌≡◌, ◌≤◌, ◌+◌, ℕ, Ok, [], ◌∷◌}
+use Rattle.std.proofs.Common.{refl, inr, ap, length, sym, ◌∙◌, arith, List, ◌≤◌, ◌+◌, ℕ, Ok, [], ◌∷◌}
 use Rattle.std.proofs.lemmas.Grind.{fold-append}
 use Rattle.adr_db.proofs.Common.{Resource, nat_cmp, insert_entry}
 use Rattle.adr_state.proofs.MapLemmas.{put_within}
