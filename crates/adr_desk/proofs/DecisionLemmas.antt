@@ -43,7 +43,7 @@ of_store e r (inr is) = subst (λ (d : Refusal). IsRefusalOf d r) (sym is) tt
 
 module _ {S : Type 0} (g : Ghosts S) (old new : Held S) where
   -- a decision of the portfolio
-  pub portfolio_carries : {A : Type 0} (told : A → Answer) (tell : A → Edit) → ((base after : Base) (x : A) → IsAnswer base (Some (told x)) after (Some (tell x))) → (decide : Portfolio → Result (A × PortfolioChange) Refusal) (meta : Meta) (r : Result A Refusal)
+  pub portfolio_carries : {A : Type 0} (told : A → Answer) (tell : A → Edit) → ((base after : Base) (x : A) → IsAnswer base (Some (told x)) after (tell x)) → (decide : Portfolio → Result (A × PortfolioChange) Refusal) (meta : Meta) (r : Result A Refusal)
       → Carries g old new decide r → Refuses g old new (λ kept. decide kept.portfolio) r → CarriesOut g old new (λ base. of_portfolio told (decide base.portfolio)) meta meta (told_by tell r)
   portfolio_carries told tell agree decide meta (Ok x) carries refuses = record {
     decides = λ clean row base was same. let it = carries clean (kept_beside row base) was in record {
@@ -62,7 +62,7 @@ module _ {S : Type 0} (g : Ghosts S) (old new : Held S) where
 
   -- one whose change is decided by itself, and whose answer follows
   module _ {A : Type 0} (tell : A → Edit) (part : Base → Result BaseChange Refusal) (whole : Base → Result Decision Refusal) (before after : Meta) (IsRight : Base → Base → A → Type 0)
-      (follows : (base : Base) (change : BaseChange) (x : A) → part base ≡ Ok change → IsRight base (changed change base) x → (said : Option Answer) × (whole base ≡ Ok (record { answer = said; change = change })) × IsAnswer base said (changed change base) (Some (tell x)))
+      (follows : (base : Base) (change : BaseChange) (x : A) → part base ≡ Ok change → IsRight base (changed change base) x → (said : Option Answer) × (whole base ≡ Ok (record { answer = said; change = change })) × IsAnswer base said (changed change base) (tell x))
       (refused : (base : Base) (e : Refusal) → IsRefusalOf e (part base) → IsRefusalOf e (whole base)) where
     base_carries : (r : Result A Refusal) → Makes g old new part before after IsRight r → RefusesOn g old new part before r → CarriesOut g old new whole before after (told_by tell r)
     base_carries (Ok x) makes refuses = record {
@@ -107,7 +107,7 @@ serial_stays (SetScan scan) base = refl
 serial_stays (ChangePortfolio change) base = refl
 
 -- the answer is right whatever the serial is
-pub right_still : (base made : Base) (serial : ℕ) (said : Option Answer) (edit : Edit) → IsAnswer base said made (Some edit) → IsAnswer base said (record made { serial = serial }) (Some edit)
+pub right_still : (base made : Base) (serial : ℕ) (said : Option Answer) (edit : Edit) → IsAnswer base said made edit → IsAnswer base said (record made { serial = serial }) edit
 right_still base made serial said (edit.Raised keys) h = h
 right_still base made serial said edit.Done h = h
 right_still base made serial said (edit.Probes keys) h = h
@@ -131,7 +131,7 @@ module _ (limits : Limits) (now : ℕ) (command : Command) (base : Base) (n : �
     draw_refused e is = refused_so e _ (drawn_is (Err e) is)
 
     pub is_edited : (serial : ℕ) (t : State) → drawn limits meta.serial (draws_number command) ≡ Ok serial → ((kept : Kept) → Keeps kept s → kept.meta ≡ meta_of base → Keeps (with_meta (record meta { serial = serial }) kept) t)
-        → IsEdited (λ base. edit_of limits now base command) base (Some edited) t
+        → IsEdited (λ base. edit_of limits now base command) base edited t
     is_edited serial t left put =
         let d = it.decision in
         let counted : ◌≡◌ {A = Meta} (record meta { serial = serial }) (record (meta_of (changed d.change base)) { serial = serial }) = ap (λ (m : Meta). let after : Meta = record m { serial = serial } in after) it.counted in

@@ -14,12 +14,12 @@ use Rattle.adr_desk.proofs.Transactions.{held_now, ends_whole, told_whole, told_
 pub moved : {H : Type 0} (P : H → Type 0) (x y : H) → x ≡ y → P x → P y
 moved P x y same h = subst P same h
 
-module _ {S : Type 0} (g : Ghosts S) (old begun last end : Held S) (limits : Limits) (now : ℕ) (command : Command) (edited : Option Edit) (ended : Result Unit Refusal) (answer : Result (Option Edit) Refusal) where
+module _ {S : Type 0} (g : Ghosts S) (old begun last end : Held S) (limits : Limits) (now : ℕ) (command : Command) (edited : Edit) (ended : Result Unit Refusal) (answer : Result Edit Refusal) where
   -- all of it is committed, or nothing is left of it
-  pub edited_whole : begun ≡ record old { in_transaction = true } → Stays g begun last {T = Option Edit} {E = Refusal} (Ok edited) → EditsTables (edit_by limits now command) (state g begun) (state g last) (Ok edited) → Ends g last end ended → answer ≡ told_by (λ u. edited) ended
+  pub edited_whole : begun ≡ record old { in_transaction = true } → Stays g begun last {T = Edit} {E = Refusal} (Ok edited) → EditsTables (edit_by limits now command) (state g begun) (state g last) (Ok edited) → Ends g last end ended → answer ≡ told_by (λ u. edited) ended
       → Commits g old end (λ s. (base : Base) → HoldsBase base (state g old) → HoldsEdited (edit_by limits now command) base s) (λ trees. (base : Base) → HoldsBase base (state g old) → LeftEdited (edit_by limits now command) base trees) answer
   edited_whole is stays makes ends same =
-      rw same (told_whole g old end ended edited _ _ (ends_whole g old last end edited ended _ _ (subst (λ (b : Held S). Stays g b last {T = Option Edit} {E = Refusal} (Ok edited)) is stays)
+      rw same (told_whole g old end ended edited _ _ (ends_whole g old last end edited ended _ _ (subst (λ (b : Held S). Stays g b last {T = Edit} {E = Refusal} (Ok edited)) is stays)
       (λ clean base was. let it = (subst (λ (b : Held S). EditsTables (edit_by limits now command) (state g b) (state g last) (Ok edited)) is makes) clean base (held_now base (state g old) _ refl was) in (it.said, it.after, it.edited, it.holds))
       (λ a b same done base was. let it = done base was in (it.0, it.1, it.2, held_now it.1 a b same it.3))
       (λ s done base was. let it = done base was in (it.0, it.1, it.2, record { sound = it.3.rows.sound; rows = it.3.rows.each; marks = it.3.marks }))

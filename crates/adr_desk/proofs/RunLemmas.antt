@@ -21,11 +21,11 @@ use Rattle.adr_desk.specs.Runs.{unsaid, IsRunOf, HoldsGreatest}
 
 module _ (settings : Settings) (s : State) where
   -- where the commands that stand lead
-  abbrev led : List (ℕ × Command) → List (Result (Option Edit) Refusal) → State
+  abbrev led : List (ℕ × Command) → List (Result Edit Refusal) → State
   led cs rs = state_of (step_at settings) s (standing cs rs)
 
   -- one that stands
-  stood : (cs : List (ℕ × Command)) (rs : List (Result (Option Edit) Refusal)) (before now : sql.State) (c : ℕ × Command) (r : Result (Option Edit) Refusal) → IsRunOf settings s cs rs before → length cs ≡ length rs
+  stood : (cs : List (ℕ × Command)) (rs : List (Result Edit Refusal)) (before now : sql.State) (c : ℕ × Command) (r : Result Edit Refusal) → IsRunOf settings s cs rs before → length cs ≡ length rs
       → stands r ≡ true → unsaid r ≡ unsaid (told (step_at settings (led cs rs) c)) → HoldsBase (state_after (led cs rs) (step_at settings (led cs rs) c)).base now
       → IsRunOf settings s (cs ++ c ∷ []) (rs ++ r ∷ []) now
   stood cs rs before now c r run e h is holds =
@@ -39,7 +39,7 @@ module _ (settings : Settings) (s : State) where
       }
 
   -- one that stands for no step
-  passed_over : (cs : List (ℕ × Command)) (rs : List (Result (Option Edit) Refusal)) (before now : sql.State) (c : ℕ × Command) (r : Result (Option Edit) Refusal) → IsRunOf settings s cs rs before → length cs ≡ length rs
+  passed_over : (cs : List (ℕ × Command)) (rs : List (Result Edit Refusal)) (before now : sql.State) (c : ℕ × Command) (r : Result Edit Refusal) → IsRunOf settings s cs rs before → length cs ≡ length rs
       → stands r ≡ false → HoldsBase (led cs rs).base now
       → IsRunOf settings s (cs ++ c ∷ []) (rs ++ r ∷ []) now
   passed_over cs rs before now c r run e h holds =
@@ -53,7 +53,7 @@ module _ (settings : Settings) (s : State) where
   stepped : (t : State) (c : ℕ × Command) (e : Result (Option Answer × Base) Refusal) → edit settings.limits c.0 t.base c.1 ≡ e → step_at settings t c ≡ (e >>= λ x. Ok (committed t c.0 x.0 x.1))
   stepped t c e is = ap (λ r. r >>= λ x. Ok (committed t c.0 x.0 x.1)) is
 
-  pub IsRunOf-push : (cs : List (ℕ × Command)) (rs : List (Result (Option Edit) Refusal)) (before now : sql.State) (c : ℕ × Command) (r : Result (Option Edit) Refusal) → IsRunOf settings s cs rs before → length cs ≡ length rs
+  pub IsRunOf-push : (cs : List (ℕ × Command)) (rs : List (Result Edit Refusal)) (before now : sql.State) (c : ℕ × Command) (r : Result Edit Refusal) → IsRunOf settings s cs rs before → length cs ≡ length rs
       → IfOk r (λ done. (base : Base) → HoldsBase base before → IsEdited (edit_by settings.limits c.0 c.1) base done now)
       → IfErr r (λ refusal. (base : Base) → HoldsBase base before → IsRefusalOf refusal (edit settings.limits c.0 base c.1))
       → OnErr r ((base : Base) → HoldsBase base before → HoldsBase base now)
@@ -71,5 +71,5 @@ module _ (settings : Settings) (s : State) where
       stood cs rs before now c (Err refusal) run e refl (ap (λ x. unsaid (told x)) (sym is)) (subst (λ x. HoldsBase (state_after t x).base now) (sym is) (same t.base run.base))
 
 -- the law of the mirror, over a run from an empty start
-pub holds_greatest : (settings : Settings) (cs : List (ℕ × Command)) (rs : List (Result (Option Edit) Refusal)) (now : sql.State) → IsRunOf settings empty cs rs now → HoldsGreatest settings cs rs now
+pub holds_greatest : (settings : Settings) (cs : List (ℕ × Command)) (rs : List (Result Edit Refusal)) (now : sql.State) → IsRunOf settings empty cs rs now → HoldsGreatest settings cs rs now
 holds_greatest settings cs rs now run = ((state_of (step_at settings) empty (standing cs rs)).base, run.base, λ key. mirror_greatest settings (standing cs rs) key)

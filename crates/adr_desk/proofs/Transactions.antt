@@ -31,11 +31,11 @@ module _ {S : Type 0} (g : Ghosts S) (old last end : Held S) where
       let it = committed g old last end {T = T} x (Err ends.err.0) IsDone IsLeft stays made moves leaves ends.over (λ clean. tt) ends.err.2 ends.crash in
       record { done = λ clean. tt; is_open = λ clean. tt; undone = it.undone; over = it.over; crash = it.crash }
 
-pub told_ok : (r : Result Unit Refusal) (edit : Option Edit) (P : Option Edit → Type 0) → OnOk r (P edit) → IfOk (told_by (λ u. edit) r) P
+pub told_ok : (r : Result Unit Refusal) (edit : Edit) (P : Edit → Type 0) → OnOk r (P edit) → IfOk (told_by (λ u. edit) r) P
 told_ok (Ok u) edit P h = h
 told_ok (Err e) edit P h = tt
 
 module _ {S : Type 0} (g : Ghosts S) (old end : Held S) where
-  pub told_whole : (r : Result Unit Refusal) (edit : Option Edit) (IsDone : State → Type 0) (IsLeft : Trees → Type 0) → Commits g old end IsDone IsLeft r → Commits g old end IsDone IsLeft (told_by (λ u. edit) r)
+  pub told_whole : (r : Result Unit Refusal) (edit : Edit) (IsDone : State → Type 0) (IsLeft : Trees → Type 0) → Commits g old end IsDone IsLeft r → Commits g old end IsDone IsLeft (told_by (λ u. edit) r)
   told_whole (Ok u) edit IsDone IsLeft h = record { done = h.done; is_open = h.is_open; undone = λ clean is_open. tt; over = h.over; crash = h.crash }
   told_whole (Err e) edit IsDone IsLeft h = record { done = λ clean. tt; is_open = λ clean. tt; undone = h.undone; over = h.over; crash = h.crash }

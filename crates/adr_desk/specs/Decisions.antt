@@ -1,5 +1,5 @@
 -- What a command decides, carried out on the tables.
-use Rattle.std.specs.Prelude.{◌≡◌, Some, Result, Ok, IfOk}
+use Rattle.std.specs.Prelude.{◌≡◌, Result, Ok, IfOk}
 use Rattle.sqlite.specs.Store.{Ghosts}
 use Rattle.sqlite.specs.Held.{Held, state}
 use Rattle.sqlite.specs.State.{State, HasCleanDisk}
@@ -29,7 +29,7 @@ pub record IsDecided (decide : Base → Result Decision Refusal) (row : Meta) (b
   pub decided : decide base ≡ Ok decision
   pub holds : HoldsBeside row (changed decision.change base) s
   pub counted : after ≡ meta_of (changed decision.change base)
-  pub right : IsAnswer base decision.answer (changed decision.change base) (Some edit)
+  pub right : IsAnswer base decision.answer (changed decision.change base) edit
 
 module _ {S : Type 0} (g : Ghosts S) (old new : Held S) where
   -- after Ok, what is decided of each base that the tables held is carried out, where the caller's numbers were those of the base

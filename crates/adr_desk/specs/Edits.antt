@@ -1,5 +1,5 @@
 -- What a command makes of the tables, and what is answered to it.
-use Rattle.std.specs.Prelude.{◌≡◌, ℕ, Option, None, Some, Result, Ok, Err, IfOk, IfErr}
+use Rattle.std.specs.Prelude.{◌≡◌, ℕ, Option, None, Some, Result, Ok, IfOk, IfErr}
 use Rattle.sqlite.specs.Tree.{Trees}
 use Rattle.sqlite.specs.State.{State, HasCleanDisk}
 use Rattle.adr_text.specs.Refusals.{IsRefusalOf}
@@ -15,14 +15,13 @@ use Rattle.adr_mirror.specs.Raises.{HaveRisen}
 use Rattle.adr_desk.specs.declared.edit.Edit.{Edit}
 use Rattle.adr_desk.specs.declared.edit.Edit.TheVariants.{Raised, Done, Probes, Object, Share}
 
--- what is answered beside what the machine says: for evidence and a deletion the keys whose mark rose. No answer is never right.
-abbrev pub IsAnswer : Base → Option Answer → Base → Option Edit → Type 0
-IsAnswer before said after None = ⊥
-IsAnswer before said after (Some (Raised keys)) = (said ≡ None) × HaveRisen before.mirror after.mirror keys
-IsAnswer before said after (Some Done) = said ≡ Some answer.Done
-IsAnswer before said after (Some (Probes keys)) = said ≡ Some (answer.Probes keys)
-IsAnswer before said after (Some (Object object)) = said ≡ Some (answer.Object object)
-IsAnswer before said after (Some (Share share)) = said ≡ Some (answer.Share share)
+-- what is answered beside what the machine says: for evidence and a deletion the keys whose mark rose
+abbrev pub IsAnswer : Base → Option Answer → Base → Edit → Type 0
+IsAnswer before said after (Raised keys) = (said ≡ None) × HaveRisen before.mirror after.mirror keys
+IsAnswer before said after Done = said ≡ Some answer.Done
+IsAnswer before said after (Probes keys) = said ≡ Some (answer.Probes keys)
+IsAnswer before said after (Object object) = said ≡ Some (answer.Object object)
+IsAnswer before said after (Share share) = said ≡ Some (answer.Share share)
 
 -- ---- an edit of the tables
 
@@ -30,7 +29,7 @@ abbrev pub edit_by : Limits → ℕ → Command → Base → Result (Option Answ
 edit_by limits now command base = edit limits now base command
 
 -- the tables hold the base that an edit makes of another, and what is told of it is right
-pub record IsEdited (edit : Base → Result (Option Answer × Base) Refusal) (base : Base) (told : Option Edit) (s : State) : Type 0 where
+pub record IsEdited (edit : Base → Result (Option Answer × Base) Refusal) (base : Base) (told : Edit) (s : State) : Type 0 where
   pub said : Option Answer
   pub after : Base
   pub edited : edit base ≡ Ok (said, after)
@@ -38,11 +37,11 @@ pub record IsEdited (edit : Base → Result (Option Answer × Base) Refusal) (ba
   pub right : IsAnswer base said after told
 
 -- after Ok, the tables hold what the edit makes of each base that they held
-abbrev pub EditsTables : (Base → Result (Option Answer × Base) Refusal) → State → State → Result (Option Edit) Refusal → Type 0
+abbrev pub EditsTables : (Base → Result (Option Answer × Base) Refusal) → State → State → Result Edit Refusal → Type 0
 EditsTables edit old new result = HasCleanDisk new → IfOk result (λ told. (base : Base) → HoldsBase base old → IsEdited edit base told new)
 
 -- a refusal is the machine's own, or want of memory or the store's in its place
-abbrev pub RefusesEdit : (Base → Result (Option Answer × Base) Refusal) → State → State → Result (Option Edit) Refusal → Type 0
+abbrev pub RefusesEdit : (Base → Result (Option Answer × Base) Refusal) → State → State → Result Edit Refusal → Type 0
 RefusesEdit edit old new result = HasCleanDisk new → IfErr result (λ refusal. (base : Base) → HoldsBase base old → IsRefusalOf refusal (edit base))
 
 -- tables that hold the base which an edit makes, and ones that a crash left so

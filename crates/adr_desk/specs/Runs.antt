@@ -1,5 +1,5 @@
 -- Whole runs over the tables.
-use Rattle.std.specs.Prelude.{◌≡◌, ℕ, List, map, filter, Option, Result, Ok, Err}
+use Rattle.std.specs.Prelude.{◌≡◌, ℕ, List, map, filter, Result, Ok, Err}
 use Rattle.sqlite.specs.State as sql
 use Rattle.adr_text.specs.declared.refusal.Refusal.{Refusal}
 use Rattle.adr_state.specs.declared.keys.MirrorKey.{MirrorKey}
@@ -21,11 +21,11 @@ unsaid (Ok answer) = Ok tt
 unsaid (Err refusal) = Err refusal
 
 -- From s, the commands whose answers stand are accepted and refused as the machine does, and the tables hold the base that they lead to.
-pub record IsRunOf (settings : Settings) (s : State) (cs : List (ℕ × Command)) (answers : List (Result (Option Edit) Refusal)) (now : sql.State) : Type 0 where
+pub record IsRunOf (settings : Settings) (s : State) (cs : List (ℕ × Command)) (answers : List (Result Edit Refusal)) (now : sql.State) : Type 0 where
   pub answered : map unsaid (filter stands answers) ≡ map unsaid (answers_of (step_at settings) s (standing cs answers))
   pub base : HoldsBase (state_of (step_at settings) s (standing cs answers)).base now
 
 -- the tables hold a base whose mirror at each key is the greatest mark in all accepted evidence for it
-abbrev pub HoldsGreatest : Settings → List (ℕ × Command) → List (Result (Option Edit) Refusal) → sql.State → Type 0
+abbrev pub HoldsGreatest : Settings → List (ℕ × Command) → List (Result Edit Refusal) → sql.State → Type 0
 HoldsGreatest settings cs answers now =
     (base : Base) × HoldsBase base now × ((key : MirrorKey) → IsGreatestOf (accepted_evidence settings empty (standing cs answers)) key (at mirror_cmp key base.mirror))

@@ -1,5 +1,5 @@
 //! The desk.
-ghost use Rattle.std.specs.Prelude.{◌≡◌, false, is_none, IsTrue, IfOk, IfErr, OnOk, OnErr};
+ghost use Rattle.std.specs.Prelude.{◌≡◌, false, IsTrue, IfOk, IfErr, OnOk, OnErr};
 ghost use Rattle.sqlite.specs.State.{HasCleanDisk, Survives};
 ghost use Rattle.sqlite.specs.Steps.{over_memory};
 ghost use Rattle.adr_state.specs.declared.base.Base.{Base};
@@ -73,13 +73,11 @@ impl<S: Alter> SqlDesk<S> {
         image_in(self.alloc, &mut self.conn)
     }
 
-    /// Applies a command to the tables, in one transaction, and answers what it made of them. Every command
-    /// there is has tables, so None is never answered. A refusal leaves all as it was, where the store is
-    /// open.
-    pub fn edit(&mut self, now: Moment, command: &Command) -> Result<Option<Edit>, Refusal>
+    /// Applies a command to the tables, in one transaction, and answers what it made of them. A refusal
+    /// leaves all as it was, where the store is open.
+    pub fn edit(&mut self, now: Moment, command: &Command) -> Result<Edit, Refusal>
         ensures makes { EditsTables (edit_by (settings_of self.old).limits now command.now) (shown S.Store self.old) (shown S.Store self.new) result }
         ensures committed { HasCleanDisk (shown S.Store self.new) → OnOk result ((shown S.Store self.new).committed ≡ (shown S.Store self.new).now) }
-        ensures some { IfOk result (λ edit. is_none edit ≡ false) }
         ensures refused { RefusesEdit (edit_by (settings_of self.old).limits now command.now) (shown S.Store self.old) (shown S.Store self.new) result }
         ensures unchanged { HasCleanDisk (shown S.Store self.new) → IsTrue (shown S.Store self.new).is_open → OnErr result ((base : Base) → HoldsBase base (shown S.Store self.old) → HoldsBase base (shown S.Store self.new)) }
         ensures same_settings { settings_of self.new ≡ settings_of self.old }

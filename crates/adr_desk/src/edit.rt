@@ -1,5 +1,5 @@
 //! A command on the tables, in one transaction.
-ghost use Rattle.std.specs.Prelude.{◌≡◌, false, is_none, IsTrue, IfOk, IfErr, OnOk, OnErr};
+ghost use Rattle.std.specs.Prelude.{◌≡◌, false, IsTrue, IfOk, IfErr, OnOk, OnErr};
 ghost use Rattle.sqlite.specs.Held.{state};
 ghost use Rattle.sqlite.specs.State.{HasCleanDisk};
 ghost use Rattle.adr_state.specs.declared.base.Base.{Base};
@@ -61,12 +61,11 @@ fn numbered<S: Alter>(
     limits: &Limits,
     now: Moment,
     command: &Command,
-) -> Result<Option<Edit>, Refusal>
+) -> Result<Edit, Refusal>
     ensures same_reference { tx.new.conn.ghost_name ≡ tx.old.conn.ghost_name }
     ensures stays { Stays S.Store tx.old.conn.now tx.new.conn.now result }
     ensures makes { EditsTables (λ base. edit_of limits.now now base command.now) (state S.Store tx.old.conn.now) (state S.Store tx.new.conn.now) result }
     ensures refuses { RefusesEdit (λ base. edit_of limits.now now base command.now) (state S.Store tx.old.conn.now) (state S.Store tx.new.conn.now) result }
-    ensures some { IfOk result (λ edit. is_none edit ≡ false) }
 {
     let before = read_meta(tx)?;
     let mut meta = before;
@@ -81,7 +80,7 @@ fn numbered<S: Alter>(
     )?;
     meta.serial.draw(limits, command.draws_number())?;
     put_changed(tx, &before, &meta)?;
-    Ok(Some(edit))
+    Ok(edit)
 }
 
 /// The command on a lent transaction.
@@ -91,12 +90,11 @@ fn edited<S: Alter>(
     limits: &Limits,
     now: Moment,
     command: &Command,
-) -> Result<Option<Edit>, Refusal>
+) -> Result<Edit, Refusal>
     ensures same_reference { tx.new.conn.ghost_name ≡ tx.old.conn.ghost_name }
     ensures stays { Stays S.Store tx.old.conn.now tx.new.conn.now result }
     ensures makes { EditsTables (edit_by limits.now now command.now) (state S.Store tx.old.conn.now) (state S.Store tx.new.conn.now) result }
     ensures refuses { RefusesEdit (edit_by limits.now now command.now) (state S.Store tx.old.conn.now) (state S.Store tx.new.conn.now) result }
-    ensures some { IfOk result (λ edit. is_none edit ≡ false) }
 {
     if !command.is_allowed() {
         return Err(Refusal::Forbidden);
@@ -105,7 +103,7 @@ fn edited<S: Alter>(
 }
 
 // The answer, where the commit went well.
-fn told(ended: Result<(), Refusal>, edit: Option<Edit>) -> Result<Option<Edit>, Refusal>
+fn told(ended: Result<(), Refusal>, edit: Edit) -> Result<Edit, Refusal>
     ensures { result ≡ told_by (λ _. edit) ended }
 {
     ended?;
@@ -119,7 +117,7 @@ pub(crate) fn edit_in<S: Alter>(
     limits: &Limits,
     now: Moment,
     command: &Command,
-) -> Result<Option<Edit>, Refusal>
+) -> Result<Edit, Refusal>
     requires { conn.old.in_transaction ≡ false }
     ensures whole { Commits S.Store conn.old conn.new
         (λ s. (base : Base) → HoldsBase base (state S.Store conn.old) → HoldsEdited (edit_by limits.now now command.now) base s)
@@ -128,7 +126,6 @@ pub(crate) fn edit_in<S: Alter>(
     ensures makes { EditsTables (edit_by limits.now now command.now) (state S.Store conn.old) (state S.Store conn.new) result }
     ensures refuses { RefusesEdit (edit_by limits.now now command.now) (state S.Store conn.old) (state S.Store conn.new) result }
     ensures unchanged { HasCleanDisk (state S.Store conn.new) → IsTrue (state S.Store conn.new).is_open → OnErr result ((state S.Store conn.new).now ≡ (state S.Store conn.old).now) }
-    ensures some { IfOk result (λ edit. is_none edit ≡ false) }
 {
     let mut tx = begin(conn);
     let edit = edited(alloc, &mut tx, limits, now, command)?;

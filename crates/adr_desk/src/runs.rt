@@ -19,7 +19,7 @@ pub fn edit_each(
     alloc: Global,
     desk: &mut MemoryDesk,
     steps: &[(Moment, Command)],
-) -> Result<Vec<Result<Option<Edit>, Refusal>>, AllocError>
+) -> Result<Vec<Result<Edit, Refusal>>, AllocError>
     ensures run { IfOk result (λ answers. (s : State) → HoldsBase s.base (shown over_memory desk.old) → IsRunOf (settings_of desk.old) s steps.now answers.items (shown over_memory desk.new)) }
     ensures mirror { IfOk result (λ answers. HoldsBase empty.base (shown over_memory desk.old) → HoldsGreatest (settings_of desk.old) steps.now answers.items (shown over_memory desk.new)) }
     ensures each { IfOk result (λ answers. length answers.items ≡ length steps.now) }

@@ -32,17 +32,15 @@ impl Twin {
 }
 
 /// Whether the tables answered as the machine does; of evidence they answer the keys, and not their number.
-fn agrees(said: &Result<Answer, Refusal>, edit: &Result<Option<Edit>, Refusal>) -> bool {
+fn agrees(said: &Result<Answer, Refusal>, edit: &Result<Edit, Refusal>) -> bool {
     match (said, edit) {
-        (Ok(Answer::Changes(_)), Ok(Some(Edit::Raised(_)))) => true,
-        (Ok(Answer::Done), Ok(Some(Edit::Done))) => true,
-        (Ok(Answer::Probes(keys)), Ok(Some(Edit::Probes(others)))) => {
+        (Ok(Answer::Changes(_)), Ok(Edit::Raised(_))) => true,
+        (Ok(Answer::Done), Ok(Edit::Done)) => true,
+        (Ok(Answer::Probes(keys)), Ok(Edit::Probes(others))) => {
             keys.as_slice() == others.as_slice()
         }
-        (Ok(Answer::Object(object)), Ok(Some(Edit::Object(other)))) => {
-            is_same_object(object, other)
-        }
-        (Ok(Answer::Share(share)), Ok(Some(Edit::Share(other)))) => share == other,
+        (Ok(Answer::Object(object)), Ok(Edit::Object(other))) => { is_same_object(object, other) }
+        (Ok(Answer::Share(share)), Ok(Edit::Share(other))) => share == other,
         (Err(refusal), Err(other)) => refusal == other,
         _ => false,
     }

@@ -89,7 +89,7 @@ fn told_tables(
     tables: &mut MemoryDesk,
     steps: &[(Moment, Command)],
 ) -> Result<usize, Refusal> {
-    let edits: Vec<Result<Option<Edit>, Refusal>> = edit_each(alloc, tables, steps)?;
+    let edits: Vec<Result<Edit, Refusal>> = edit_each(alloc, tables, steps)?;
     Ok(accepted(&edits))
 }
 
