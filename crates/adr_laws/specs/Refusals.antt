@@ -1,5 +1,5 @@
 -- That the machine refuses as is listed.
-use Rattle.std.specs.Prelude.{◌≡◌, ℕ, true, List, IfErr}
+use Rattle.std.specs.Prelude.{◌≡◌, ℕ, true, IfErr}
 use Rattle.std.specs.List.{Contains, list_all}
 use Rattle.adr_state.specs.declared.base.Base.{Base}
 use Rattle.adr_state.specs.declared.state.State.{State}
