@@ -1,11 +1,11 @@
 -- Names that the proofs of this crate take from elsewhere.
-pub use Rattle.std.proofs.lemmas.Bool.{and_cases, both_ways, cond-false, cond_both, false_from_ne_true, false≢true, not-false, not-true}
-pub use Rattle.std.proofs.lemmas.Cmp.{eq_by_cmp_equiv, nat_cmp_total, nat_eq_equiv, ranked}
-pub use Rattle.std.proofs.lemmas.List.{get_or-map, length-map, map-append, map-id}
-pub use Rattle.std.proofs.lemmas.List.Elements.{All-append, All-cons, All-contains, All-contains_itself, All-filter, All-from_get_or, All-from_recursion, All-head, All-map, All-nil, All-tail, All-weaker, filter-append, filter_passes, recursion_from_All}
+pub use Rattle.std.proofs.lemmas.Bool.{and_cases, both_ways, cond_both, false_from_ne_true, false≢true, not-false}
+pub use Rattle.std.proofs.lemmas.Cmp.{eq_by_cmp_equiv, nat_cmp_total, ranked}
+pub use Rattle.std.proofs.lemmas.List.{length-map, map-append}
+pub use Rattle.std.proofs.lemmas.List.Elements.{All-append, All-contains, All-contains_itself, All-filter, All-from_get_or, All-from_recursion, All-head, All-map, All-nil, All-tail, All-weaker, filter-append, recursion_from_All}
 pub use Rattle.std.proofs.lemmas.Map.Keys.{IsDistinct-from_sorted, sorted_tail}
-pub use Rattle.std.proofs.lemmas.Map.Lookups.{CmpEqualImpliesEq, exact_bytes, exact_pairs, exact_unsigned}
-pub use Rattle.std.proofs.lemmas.Map.Views.{All-after_first, All-keys-insert_entry, All-map-remove_entry, Contains-from_lookup, IfSome-lookup_from_All, lookup-from_Contains, tells_apart}
+pub use Rattle.std.proofs.lemmas.Map.Lookups.{exact_unsigned}
+pub use Rattle.std.proofs.lemmas.Map.Views.{All-after_first, Contains-from_lookup, IfSome-lookup_from_All, lookup-from_Contains, tells_apart}
 pub use Rattle.std.proofs.lemmas.Option.{get_or_from_slice_get, slice_get_within}
 pub use Rattle.std.proofs.lemmas.Simd.{map-map}
 pub use Rattle.std.specs.BTreeMap.{insert_entry, is_at}
@@ -13,11 +13,11 @@ pub use Rattle.std.specs.Cmp.{IsTotalOrder, unsigned_Decides, unsigned_tied}
 pub use Rattle.std.specs.List.{All, AllByRecursion, AllPairs, Contains, flat_map, list_any, zip}
 pub use Rattle.std.specs.List.Sorted.{IsNonDecreasing}
 unfoldable pub use Rattle.std.specs.List.Sorted.{IsStrictlySortedBy}
-pub use Rattle.std.specs.Map.{keys_of, remove_entry, values_of}
-pub use Rattle.std.specs.Ordering.{is_eq, match_ordering, nat_cmp, ordering_reverse}
+pub use Rattle.std.specs.Map.{keys_of, values_of}
+pub use Rattle.std.specs.Ordering.{nat_cmp}
 pub use Rattle.adr_text.specs.declared.refusal.Refusal.{Refusal}
 pub use Rattle.adr_state.specs.BaseChanges.{BaseChange, ChangePortfolio, JoinMarks, SetScan, changed}
-pub use Rattle.adr_state.specs.Keys.{at, id_cmp, map_of, mirror_cmp, share_cmp, view_cmp, with_rows}
+pub use Rattle.adr_state.specs.Keys.{at, mirror_cmp, share_cmp, view_cmp}
 pub use Rattle.adr_state.specs.Names.{if_free, if_new, is_full, is_taken, is_taken_by_another, resource_name, ven_name}
 pub use Rattle.adr_state.specs.States.{empty}
 pub use Rattle.adr_state.specs.declared.base.Base.{Base}

@@ -10,8 +10,7 @@ use Rattle.adr_state.specs.declared.participants.Participant.{Participant}
 use Rattle.adr_state.specs.Participants.{is_for, participant_of, participants}
 use Rattle.adr_laws.specs.Enrolled.{weight_in, enrolled, enrolled_numbers, enrolled_weights}
 use Rattle.adr_laws.specs.Laws.{HasVen, IsWhole, HasWeight, ParticipantsLackNone}
-use Rattle.adr_laws.proofs.ListLemmas.{all_filter_map, map_filter_map, in_order_filter_map}
-use Rattle.adr_laws.proofs.OrderLemmas.{InOrder}
+use Rattle.adr_view.proofs.ListLemmas.{all_filter_map, map_filter_map}
 
 -- a number with its weight
 abbrev pub numbered : Participant → ℕ × ℕ
@@ -36,14 +35,6 @@ lack_none base event whole =
     (All-weaker (HasVen p.vens) same (λ r has. takes_part r.0 r.1.name (is_for event.resource_names r.1.name) _ (at nat_cmp r.1.ven p.vens) has) p.resources whole.resources_have_vens)
 
 module _ (base : Base) (event : EventBody) where
-  -- in the order of their numbers
-  pub enrolled_in_order : InOrder nat_cmp base.portfolio.resources → InOrder nat_cmp (enrolled base.portfolio event)
-  enrolled_in_order = in_order_filter_map nat_cmp (λ r. with_number r.0 (weight_in base.portfolio event r)) (λ r. own r.0 (weight_in base.portfolio event r)) base.portfolio.resources
-    where
-      own : (n : ℕ) (weight : Option ℕ) → IfSome (with_number n weight) (λ e. e.0 ≡ n)
-      own n None = tt
-      own n (Some w) = refl
-
   module _ (whole : IsWhole base) where
     pub numbers_are : map (λ p. p.resource) (participants base.portfolio event) ≡ enrolled_numbers base.portfolio event
     numbers_are = sym (map-map (λ (e : ℕ × ℕ). e.0) numbered (participants base.portfolio event)) ∙ ap keys_of (lack_none base event whole)

@@ -1,22 +1,19 @@
 -- What the view has of an event: each that is enrolled has its part at its key, and nobody else has one.
-use Rattle.std.proofs.Common.{◌≡◌, ℕ, ◌+◌, ℤ, Bool, true, false, cond, List, [], ◌∷◌, length, map, Option, Some, None, refl, sym, ap, subst, ◌∙◌, arith, ◌<◌}
+use Rattle.std.proofs.Common.{◌≡◌, ℕ, ℤ, Bool, true, false, cond, List, [], length, map, Option, Some, None, refl, sym, ap, subst, ◌∙◌, arith, ◌<◌}
 use Rattle.std.specs.Prelude.{IsSome, is_some, option_map, option_and_then, slice_get}
 use Rattle.std.specs.List.{enumerate_from}
 use Rattle.std.proofs.lemmas.List.Recursion.{or_at}
 use Rattle.std.proofs.lemmas.Option.{same_Some, slice_get-map}
-use Rattle.std.proofs.lemmas.Cmp.{nat_list_cmp_total, tied_itself}
-use Rattle.adr_laws.proofs.Common.{All, Contains, flat_map, list_any, IsStrictlySortedBy, keys_of, cond_both, eq_by_cmp_equiv, false≢true, All-contains, Contains-from_lookup, IsDistinct-from_sorted, tells_apart, nat_cmp, Base, empty, step_at, at, mirror_cmp, view_cmp, lookup-from_Contains, map-map, length-map, get_or_from_slice_get, slice_get_within}
+use Rattle.adr_laws.proofs.Common.{Contains, list_any, keys_of, eq_by_cmp_equiv, false≢true, All-contains, Contains-from_lookup, IsDistinct-from_sorted, tells_apart, Base, empty, step_at, at, mirror_cmp, view_cmp, lookup-from_Contains, map-map, length-map, get_or_from_slice_get, slice_get_within}
 use Rattle.adr_split.specs.FairSplit.{IsFairSplit}
 use Rattle.adr_split.specs.Laws.{AreWeights}
 use Rattle.adr_split.specs.Parts.{fair_split}
 use Rattle.adr_split.proofs.FairLemmas.{fair_split_is_fair}
-use Rattle.adr_objects.specs.declared.kind.Kind.TheVariants as kind
 use Rattle.adr_objects.specs.declared.body.Body.TheVariants as body
 use Rattle.adr_objects.specs.declared.body.EventBody.{EventBody}
 use Rattle.adr_objects.specs.declared.interval.Interval.{Interval}
 use Rattle.adr_state.specs.declared.base.Mark.{Mark}
 use Rattle.adr_state.specs.declared.base.Mark.TheVariants.{Live, Dead}
-use Rattle.adr_state.specs.declared.keys.MirrorKey.{MirrorKey}
 use Rattle.adr_state.specs.declared.keys.ViewKey.{ViewKey}
 use Rattle.adr_state.specs.declared.keys.ViewKey.TheVariants as key
 use Rattle.adr_state.specs.declared.participants.Participant.{Participant}
@@ -24,25 +21,20 @@ use Rattle.adr_state.specs.Participants.{participants}
 use Rattle.adr_state.proofs.LawLemmas.{key_order}
 use Rattle.adr_view.specs.declared.parts.SplitInterval.{SplitInterval}
 use Rattle.adr_view.specs.declared.view.Content.{Content}
-use Rattle.adr_view.specs.Views.{weights_of, split_interval, interval_at, event_row, rows_for, carries, program_rows, event_rows, mark_rows, view}
+use Rattle.adr_view.specs.Views.{weights_of, split_interval, interval_at, event_row, rows_for, carries, event_key, event_rows, mark_rows, view}
 use Rattle.adr_laws.specs.Enrolled.{enrolled, enrolled_numbers, enrolled_weights}
 use Rattle.adr_laws.specs.ShownParts.{part_in, part_shown, AreFairParts, IsLive}
-use Rattle.adr_laws.specs.Laws.{IsWhole, StandsInOrder, OnlyLiveEventsAreShown, ShownPartsSumUp, ShownPartsSumUpAfterRuns}
+use Rattle.adr_view.specs.Laws.{StandsInOrder}
+use Rattle.adr_laws.specs.Laws.{IsWhole, OnlyLiveEventsAreShown, ShownPartsSumUp, ShownPartsSumUpAfterRuns}
 use Rattle.adr_laws.specs.Standing.{state_of}
-use Rattle.adr_laws.proofs.EnrolledLemmas.{enrolled_in_order, enrolled_positive, numbers_are, weights_are}
-use Rattle.adr_laws.proofs.KeyLemmas.{mirror_exact, view_exact, made_of, stand_alike}
-use Rattle.adr_laws.proofs.ListLemmas.{in_map, from_map, in_flat, placed, map_by_place, sorted_map, in_order_flat}
-use Rattle.adr_laws.proofs.OrderLemmas.{InOrder, none_sorted, made_in_order}
+use Rattle.adr_laws.proofs.EnrolledLemmas.{enrolled_positive, numbers_are, weights_are}
+use Rattle.adr_view.proofs.KeyLemmas.{mirror_exact, view_exact, made_of}
+use Rattle.adr_view.proofs.ListLemmas.{in_map, from_map, in_flat, placed, map_by_place}
 use Rattle.adr_laws.proofs.PortfolioLemmas.{portfolio_whole, rows_in_order}
-use Rattle.adr_laws.proofs.StampLemmas.{view_total, shown_in_order}
-use Rattle.adr_laws.proofs.ViewLemmas.{by_mark, each_by_mark, from_view}
+use Rattle.adr_view.proofs.ShownLemmas.{view_total, shown_in_order, keys_shown, its_key, view_made}
+use Rattle.adr_view.proofs.ViewLemmas.{from_view}
 
 -- ---- the rows of an event
-
--- their keys, one of each participant
-keys_shown : (id : List ℕ) (event : EventBody) (is : List SplitInterval) (n : ℕ) (ps : List Participant) → keys_of (map (event_row id event is) (enumerate_from n ps)) ≡ map (λ k. key.Event id k) (map (λ p. p.resource) ps)
-keys_shown id event is n [] = refl
-keys_shown id event is n (p ∷ ps) = ap (λ ks. key.Event id p.resource ∷ ks) (keys_shown id event is (n + 1) ps)
 
 -- the part that one of them has
 part_at : (id : List ℕ) (event : EventBody) (weights : List ℕ) (place : ℕ) (i : Interval) (e : ℕ × Participant) → slice_get event.intervals place ≡ Some i
@@ -62,14 +54,6 @@ from_cond true xs x there = there
 from_cond false xs x there = absurd (omega (arith, there.1))
 
 -- ---- the view as it is made
-
--- the upstream key of an event
-abbrev event_key : List ℕ → MirrorKey
-event_key id = record { kind = kind.Event; id = id }
-
--- the key of each row was made of the upstream key of its mark
-its_key : (base : Base) (e : MirrorKey × Mark) → All (λ r. made_of r.0 ≡ e.0) (mark_rows base e)
-its_key base = each_by_mark base (λ k r. made_of r.0 ≡ k) (λ id name. refl) (λ id event splits p. refl)
 
 -- what stands at the key of an event is a row of the mark that its upstream key has
 shown_of_mark : (base : Base) → StandsInOrder base → (id : List ℕ) (n : ℕ) (c : Content) → at view_cmp (key.Event id n) (view base) ≡ Some c
@@ -97,25 +81,7 @@ only_live_shown base id n stands = by (at view_cmp (key.Event id n) (view base))
         let live = live_mark base id (key.Event id n, c) m.0 m.2 in
         (live.0, (live.1, m.1 ∙ ap (λ mark. Some mark) live.2))
 
-program_in_order : (id name : List ℕ) → InOrder view_cmp (program_rows id name)
-unfolding IsStrictlySortedBy
-program_in_order id name = (tt, tt)
-
 module _ (base : Base) (whole : IsWhole base) (stands : StandsInOrder base) where
-  event_in_order : (id : List ℕ) (event : EventBody) → InOrder view_cmp (event_rows base id event)
-  event_in_order id event =
-      let ps = participants base.portfolio event in
-      let numbers : IsStrictlySortedBy nat_cmp (map (λ p. p.resource) ps) = subst (IsStrictlySortedBy nat_cmp) (sym (numbers_are base event whole)) (enrolled_in_order base event stands.resources) in
-      let keys : IsStrictlySortedBy view_cmp (map (λ k. key.Event id k) (map (λ p. p.resource) ps)) =
-      sorted_map nat_cmp view_cmp (λ k. key.Event id k) (λ m n less. rw (tied_itself nat_list_cmp_total id) less) (map (λ p. p.resource) ps) numbers in
-      cond_both (carries event) (rows_for id event ps) [] (InOrder view_cmp) (λ some. subst (IsStrictlySortedBy view_cmp) (sym (keys_shown id event _ 0 ps)) keys) (λ none. none_sorted view_cmp)
-
-  view_made : view base ≡ flat_map (mark_rows base) base.mirror
-  unfolding view
-  view_made =
-      made_in_order view_total (flat_map (mark_rows base) base.mirror)
-      (in_order_flat mirror_cmp view_cmp made_of stand_alike (mark_rows base) (its_key base) (by_mark base (λ k rows. InOrder view_cmp rows) (λ k. none_sorted view_cmp) program_in_order event_in_order) base.mirror stands.upstream_keys)
-
   -- ---- the rows of a live event in it
 
   module _ (id : List ℕ) (event : EventBody) (live : IsLive base id event) where
@@ -129,7 +95,7 @@ module _ (base : Base) (whole : IsWhole base) (stands : StandsInOrder base) wher
     there_shown : (r : ViewKey × Content) → Contains (event_rows base id event) r → Contains (view base) r
     there_shown r there =
         let mark : Mark = Live live.0 (body.Event event) in
-        subst (λ rows. Contains rows r) (sym view_made) (in_flat (mark_rows base) base.mirror (event_key id, mark) r (Contains-from_lookup (tells_apart mirror_exact) (event_key id) mark base.mirror live.1) there)
+        subst (λ rows. Contains rows r) (sym (view_made base stands)) (in_flat (mark_rows base) base.mirror (event_key id, mark) r (Contains-from_lookup (tells_apart mirror_exact) (event_key id) mark base.mirror live.1) there)
 
     -- and no others
     shown_there : (n : ℕ) (c : Content) → at view_cmp (key.Event id n) (view base) ≡ Some c → Contains (rows_for id event ps) (key.Event id n, c)

@@ -1,8 +1,4 @@
 pub mod Common
-pub mod RowLemmas
-pub mod OrderLemmas
-pub mod ListLemmas
-pub mod KeyLemmas
 pub mod NameLemmas
 pub mod NumberLemmas
 pub mod EditLemmas
@@ -11,7 +7,6 @@ pub mod Decisions
 pub mod MirrorLemmas
 pub mod PortfolioLemmas
 pub mod StampLemmas
-pub mod ViewLemmas
 pub mod EnrolledLemmas
 pub mod EventLemmas
 pub mod SightLemmas

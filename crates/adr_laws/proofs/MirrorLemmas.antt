@@ -11,7 +11,7 @@ use Rattle.adr_state.proofs.LawLemmas.{joins_greatest, key_order}
 use Rattle.adr_laws.specs.Standing.{state_of}
 use Rattle.adr_laws.specs.Laws.{accepted_in, accepted_evidence, MirrorIsGreatest}
 use Rattle.adr_laws.proofs.Decisions.{marks_in, after_step}
-use Rattle.adr_laws.proofs.OrderLemmas.{InOrder, none_sorted, in_order_put}
+use Rattle.adr_view.proofs.OrderLemmas.{InOrder, none_sorted, in_order_put}
 
 -- each kind of change joins the mirror with what it tells
 change_joins : (change : BaseChange) (base : Base) → (changed change base).mirror ≡ joined base.mirror (marks_in change)

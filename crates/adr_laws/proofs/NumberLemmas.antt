@@ -5,8 +5,8 @@ use Rattle.adr_laws.proofs.Common.{All, AllPairs, Contains, IsStrictlySortedBy, 
 use Rattle.std.proofs.lemmas.Bool.Decides.{Decides-at}
 use Rattle.std.proofs.lemmas.List.Kept.{AllPairs-cons}
 use Rattle.std.proofs.lemmas.Map.Made.{AllPairs-from_IsDistinct}
-use Rattle.adr_laws.proofs.OrderLemmas.{InOrder, none_sorted, each_row, in_order_put}
-use Rattle.adr_laws.proofs.RowLemmas.{each_there, from_put, row_found}
+use Rattle.adr_view.proofs.OrderLemmas.{InOrder, none_sorted, each_row, in_order_put}
+use Rattle.adr_view.proofs.RowLemmas.{each_there, from_put, row_found}
 use Rattle.adr_laws.proofs.NameLemmas.{Free}
 
 -- ---- numbers

@@ -14,9 +14,9 @@ use Rattle.adr_laws.specs.Laws.{HasVen, HasResource, HasWeight, NamesDiffer, Por
 use Rattle.adr_laws.proofs.Decisions.{FitsPortfolio, FitsBase, after_step}
 use Rattle.adr_laws.proofs.MirrorLemmas.{mirror_in_order}
 use Rattle.adr_laws.proofs.NumberLemmas.{serial_then, rises, HaveOwn, BothOwn, none_own, turned, some_both, put_both, both_from_here, each_number, numbers_differ, each_drawn}
-use Rattle.adr_laws.proofs.KeyLemmas.{share_exact}
-use Rattle.adr_laws.proofs.OrderLemmas.{in_order_removed, in_order_filtered}
-use Rattle.adr_laws.proofs.RowLemmas.{each_there, from_put, from_removal, from_filter, found_after_put, found_after_removal}
+use Rattle.adr_view.proofs.KeyLemmas.{share_exact}
+use Rattle.adr_view.proofs.OrderLemmas.{in_order_removed, in_order_filtered}
+use Rattle.adr_view.proofs.RowLemmas.{each_there, from_put, from_removal, from_filter, found_after_put, found_after_removal}
 use Rattle.adr_laws.proofs.RunLemmas.{run_keeps, state_of-append}
 
 -- a resource that is there and of another ven passes the filter of those

@@ -14,10 +14,10 @@ use Rattle.adr_machine.specs.declared.answer.Object.{Object}
 use Rattle.adr_machine.specs.Steps.{sees, event_of, event_at}
 use Rattle.adr_laws.specs.Told.{is_of_event, Tells}
 use Rattle.adr_laws.specs.Laws.{EventsLackNone}
-use Rattle.adr_laws.proofs.OrderLemmas.{each_row}
-use Rattle.adr_laws.proofs.RowLemmas.{each_there}
-use Rattle.adr_laws.proofs.StampLemmas.{view_total}
-use Rattle.adr_laws.proofs.ViewLemmas.{each_by_mark, from_view}
+use Rattle.adr_view.proofs.OrderLemmas.{each_row}
+use Rattle.adr_view.proofs.RowLemmas.{each_there}
+use Rattle.adr_view.proofs.ShownLemmas.{view_total}
+use Rattle.adr_view.proofs.ViewLemmas.{each_by_mark, from_view}
 
 -- ---- what stands at the key of an event is one
 

@@ -1,29 +1,20 @@
 -- After every step the stamps are of what is shown, and none was modified before it was created.
 use Rattle.std.proofs.Common.{◌≡◌, ℕ, suc, ◌≤◌, Bool, true, false, cond, List, [], ◌∷◌, map, Option, Some, None, refl, sym, ap, subst, ◌∙◌, arith}
 use Rattle.std.specs.Prelude.{IfSome}
-use Rattle.adr_laws.proofs.Common.{All, AllByRecursion, flat_map, IsStrictlySortedBy, IsNonDecreasing, keys_of, values_of, is_at, IsTotalOrder, All-nil, All-head, All-weaker, All-from_get_or, All-from_recursion, IfSome-lookup_from_All, Base, Settings, State, view_cmp, at, empty, Command, state_after, step_at}
+use Rattle.adr_laws.proofs.Common.{All, AllByRecursion, IsStrictlySortedBy, IsNonDecreasing, keys_of, values_of, is_at, All-nil, All-head, All-weaker, All-from_get_or, All-from_recursion, IfSome-lookup_from_All, Base, Settings, State, view_cmp, at, empty, Command, state_after, step_at}
 use Rattle.adr_objects.specs.declared.shown.Stamps.{Stamps}
-use Rattle.adr_state.specs.contracts.keys.ViewKeyOrd.TheImpl.Laws.{total-law}
 use Rattle.adr_state.specs.declared.keys.ViewKey.{ViewKey}
 use Rattle.adr_view.specs.declared.view.Content.{Content}
 use Rattle.adr_view.specs.Changes.{is_same_content, stamps_by, stamps_for, restamped}
-use Rattle.adr_view.specs.Views.{mark_rows, view}
-use Rattle.adr_state.proofs.KeyLemmas.{view_order}
+use Rattle.adr_view.specs.Views.{view}
 use Rattle.adr_laws.specs.Standing.{state_of}
 use Rattle.adr_laws.specs.Laws.{StampsAreOfTheView, StampsAreInTime}
 use Rattle.adr_laws.proofs.Decisions.{after_step}
-use Rattle.adr_laws.proofs.OrderLemmas.{InOrder, none_sorted, in_order_rows, made_in_order}
+use Rattle.adr_view.proofs.OrderLemmas.{made_in_order}
+use Rattle.adr_view.proofs.ShownLemmas.{view_total, shown_in_order}
 use Rattle.adr_laws.proofs.RunLemmas.{run_keeps}
 
 -- ---- the keys that are stamped
-
-pub view_total : IsTotalOrder view_cmp
-view_total = subst IsTotalOrder view_order total-law
-
--- what is shown stands in order
-pub shown_in_order : (base : Base) → InOrder view_cmp (view base)
-unfolding view
-shown_in_order base = in_order_rows view_total [] (flat_map (mark_rows base) base.mirror) (none_sorted view_cmp)
 
 keys_stamped : (stamps : List (ViewKey × Stamps)) (before rows : List (ViewKey × Content)) (now : ℕ) → keys_of (map (stamps_for stamps before now) rows) ≡ keys_of rows
 keys_stamped stamps before [] now = refl

@@ -23,6 +23,7 @@ use Rattle.adr_state.specs.Participants.{participants}
 use Rattle.adr_state.specs.States.{empty}
 use Rattle.adr_state.specs.Weights.{most_weight}
 use Rattle.adr_view.specs.Views.{view}
+use Rattle.adr_view.specs.Laws.{StandsInOrder}
 use Rattle.adr_machine.specs.declared.answer.Answer.{Answer}
 use Rattle.adr_machine.specs.declared.command.Command.{Command}
 use Rattle.adr_machine.specs.declared.command.Command.TheVariants.{Evidence, Gone}
@@ -89,12 +90,9 @@ pub record IsWhole (base : Base) : Type 0 where
 abbrev pub PortfolioIsWhole : Type 0
 PortfolioIsWhole = (settings : Settings) (cs : List (ℕ × Command)) → IsWhole (state_of (step_at settings) empty cs).base
 
--- upstream keys stand in their order, and resources in that of their numbers, each once
-pub record StandsInOrder (base : Base) : Type 0 where
-  pub upstream_keys : IsStrictlySortedBy mirror_cmp (keys_of base.mirror)
-  pub resources : IsStrictlySortedBy nat_cmp (keys_of base.portfolio.resources)
+-- ---- the order of rows
 
--- after any run from an empty start they do
+-- after any run from an empty start, upstream keys and resources stand in their order, each once
 abbrev pub RowsStandInOrder : Type 0
 RowsStandInOrder = (settings : Settings) (cs : List (ℕ × Command)) → StandsInOrder (state_of (step_at settings) empty cs).base
 

@@ -12,7 +12,6 @@ use Rattle.std.proofs.lemmas.Slice.Eq.{bytes_eq-Decides, slice_eq-Decides}
 use Rattle.adr_split.specs.FairSplit.{sum_of_parts}
 use Rattle.adr_split.specs.Laws.{AreWeights}
 use Rattle.adr_split.proofs.FairLemmas.{fair_split_is_fair}
-use Rattle.adr_objects.specs.declared.kind.Kind.TheVariants as kind
 use Rattle.adr_objects.specs.declared.interval.Period.{Period}
 use Rattle.adr_objects.specs.declared.shown.ShownInterval.{ShownInterval}
 use Rattle.adr_objects.specs.declared.shown.ShownEvent.{ShownEvent}

@@ -1,12 +1,19 @@
 -- Laws of what is shown, whatever the definitions are given.
-use Rattle.std.specs.Prelude.{◌≡◌, ℕ, ℤ, List, Some, IsSomeAnd}
+use Rattle.std.specs.Prelude.{◌≡◌, ℕ, ℤ, Bool, false, List, filter, Some, IsSomeAnd}
 use Rattle.std.specs.Bool.{Decides}
+use Rattle.std.specs.List.Sorted.{IsStrictlySortedBy}
+use Rattle.std.specs.Map.{keys_of}
+use Rattle.std.specs.Ordering.{nat_cmp, is_eq}
 use Rattle.adr_split.specs.FairSplit.{sum_of_parts}
 use Rattle.adr_split.specs.Laws.{AreWeights}
 use Rattle.adr_objects.specs.declared.interval.Interval.{Interval}
+use Rattle.adr_state.specs.declared.base.Base.{Base}
+use Rattle.adr_state.specs.declared.keys.ViewKey.{ViewKey}
+use Rattle.adr_state.specs.declared.keys.ViewKey.TheVariants as key
+use Rattle.adr_state.specs.Keys.{id_cmp, mirror_cmp}
 use Rattle.adr_view.specs.declared.view.Content.{Content}
 use Rattle.adr_view.specs.Changes.{is_same_content}
-use Rattle.adr_view.specs.Views.{split_interval}
+use Rattle.adr_view.specs.Views.{split_interval, shown_of, view}
 
 -- two contents count as the same exactly where they are equal
 abbrev pub SameContentsAreEqual : Type 0
@@ -15,3 +22,17 @@ SameContentsAreEqual = (a b : Content) → Decides (is_same_content a b) (a ≡ 
 -- the parts of an interval sum to the setpoint that it carries, where there is a weight and each is at least 1
 abbrev pub PartsSumUp : Type 0
 PartsSumUp = (weights : List ℕ) (i : Interval) (v : ℤ) → AreWeights weights → i.setpoint ≡ Some v → IsSomeAnd (split_interval weights i).parts (λ parts. sum_of_parts parts ≡ v)
+
+-- upstream keys stand in their order, and resources in that of their numbers, each once
+pub record StandsInOrder (base : Base) : Type 0 where
+  pub upstream_keys : IsStrictlySortedBy mirror_cmp (keys_of base.mirror)
+  pub resources : IsStrictlySortedBy nat_cmp (keys_of base.portfolio.resources)
+
+-- whether a key of the view is one of this upstream event
+abbrev pub is_of : List ℕ → ViewKey → Bool
+is_of id (key.Program other) = false
+is_of id (key.Event other resource) = is_eq (id_cmp id other)
+
+-- where rows stand in order, what is shown of an event is all that the view has at keys of it, in the order in which it stands there
+abbrev pub ShownIsOfTheView : Type 0
+ShownIsOfTheView = (base : Base) (id : List ℕ) → StandsInOrder base → filter (λ r. is_of id r.0) (view base) ≡ shown_of base id

@@ -1,5 +1,5 @@
 -- What is shown: each live program; and for each live event that carries a setpoint, and each of its participants, that participant's parts.
-use Rattle.std.specs.Prelude.{ℕ, Bool, List, [], ◌∷◌, map, is_some, option_map, option_and_then, slice_get, if◌then◌else◌}
+use Rattle.std.specs.Prelude.{ℕ, Bool, List, [], ◌∷◌, map, Option, None, Some, is_some, option_map, option_and_then, slice_get, if◌then◌else◌}
 use Rattle.std.specs.List.{list_any, flat_map, enumerate_from}
 use Rattle.adr_split.specs.Parts.{fair_split}
 use Rattle.adr_objects.specs.declared.kind.Kind.{Kind}
@@ -19,7 +19,7 @@ use Rattle.adr_view.specs.declared.view.Content.{Content}
 use Rattle.adr_view.specs.declared.view.Content.TheVariants as content
 use Rattle.adr_state.specs.declared.participants.Participant.{Participant}
 use Rattle.adr_view.specs.declared.parts.SplitInterval.{SplitInterval}
-use Rattle.adr_state.specs.Keys.{view_cmp, map_of}
+use Rattle.adr_state.specs.Keys.{mirror_cmp, view_cmp, at, map_of}
 use Rattle.adr_state.specs.Participants.{participants}
 
 abbrev pub weights_of : List Participant → List ℕ
@@ -72,6 +72,19 @@ body_rows base _ id _ = []
 abbrev pub mark_rows : Base → MirrorKey × Mark → List (ViewKey × Content)
 mark_rows base (k, Live m b) = body_rows base k.kind k.id b
 mark_rows base (k, Dead) = []
+
+-- the upstream key of an event
+abbrev pub event_key : List ℕ → MirrorKey
+event_key id = record { kind = kind.Event; id = id }
+
+-- what is shown of an upstream key by what is known of it
+abbrev pub rows_known : Base → MirrorKey → Option Mark → List (ViewKey × Content)
+rows_known base k None = []
+rows_known base k (Some mark) = mark_rows base (k, mark)
+
+-- what is shown of an upstream event
+abbrev pub shown_of : Base → List ℕ → List (ViewKey × Content)
+shown_of base id = rows_known base (event_key id) (at mirror_cmp (event_key id) base.mirror)
 
 -- all that is shown, computed from nothing, in the order of the keys
 unfoldable pub view : Base → List (ViewKey × Content)

@@ -1,5 +1,5 @@
 //! Laws of what is shown.
-ghost use Rattle.adr_view.specs.Laws.{SameContentsAreEqual, PartsSumUp};
+ghost use Rattle.adr_view.specs.Laws.{SameContentsAreEqual, PartsSumUp, ShownIsOfTheView};
 
 /// Two contents count as the same exactly where they are equal, so no change is missed or made up.
 pub fn same_contents_are_equal()
@@ -9,4 +9,9 @@ pub fn same_contents_are_equal()
 /// The parts of an interval sum to its setpoint.
 pub fn parts_sum_up()
     ensures { PartsSumUp }
+{}
+
+/// What is shown of an event is all that the view has at keys of it, where rows stand in order.
+pub fn shown_is_of_the_view()
+    ensures { ShownIsOfTheView }
 {}

@@ -86,60 +86,69 @@ fn shown_at(
     })
 }
 
-/// Puts what one participant is shown.
-fn put_one(
+/// What the participant at a place is shown of an event, at its key.
+fn event_row(
     alloc: Global,
-    view: &mut View,
     id: &ObjectId,
     event: &EventBody,
     intervals: &[SplitInterval],
     place: usize,
     p: &Participant,
-) -> Result<(), AllocError>
-    ensures { OnOk result (view.new ≡ with_rows view_cmp view.old (event_row id.now event.now intervals.now (place, p.now) ∷ [])) }
+) -> Result<(ViewKey, Content), AllocError>
+    ensures { IfOk result (λ row. row ≡ event_row id.now event.now intervals.now (place, p.now)) }
 {
     let key = ViewKey::Event(id.clone()?, p.resource);
     let shown = shown_at(alloc, event, intervals, place, p)?;
-    put_row(view, key, Content::Event(shown))
+    Ok((key, Content::Event(shown)))
 }
 
-/// Puts what each participant is shown.
-fn put_each(
+/// What each participant is shown of an event that is split.
+fn each_row(
     alloc: Global,
-    view: &mut View,
     id: &ObjectId,
     event: &EventBody,
     intervals: &[SplitInterval],
     ps: &[Participant],
-) -> Result<(), AllocError>
-    ensures { OnOk result (view.new ≡ with_rows view_cmp view.old (map (event_row id.now event.now intervals.now) (enumerate_from 0 ps.now))) }
+) -> Result<Rows<(ViewKey, Content)>, AllocError>
+    ensures { IfOk result (λ rows. rows ≡ map (event_row id.now event.now intervals.now) (enumerate_from 0 ps.now)) }
 {
+    let mut rows = Vec::new(alloc);
     for (place, p) in ps.iter().enumerate() {
-        put_one(alloc, view, id, event, intervals, place, p)?;
+        rows.push(event_row(alloc, id, event, intervals, place, p)?)?;
+    }
+    Ok(Rows::from_vec(rows))
+}
+
+/// Splits an event over its participants: what each of them is shown, at its key, in their order.
+pub fn rows_for(
+    alloc: Global,
+    id: &ObjectId,
+    event: &EventBody,
+    ps: &[Participant],
+) -> Result<Rows<(ViewKey, Content)>, AllocError>
+    requires { length ps.now ≤ most_resources }
+    ensures { IfOk result (λ rows. rows ≡ rows_for id.now event.now ps.now) }
+{
+    if ps.is_empty() {
+        return Ok(Rows::new(alloc));
+    }
+    let weights = weights_of(alloc, ps)?;
+    let intervals = split_intervals(alloc, &weights, event.intervals.as_slice())?;
+    each_row(alloc, id, event, &intervals, ps)
+}
+
+/// Puts rows, each in its place.
+fn put_rows(view: &mut View, rows: Rows<(ViewKey, Content)>) -> Result<(), AllocError>
+    ensures { OnOk result (view.new ≡ with_rows view_cmp view.old rows) }
+{
+    'rows: for row in rows.into_vec() {
+        put_row(view, row.0, row.1)?;
     }
     Ok(())
 }
 
-/// Splits the event over its participants, and puts what they are shown.
-fn put_rows(
-    alloc: Global,
-    view: &mut View,
-    id: &ObjectId,
-    event: &EventBody,
-    ps: &[Participant],
-) -> Result<(), AllocError>
-    requires { length ps.now ≤ most_resources }
-    ensures { OnOk result (view.new ≡ with_rows view_cmp view.old (rows_for id.now event.now ps.now)) }
-{
-    if ps.is_empty() {
-        return Ok(());
-    }
-    let weights = weights_of(alloc, ps)?;
-    let intervals = split_intervals(alloc, &weights, event.intervals.as_slice())?;
-    put_each(alloc, view, id, event, &intervals, ps)
-}
-
-fn carries(event: &EventBody) -> bool
+/// Whether some interval of an event carries a setpoint.
+pub fn carries(event: &EventBody) -> bool
     ensures { result ≡ carries event.now }
 {
     event
@@ -162,7 +171,7 @@ fn put_event(
         return Ok(());
     }
     let ps = participants_of(alloc, &base.portfolio, event)?;
-    put_rows(alloc, view, id, event, &ps)
+    put_rows(view, rows_for(alloc, id, event, &ps)?)
 }
 
 /// Puts what is shown of a program.

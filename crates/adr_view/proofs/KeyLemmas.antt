@@ -1,6 +1,6 @@
 -- Keys that stand at one place in their order are one, and the upstream key that a key of the view was made of.
 use Rattle.std.proofs.Common.{◌≡◌, Less, refl, ap}
-use Rattle.adr_laws.proofs.Common.{CmpEqualImpliesEq, exact_unsigned, exact_bytes, exact_pairs, nat_cmp, id_cmp, mirror_cmp, share_cmp, view_cmp}
+use Rattle.adr_view.proofs.Common.{CmpEqualImpliesEq, exact_unsigned, exact_bytes, exact_pairs, nat_cmp, id_cmp, mirror_cmp, share_cmp, view_cmp}
 use Rattle.adr_objects.specs.declared.kind.Kind.TheVariants as kind
 use Rattle.adr_state.specs.declared.keys.MirrorKey.{MirrorKey}
 use Rattle.adr_state.specs.declared.keys.ViewKey.{ViewKey}

@@ -1,13 +1,13 @@
 -- Lists that are made by map, filter_map and flat_map: what they contain, what holds of each element, and in which order the keys of rows stand.
-use Rattle.std.proofs.Common.{◌≡◌, ℕ, suc, ◌+◌, List, [], ◌∷◌, ◌++◌, length, map, Option, Some, None, Ordering, Less, refl, sym, ap, ap₂, subst, ◌∙◌, arith}
+use Rattle.std.proofs.Common.{◌≡◌, ℕ, suc, ◌+◌, Bool, true, false, cond, List, [], ◌∷◌, ◌++◌, length, map, filter, Option, Some, None, Ordering, Less, Equal, Greater, refl, sym, ap, ap₂, subst, ◌∙◌, arith}
 use Rattle.std.specs.Prelude.{IfSome, option_map, slice_get}
 use Rattle.std.specs.List.{filter_map, cons_option, enumerate_from}
 use Rattle.std.proofs.lemmas.List.Elements.{Contains-append_left, Contains-append_right}
 use Rattle.std.proofs.lemmas.List.FromFn.{length-enumerate_from, get_or-enumerate_from}
 use Rattle.std.proofs.lemmas.Option.{IfSome_then}
-use Rattle.adr_laws.proofs.Common.{All, AllByRecursion, Contains, flat_map, IsStrictlySortedBy, keys_of, get_or-map, All-append, All-cons, All-contains, All-from_recursion, All-head, All-map, All-nil, All-tail, All-weaker, recursion_from_All, length-map, get_or_from_slice_get, slice_get_within}
-use Rattle.adr_laws.proofs.OrderLemmas.{InOrder, Behind, each_row, through}
-use Rattle.adr_laws.proofs.RowLemmas.{each_there}
+use Rattle.adr_view.proofs.Common.{All, AllByRecursion, CmpEqualImpliesEq, at, append-nil, filter-append, is_eq, Contains, flat_map, IsStrictlySortedBy, keys_of, get_or-map, All-append, All-cons, All-contains, All-from_recursion, All-head, All-map, All-nil, All-tail, All-weaker, recursion_from_All, length-map, get_or_from_slice_get, slice_get_within}
+use Rattle.adr_view.proofs.OrderLemmas.{InOrder, Behind, each_row, through}
+use Rattle.adr_view.proofs.RowLemmas.{each_there}
 
 -- ---- what they contain
 
@@ -117,3 +117,32 @@ module _ {K L X Y : Type 0} (cmp : K → K → Ordering) (order : L → L → Or
       let its : of b.0 ≡ d.0.0 = All-contains (λ r. of r.0 ≡ d.0.0) (f d.0) b (own d.0) d.2 in
       let less : cmp e.0 d.0.0 ≡ Less = All-contains (λ (r : K × X). Behind cmp e.0 r.0) es d.0 (each_row (Behind cmp e.0) es (All-from_recursion (Behind cmp e.0) (keys_of es) h.0)) d.1 in
       keeps a.0 b.0 (ap₂ cmp mine its ∙ less))
+
+-- ---- rows of one key
+
+-- a key before all others is not among them
+absent : {K V : Type 0} (cmp : K → K → Ordering) (k : K) (es : List (K × V)) → AllByRecursion (Behind cmp k) (keys_of es) → at cmp k es ≡ None
+absent cmp k [] h = refl
+absent cmp k (e ∷ es) h = rw h.0 (absent cmp k es h.1)
+
+-- all pass, or none does
+pub filter_alike : {A : Type 0} (passes : A → Bool) (b : Bool) (xs : List A) → All (λ x. passes x ≡ b) xs → filter passes xs ≡ cond b xs []
+filter_alike passes true [] h = refl
+filter_alike passes false [] h = refl
+filter_alike passes true (x ∷ xs) h = rw (All-head (λ x. passes x ≡ true) x xs h) (ap (λ ys. x ∷ ys) (filter_alike passes true xs (All-tail (λ x. passes x ≡ true) x xs h)))
+filter_alike passes false (x ∷ xs) h = rw (All-head (λ x. passes x ≡ false) x xs h) (filter_alike passes false xs (All-tail (λ x. passes x ≡ false) x xs h))
+
+-- of rows of which some are made of each, those pass that are made of the row of one key
+module _ {K V Y : Type 0} {cmp : K → K → Ordering} (exact : CmpEqualImpliesEq cmp) (f : K × V → List Y) (made : K → Option V → List Y) (none : (k : K) → made k None ≡ []) (some : (e : K × V) → made e.0 (Some e.1) ≡ f e) (passes : Y → Bool) (k : K) (own : (e : K × V) → filter passes (f e) ≡ cond (is_eq (cmp k e.0)) (f e) []) where
+  pub filter_flat : (es : List (K × V)) → InOrder cmp es → filter passes (flat_map f es) ≡ made k (at cmp k es)
+  unfolding IsStrictlySortedBy
+  filter_flat [] h = sym (none k)
+  filter_flat (e ∷ es) h = filter-append passes (f e) (flat_map f es) ∙ ap₂ ◌++◌ (own e) (filter_flat es h.1) ∙ by (cmp k e.0) refl
+    where
+      by : (o : Ordering) → cmp k e.0 ≡ o → cond (is_eq o) (f e) [] ++ made k (at cmp k es) ≡ made k (cond (is_eq o) (Some e.1) (at cmp k es))
+      by Less is = refl
+      by Greater is = refl
+      by Equal is =
+          let same : k ≡ e.0 = exact k e.0 is in
+          let gone : at cmp k es ≡ None = ap (λ k. at cmp k es) same ∙ absent cmp e.0 es h.0 in
+          ap (λ o. f e ++ made k o) gone ∙ ap (λ ys. f e ++ ys) (none k) ∙ append-nil (f e) ∙ sym (some e) ∙ ap (λ k. made k (Some e.1)) (sym same)

@@ -1,10 +1,10 @@
 -- Rows of a map after a put, a removal and a filter: which of them are there, and which keys are found.
 use Rattle.std.proofs.Common.{◌≡◌, ℕ, Bool, true, false, not, ◌==◌, List, [], ◌∷◌, map, filter, Some, None, Ordering, Less, Equal, Greater, ◌⊎◌, inl, inr, refl, sym, subst, ◌∙◌}
 use Rattle.std.specs.Prelude.{IsSome}
-use Rattle.adr_laws.proofs.Common.{All, Contains, nat_cmp, is_eq, match_ordering, keys_of, remove_entry, is_at, insert_entry, unsigned_tied, false≢true, not-true, cond_both, cond-false, nat_cmp_total, nat_eq_equiv, eq_by_cmp_equiv, map-id, All-cons, All-head, All-tail, All-weaker, All-contains, All-contains_itself, All-filter, filter_passes, IsDistinct-from_sorted, CmpEqualImpliesEq, exact_unsigned, All-map-remove_entry, Contains-from_lookup, tells_apart, at, with_rows}
+use Rattle.adr_view.proofs.Common.{All, Contains, nat_cmp, is_eq, match_ordering, keys_of, remove_entry, is_at, insert_entry, unsigned_tied, false≢true, not-true, cond_both, cond-false, nat_cmp_total, nat_eq_equiv, eq_by_cmp_equiv, map-id, All-cons, All-head, All-tail, All-weaker, All-contains, All-contains_itself, All-filter, filter_passes, IsDistinct-from_sorted, CmpEqualImpliesEq, exact_unsigned, All-map-remove_entry, Contains-from_lookup, tells_apart, at, with_rows}
 use Rattle.std.proofs.lemmas.Map.{lookup-remove_entry}
 use Rattle.adr_state.proofs.LawLemmas.{at-insert_entry}
-use Rattle.adr_laws.proofs.OrderLemmas.{InOrder}
+use Rattle.adr_view.proofs.OrderLemmas.{InOrder}
 
 -- ---- which rows are there
 

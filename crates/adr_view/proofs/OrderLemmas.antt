@@ -1,6 +1,6 @@
 -- Rows whose keys stand in order, each once: after a put, a removal and a filter, and put one after another.
 use Rattle.std.proofs.Common.{◌≡◌, Bool, true, false, cond, List, [], ◌∷◌, filter, Ordering, Less, Equal, Greater, refl, ap, subst, ◌∙◌, arith}
-use Rattle.adr_laws.proofs.Common.{All, AllByRecursion, IsStrictlySortedBy, ordering_reverse, match_ordering, IsTotalOrder, keys_of, remove_entry, insert_entry, get_or-map, All-from_recursion, recursion_from_All, All-weaker, All-map, All-filter, All-keys-insert_entry, All-map-remove_entry, with_rows, map_of}
+use Rattle.adr_view.proofs.Common.{All, AllByRecursion, IsStrictlySortedBy, ordering_reverse, match_ordering, IsTotalOrder, keys_of, remove_entry, insert_entry, get_or-map, All-from_recursion, recursion_from_All, All-weaker, All-map, All-filter, All-keys-insert_entry, All-map-remove_entry, with_rows, map_of}
 use Rattle.std.proofs.lemmas.Map.Entries.{length-keys_of}
 
 -- the keys of rows stand in order, each once

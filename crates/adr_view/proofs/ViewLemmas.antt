@@ -1,7 +1,7 @@
 -- The rows that a mark makes in the view.
 use Rattle.std.proofs.Common.{ℕ, List, [], map}
 use Rattle.std.specs.List.{enumerate_from}
-use Rattle.adr_laws.proofs.Common.{All, Contains, flat_map, cond_both, All-cons, All-contains, All-contains_itself, All-map, All-nil, Base}
+use Rattle.adr_view.proofs.Common.{All, Contains, flat_map, cond_both, All-cons, All-contains, All-contains_itself, All-map, All-nil, Base}
 use Rattle.adr_objects.specs.declared.kind.Kind.{Kind}
 use Rattle.adr_objects.specs.declared.kind.Kind.TheVariants as kind
 use Rattle.adr_objects.specs.declared.body.EventBody.{EventBody}
@@ -18,9 +18,9 @@ use Rattle.adr_view.specs.declared.parts.SplitInterval.{SplitInterval}
 use Rattle.adr_view.specs.declared.view.Content.{Content}
 use Rattle.adr_view.specs.declared.view.Content.TheVariants as content
 use Rattle.adr_view.specs.Views.{weights_of, split_interval, carries, event_row, rows_for, program_rows, event_rows, body_rows, mark_rows, view}
-use Rattle.adr_laws.proofs.KeyLemmas.{view_exact}
-use Rattle.adr_laws.proofs.ListLemmas.{from_flat}
-use Rattle.adr_laws.proofs.RowLemmas.{all_rows, each_there}
+use Rattle.adr_view.proofs.KeyLemmas.{view_exact}
+use Rattle.adr_view.proofs.ListLemmas.{from_flat}
+use Rattle.adr_view.proofs.RowLemmas.{all_rows, each_there}
 
 module _ (base : Base) where
   -- what holds of no rows, of a program's and of an event's holds of those of each mark
