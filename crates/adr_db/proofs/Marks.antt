@@ -1,7 +1,8 @@
 -- A mark that is kept reads back.
-use Rattle.std.proofs.Common.{◌≡◌, ℕ, pos, Bool, true, false, cond, nat_le, List, [], ◌∷◌, Result, Ok, Err, refl, sym, ap, ap₂, ◌∙◌}
+use Rattle.std.proofs.Common.{◌≡◌, ℕ, pos, Bool, true, false, cond, nat_le, List, [], ◌∷◌, Some, Result, Ok, Err, refl, sym, ap, ap₂, ◌∙◌}
 use Rattle.std.specs.String.{string_bytes}
-use Rattle.adr_db.proofs.Common.{Text, Has, Refusal, BadShape, Mark, Live, Dead, MirrorKey}
+use Rattle.std.specs.Prelude.{IfSome}
+use Rattle.adr_db.proofs.Common.{Text, Has, Refusal, BadShape, Mark, Live, Dead, MirrorKey, at, is_eq, mirror_cmp}
 use Rattle.sqlite_rules.proofs.ListLemmas.{all_has}
 use Rattle.adr_text.specs.Moments.{moment_at, last_nanos}
 use Rattle.adr_objects.specs.declared.body.Body.{Body}
@@ -50,3 +51,12 @@ entry_read marks are e kept has reads =
     let it = reads.1 in
     let valid = all_has (λ m. IsMark m.1) marks kept are has in
     ap₂ (λ (key : MirrorKey) (mark : Mark). (key, mark)) (key_kept e.0 kept.0 reads.0) (mark_read it.0 e.1 it.3 kept.1 valid (it.2 ∙ columns_are kept.0 kept.1))
+
+-- what is known of a key is one of the marks
+pub known_is_mark : (marks : List (MirrorKey × Mark)) → AreMarks marks → (key : MirrorKey) → IfSome (at mirror_cmp key marks) IsMark
+known_is_mark [] are key = tt
+known_is_mark (e ∷ marks) are key = by (is_eq (mirror_cmp key e.0)) (known_is_mark marks are.1 key)
+  where
+    by : (b : Bool) → IfSome (at mirror_cmp key marks) IsMark → IfSome (cond b (Some e.1) (at mirror_cmp key marks)) IsMark
+    by true more = are.0
+    by false more = more

@@ -48,3 +48,7 @@ module _ {S : Type 0} (g : Ghosts S) (old new : Held S) where
   abbrev pub RefusesOn : {A T : Type 0} → (Base → Result A Refusal) → Meta → Result T Refusal → Type 0
   RefusesOn decide before result =
       HasCleanDisk (state g new) → IfErr result (λ refusal. (row : Meta) (base : Base) → HoldsBeside row base (state g old) → before ≡ meta_of base → IsRefusalOf refusal (decide base))
+
+  -- after Ok, the answer is right for the base that the tables held beside any numbers, and they hold it still
+  abbrev pub FindsOn : {T E : Type 0} → (Base → T → Type 0) → Result T E → Type 0
+  FindsOn IsRight result = HasCleanDisk (state g new) → IfOk result (λ x. (row : Meta) (base : Base) → HoldsBeside row base (state g old) → IsRight base x × HoldsBeside row base (state g new))

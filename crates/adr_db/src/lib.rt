@@ -15,7 +15,9 @@ mod statement;
 mod ven;
 
 pub use meta::{Meta, put_meta, read_meta};
-pub use mirror::{MarkColumns, MirrorRow, put_mark, read_mark, read_marks, read_mirror};
+pub use mirror::{
+    MarkColumns, MirrorRow, put_mark, read_known, read_mark, read_marks, read_mirror,
+};
 pub use polled::{clear_polled, put_polled, read_polled, read_polled_set};
 pub use probes::read_unseen;
 pub use resource::{

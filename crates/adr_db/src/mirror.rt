@@ -1,5 +1,5 @@
 //! The table `mirror`: what is known of each upstream key.
-ghost use Rattle.std.specs.Prelude.{◌≡◌, [], map, option_map, IfOk, OnOk, IfErr};
+ghost use Rattle.std.specs.Prelude.{◌≡◌, ⊤, [], map, option_map, IfOk, OnOk, IfErr};
 ghost use Rattle.adr_state.specs.Keys.{mirror_cmp, at};
 ghost use Rattle.adr_text.specs.Refusals.{Gives};
 ghost use Rattle.adr_sql.specs.Calls.{Stays};
@@ -10,7 +10,7 @@ ghost use Rattle.adr_db.specs.Refusals.{RefusesToPut, RefusesToPutText, RefusesT
 ghost use Rattle.adr_db.specs.Admitted.{AreColumns, IsMirrorRow, IsEntry, ReadsColumns, ReadsMirrorRow, ReadsMark, ReadsEntry};
 
 use crate::cells::{as_stored, column, kind_number, number};
-use crate::reading::{FromRow, all_of, first_in, table_of};
+use crate::reading::{FromRow, all_of, first_in, first_of, table_of};
 use crate::statement::{rows_of, run};
 use adr_objects::{canonical, read_canonical};
 use adr_state::{Mark, MirrorKey};
@@ -180,6 +180,26 @@ pub fn read_mark<S: Alter>(
         &[kind_number(key.kind).to_sql(), key.id.as_str().to_sql()],
     )?;
     first_in(*rows.allocator(), &rows)
+}
+
+/// What is known of a key, read back as the mark that it has.
+pub fn read_known<S: Alter>(
+    alloc: Global,
+    tx: &mut Transaction<'_, S>,
+    key: &MirrorKey,
+) -> Result<Option<Mark>, Refusal>
+    ensures same_reference { tx.new.conn.ghost_name ≡ tx.old.conn.ghost_name }
+    ensures stays { Stays S.Store tx.old.conn.now tx.new.conn.now result }
+    ensures finds { Finds S.Store tx.old.conn.now tx.new.conn.now (λ kept known. known ≡ at mirror_cmp key.now kept.mirror) result }
+    ensures refused { IfErr result IsOfStore }
+    ensures fails { RefusesToShow S.Store tx.old.conn.now tx.new.conn.now READ_ONE.now (key_row key.now) (CannotReadFirst (λ mark. ⊤) ReadsMark) result }
+{
+    first_of(
+        alloc,
+        tx,
+        READ_ONE,
+        &[kind_number(key.kind).to_sql(), key.id.as_str().to_sql()],
+    )
 }
 
 /// The mirror: programs before events, each by the bytes of its id.

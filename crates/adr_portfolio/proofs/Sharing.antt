@@ -1,25 +1,16 @@
 -- The shares in a program, in the order of its keys, find the participants in the order of the resources.
 use Rattle.std.proofs.Common.{◌≡◌, ℕ, Bool, true, false, ◌&&◌, cond, List, [], ◌∷◌, map, filter, Option, Some, None, refl, sym, ap, ap₂, subst, ◌∙◌, Ordering, Less, Equal, Greater, is_eq}
 use Rattle.std.specs.Prelude.{option_map, option_and_then}
-use Rattle.adr_db.proofs.Common.{nat_cmp, ordering_then, ordering_reverse, AllByRecursion, filter_map, cons_option, nat_cmp_total, IsAscending, all_weaker, ascending_weaker, ascending_from_map, State, Resource, Ven, ShareKey, Participant, id_cmp, share_cmp, at, key_order, ties, then_eq, text_same}
+use Rattle.adr_db.proofs.Common.{nat_cmp, ordering_then, ordering_reverse, AllByRecursion, filter_map, cons_option, nat_cmp_total, IsAscending, all_weaker, State, Resource, Ven, ShareKey, Participant, id_cmp, share_cmp, at, ties, then_eq, text_same}
 use Rattle.adr_objects.specs.declared.body.EventBody.{EventBody}
 use Rattle.adr_state.specs.Participants.{is_for, as_participant, participant_of, participants}
-use Rattle.adr_db.specs.Rows.{share_row}
 use Rattle.adr_db.specs.Kept.{Kept, Keeps}
 use Rattle.adr_db.specs.Sharing.{is_in, sharers}
-use Rattle.adr_db.proofs.Rows.{share_codec, number_same_is}
+use Rattle.adr_db.proofs.Rows.{number_same_is}
 use Rattle.adr_db.proofs.Rises.{resources_rise, shares_rise}
-use Rattle.adr_portfolio.specs.Parts.{parts_of, part_of, parts_for}
+use Rattle.adr_portfolio.specs.Parts.{those_for}
 
 -- ---- lists
-
-map-filter_map : {X Y Z : Type 0} (f : Y → Z) (h : X → Option Y) (xs : List X) → map f (filter_map h xs) ≡ filter_map (λ x. option_map f (h x)) xs
-map-filter_map f h [] = refl
-map-filter_map {X} {Y} {Z} f h (x ∷ xs) = by (h x) (map-filter_map f h xs)
-  where
-    by : (o : Option Y) → map f (filter_map h xs) ≡ filter_map (λ x. option_map f (h x)) xs → map f (cons_option o (filter_map h xs)) ≡ cons_option (option_map f o) (filter_map (λ x. option_map f (h x)) xs)
-    by None more = more
-    by (Some y) more = ap (λ l. f y ∷ l) more
 
 filter_map-filter_map : {X Y Z : Type 0} (g : Y → Option Z) (h : X → Option Y) (xs : List X) → filter_map g (filter_map h xs) ≡ filter_map (λ x. option_and_then g (h x)) xs
 filter_map-filter_map g h [] = refl
@@ -32,6 +23,18 @@ filter_map-filter_map {X} {Y} {Z} g h (x ∷ xs) = by (h x) (filter_map-filter_m
 filter_map-map : {X Y Z : Type 0} (h : Y → Option Z) (f : X → Y) (xs : List X) → filter_map h (map f xs) ≡ filter_map (λ x. h (f x)) xs
 filter_map-map h f [] = refl
 filter_map-map h f (x ∷ xs) = ap (cons_option (h (f x))) (filter_map-map h f xs)
+
+-- one that gives each that passes
+abbrev if_passes : {X : Type 0} → (X → Bool) → X → Option X
+if_passes passes x = cond (passes x) (Some x) None
+
+filter_map-filter : {X : Type 0} (passes : X → Bool) (xs : List X) → filter_map (if_passes passes) xs ≡ filter passes xs
+filter_map-filter passes [] = refl
+filter_map-filter passes (x ∷ xs) = by (passes x) (filter_map-filter passes xs)
+  where
+    by : (b : Bool) → filter_map (if_passes passes) xs ≡ filter passes xs → cons_option (cond b (Some x) None) (filter_map (if_passes passes) xs) ≡ cond b (x ∷ filter passes xs) (filter passes xs)
+    by true more = ap (λ ys. x ∷ ys) more
+    by false more = more
 
 -- ---- two maps by number, each looked up from the other
 
@@ -162,12 +165,15 @@ module _ (kept : Kept) (event : EventBody) where
   abbrev shared : ℕ × Resource → Option ℕ → Option Ven → Option Participant
   shared r weight ven = option_and_then (λ (w : ℕ). option_map (λ (v : Ven). record { resource = r.0; weight = w; name = r.1.name; ven_name = v.name }) ven) weight
 
-  -- its part, with its name tested before or behind
-  part_is : (r : ℕ × Resource) → option_map (λ (p : Participant). (p.resource, p.weight)) (participant_of kept.portfolio event r) ≡ option_and_then (part_of event.resource_names) (as_participant kept.portfolio event.program r)
-  part_is r = by (is_for event.resource_names r.1.name) refl (at share_cmp (record { program = event.program; resource = r.0 }) kept.portfolio.shares) (at nat_cmp r.1.ven kept.portfolio.vens)
+  abbrev has_its_name : Participant → Bool
+  has_its_name p = is_for event.resource_names p.name
+
+  -- a participant, with its name tested before or behind
+  participant_is : (r : ℕ × Resource) → participant_of kept.portfolio event r ≡ option_and_then (if_passes has_its_name) (as_participant kept.portfolio event.program r)
+  participant_is r = by (is_for event.resource_names r.1.name) refl (at share_cmp (record { program = event.program; resource = r.0 }) kept.portfolio.shares) (at nat_cmp r.1.ven kept.portfolio.vens)
     where
       by : (b : Bool) → is_for event.resource_names r.1.name ≡ b → (weight : Option ℕ) (ven : Option Ven)
-          → option_map (λ (p : Participant). (p.resource, p.weight)) (cond b (shared r weight ven) None) ≡ option_and_then (part_of event.resource_names) (shared r weight ven)
+          → cond b (shared r weight ven) None ≡ option_and_then (if_passes has_its_name) (shared r weight ven)
       by true is None ven = refl
       by true is (Some w) None = refl
       by true is (Some w) (Some v) = rw is refl
@@ -175,9 +181,9 @@ module _ (kept : Kept) (event : EventBody) where
       by false is (Some w) None = refl
       by false is (Some w) (Some v) = rw is refl
 
-  pub parts_are : (s : State) → Keeps kept s → parts_of (participants kept.portfolio event) ≡ parts_for event.resource_names (sharers event.program kept)
-  parts_are s was =
-      map-filter_map (λ (p : Participant). (p.resource, p.weight)) (participant_of kept.portfolio event) kept.portfolio.resources
-      ∙ ap (λ (h : ℕ × Resource → Option (ℕ × ℕ)). filter_map h kept.portfolio.resources) (λ i r. part_is r i)
-      ∙ sym (filter_map-filter_map (part_of event.resource_names) (as_participant kept.portfolio event.program) kept.portfolio.resources)
-      ∙ ap (filter_map (part_of event.resource_names)) (sharers_are s was)
+  pub participants_are : (s : State) → Keeps kept s → participants kept.portfolio event ≡ those_for event.resource_names (sharers event.program kept)
+  participants_are s was =
+      ap (λ (h : ℕ × Resource → Option Participant). filter_map h kept.portfolio.resources) (λ i r. participant_is r i)
+      ∙ sym (filter_map-filter_map (if_passes has_its_name) (as_participant kept.portfolio event.program) kept.portfolio.resources)
+      ∙ ap (filter_map (if_passes has_its_name)) (sharers_are s was)
+      ∙ filter_map-filter has_its_name (sharers event.program kept)
