@@ -1,0 +1,97 @@
+//! What is shown of one upstream event.
+ghost use Rattle.std.specs.Prelude.{◌≡◌, IfOk, IfErr};
+ghost use Rattle.adr_sql.specs.Calls.{Stays};
+ghost use Rattle.adr_view.specs.Views.{rows_for, event_rows, event_key, rows_known};
+ghost use Rattle.adr_db.specs.Calls.{IsOfStore};
+ghost use Rattle.adr_db.specs.BaseCalls.{FindsOn};
+ghost use Rattle.adr_events.specs.Shown.{IsShown};
+
+use adr_db::read_known;
+use adr_objects::{Body, EventBody, Kind};
+use adr_portfolio::named_participants;
+use adr_state::{Mark, MirrorKey, Participant, ViewKey};
+use adr_text::{ObjectId, Refusal, Rows};
+use adr_view::{Content, carries, rows_for};
+use sqlite::{Alter, Transaction};
+use std::alloc::{AllocError, Global};
+
+// The upstream key of an event.
+fn event_key(id: &ObjectId) -> Result<MirrorKey, AllocError>
+    ensures { IfOk result (λ key. key ≡ event_key id.now) }
+{
+    Ok(MirrorKey {
+        kind: Kind::Event,
+        id: id.clone()?,
+    })
+}
+
+// What those who take part are shown. More of them than a node has resources is the store's refusal.
+fn rows_of(
+    alloc: Global,
+    id: &ObjectId,
+    event: &EventBody,
+    ps: &[Participant],
+) -> Result<Rows<(ViewKey, Content)>, Refusal>
+    ensures rows { IfOk result (λ rows. rows ≡ rows_for id.now event.now ps.now) }
+    ensures refused { IfErr result IsOfStore }
+{
+    if ps.len() > 10_000 {
+        return Err(Refusal::Store);
+    }
+    Ok(rows_for(alloc, id, event, ps)?)
+}
+
+// What is shown of an event whose body was read.
+fn event_rows<S: Alter>(
+    alloc: Global,
+    tx: &mut Transaction<'_, S>,
+    id: &ObjectId,
+    event: &EventBody,
+) -> Result<Rows<(ViewKey, Content)>, Refusal>
+    ensures same_reference { tx.new.conn.ghost_name ≡ tx.old.conn.ghost_name }
+    ensures stays { Stays S.Store tx.old.conn.now tx.new.conn.now result }
+    ensures finds { FindsOn S.Store tx.old.conn.now tx.new.conn.now (λ base rows. rows ≡ event_rows base id.now event.now) result }
+    ensures refused { IfErr result IsOfStore }
+{
+    if !carries(event) {
+        return Ok(Rows::new(alloc));
+    }
+    let ps = named_participants(alloc, tx, event)?;
+    rows_of(alloc, id, event, ps.as_slice())
+}
+
+// What is shown of an event of which this is known.
+fn rows_known<S: Alter>(
+    alloc: Global,
+    tx: &mut Transaction<'_, S>,
+    id: &ObjectId,
+    known: &Option<Mark>,
+) -> Result<Rows<(ViewKey, Content)>, Refusal>
+    ensures same_reference { tx.new.conn.ghost_name ≡ tx.old.conn.ghost_name }
+    ensures stays { Stays S.Store tx.old.conn.now tx.new.conn.now result }
+    ensures finds { FindsOn S.Store tx.old.conn.now tx.new.conn.now (λ base rows. rows ≡ rows_known base (event_key id.now) known.now) result }
+    ensures refused { IfErr result IsOfStore }
+{
+    match known {
+        Some(Mark::Live(_, Body::Event(event))) => event_rows(alloc, tx, id, event),
+        _ => Ok(Rows::new(alloc)),
+    }
+}
+
+/// What is shown of an upstream event: for each of its participants, in the order of their numbers, its key
+/// with its content; nothing where the event is not live, has no event body that was read, carries no
+/// setpoint, or has no participant. It costs a look-up of a resource and a ven for each share in the event's
+/// program.
+pub fn shown<S: Alter>(
+    alloc: Global,
+    tx: &mut Transaction<'_, S>,
+    event: &ObjectId,
+) -> Result<Rows<(ViewKey, Content)>, Refusal>
+    ensures same_reference { tx.new.conn.ghost_name ≡ tx.old.conn.ghost_name }
+    ensures stays { Stays S.Store tx.old.conn.now tx.new.conn.now result }
+    ensures finds { FindsOn S.Store tx.old.conn.now tx.new.conn.now (IsShown event.now) result }
+    ensures refused { IfErr result IsOfStore }
+{
+    let known = read_known(alloc, tx, &event_key(event)?)?;
+    rows_known(alloc, tx, event, &known)
+}
