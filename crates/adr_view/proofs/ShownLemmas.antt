@@ -97,9 +97,6 @@ module _ (base : Base) (id : List ℕ) where
       filter_alike passes (is_eq (mirror_cmp (event_key id) e.0)) (mark_rows base e)
       (each_by_mark base (λ k r. passes r ≡ is_eq (mirror_cmp (event_key id) k)) (λ other name. refl) (λ other event splits p. refl) e)
 
-  some_known : (e : MirrorKey × Mark) → rows_known base e.0 (Some e.1) ≡ mark_rows base e
-  some_known e = refl
-
 pub shown_is_of_view : ShownIsOfTheView
 shown_is_of_view base id stands =
-    ap (filter (λ r. is_of id r.0)) (view_made base stands) ∙ filter_flat mirror_exact (mark_rows base) (rows_known base) (λ k. refl) (some_known base id) (λ r. is_of id r.0) (event_key id) (its_rows base id) base.mirror stands.upstream_keys
+    ap (filter (λ r. is_of id r.0)) (view_made base stands) ∙ filter_flat mirror_exact (mark_rows base) (rows_known base) (λ k. refl) (λ e. refl) (λ r. is_of id r.0) (event_key id) (its_rows base id) base.mirror stands.upstream_keys
