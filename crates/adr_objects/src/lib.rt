@@ -24,7 +24,8 @@ pub use number::Number;
 pub use read_body::read_canonical;
 pub use setpoint::{Priority, Setpoint};
 pub use shown::{
-    EventObject, ResourceObject, ShareObject, ShownEvent, ShownInterval, Stamps, VenObject,
+    EventObject, ProgramObject, ResourceObject, ShareObject, ShownEvent, ShownInterval, Stamps,
+    VenObject,
 };
 pub use site::{ResourceIn, ResourceName, ShareIn, VenIn};
 pub use text::{EventName, PeriodText, Text};

@@ -37,6 +37,14 @@ pub struct ShownEvent {
     pub resource_name: Name,
 }
 
+/// A program of the utility (OpenADR 3.0, PROGRAM).
+#[derive(Clone, PartialEq, Eq, Drop)]
+pub struct ProgramObject {
+    pub id: ObjectId,
+    pub name: Name,
+    pub stamps: Stamps,
+}
+
 /// A shown event, with its id's two parts and its stamps.
 #[derive(Clone, Drop)]
 pub struct EventObject {

@@ -10,11 +10,12 @@ use Rattle.adr_text.specs.declared.refusal.Refusal.{Refusal}
 use Rattle.adr_objects.specs.declared.interval.Period.{Period}
 use Rattle.adr_objects.specs.declared.shown.ShownInterval.{ShownInterval}
 use Rattle.adr_objects.specs.declared.shown.EventObject.{EventObject}
+use Rattle.adr_objects.specs.declared.shown.ProgramObject.{ProgramObject}
 use Rattle.adr_objects.specs.declared.shown.VenObject.{VenObject}
 use Rattle.adr_objects.specs.declared.shown.ResourceObject.{ResourceObject}
 use Rattle.adr_objects.specs.declared.shown.ShareObject.{ShareObject}
 use Rattle.adr_objects.specs.Canonical.{natural_data, period_fields, period_data}
-use Rattle.adr_schema.specs.Objects.{values_fields, values_data, payloads_data, shown_interval_fields, shown_interval_data, targets_data, event_object_fields, event_object_data, ven_object_fields, ven_object_data, resource_object_fields, resource_object_data, share_object_fields, share_object_data, problem_fields, problem_data}
+use Rattle.adr_schema.specs.Objects.{values_fields, values_data, payloads_data, shown_interval_fields, shown_interval_data, targets_data, event_object_fields, event_object_data, program_object_fields, program_object_data, ven_object_fields, ven_object_data, resource_object_fields, resource_object_data, share_object_fields, share_object_data, problem_fields, problem_data}
 
 whole_plain : (n : ℕ) (z : ℤ) → IsPlain n (whole_data z)
 whole_plain n (pos k) = record { no_float = refl; flat = omega arith }
@@ -81,6 +82,10 @@ event_object_plain e =
 
 -- ---- other objects
 
+program_object_plain : (p : ProgramObject) → IsPlain 1 (program_object_data p)
+unfolding program_object_data
+program_object_plain p = object_of_plain 0 (program_object_fields p) (string_plain 0 _, (string_plain 0 _, (string_plain 0 _, (string_plain 0 _, (string_plain 0 _, tt)))))
+
 ven_object_plain : (v : VenObject) → IsPlain 1 (ven_object_data v)
 unfolding ven_object_data
 ven_object_plain v = object_of_plain 0 (ven_object_fields v) (string_plain 0 _, (string_plain 0 _, (string_plain 0 _, (string_plain 0 _, (string_plain 0 _, tt)))))
@@ -105,6 +110,9 @@ event_object_whole e = (event_object_plain e).no_float
 
 pub event_objects_whole : (es : List EventObject) → has_float (array_of (map event_object_data es)) ≡ false
 event_objects_whole es = let all = array_of_plain 6 event_object_data event_object_plain es in all.no_float
+
+pub program_object_whole : (p : ProgramObject) → has_float (program_object_data p) ≡ false
+program_object_whole p = (program_object_plain p).no_float
 
 pub ven_object_whole : (v : VenObject) → has_float (ven_object_data v) ≡ false
 ven_object_whole v = (ven_object_plain v).no_float

@@ -8,6 +8,7 @@ use Rattle.adr_text.specs.Refusals.{title_of, detail_of, status_of}
 use Rattle.adr_text.specs.declared.refusal.Refusal.{Refusal}
 use Rattle.adr_objects.specs.declared.shown.ShownInterval.{ShownInterval}
 use Rattle.adr_objects.specs.declared.shown.EventObject.{EventObject}
+use Rattle.adr_objects.specs.declared.shown.ProgramObject.{ProgramObject}
 use Rattle.adr_objects.specs.declared.shown.VenObject.{VenObject}
 use Rattle.adr_objects.specs.declared.shown.ResourceObject.{ResourceObject}
 use Rattle.adr_objects.specs.declared.shown.ShareObject.{ShareObject}
@@ -71,6 +72,18 @@ event_object_fields e = event_object_head e ++ event_object_tail e
 unfoldable pub event_object_data : EventObject → Data
 event_object_data e = object_of (event_object_fields e)
 
+abbrev pub program_object_fields : ProgramObject → List (List ℕ × Option Data)
+program_object_fields p =
+    (codes "createdDateTime", Some (moment_data p.stamps.created))
+    ∷ (codes "id", Some (string p.id))
+    ∷ (codes "modificationDateTime", Some (moment_data p.stamps.modified))
+    ∷ (codes "objectType", Some (string (codes "PROGRAM")))
+    ∷ (codes "programName", Some (string p.name))
+    ∷ []
+
+unfoldable pub program_object_data : ProgramObject → Data
+program_object_data p = object_of (program_object_fields p)
+
 abbrev pub ven_object_fields : VenObject → List (List ℕ × Option Data)
 ven_object_fields v =
     (codes "createdDateTime", Some (moment_data v.stamps.created))
@@ -123,6 +136,9 @@ event_text e = compact_text (event_object_data e)
 
 unfoldable pub events_text : List EventObject → List ℕ
 events_text es = compact_text (array_of (map event_object_data es))
+
+unfoldable pub program_text : ProgramObject → List ℕ
+program_text p = compact_text (program_object_data p)
 
 unfoldable pub ven_text : VenObject → List ℕ
 ven_text v = compact_text (ven_object_data v)

@@ -17,13 +17,15 @@ mod write_fields;
 
 pub use adr_objects::{
     Body, EventBody, EventName, EventObject, Found, Interval, Intervals, Kind, NameSet, Number,
-    Period, PeriodText, Priority, Reason, ResourceIn, ResourceName, ResourceObject, Setpoint,
-    ShareIn, ShareObject, ShownEvent, ShownInterval, Stamps, Text, UpstreamId, VenIn, VenObject,
-    canonical, read_canonical,
+    Period, PeriodText, Priority, ProgramObject, Reason, ResourceIn, ResourceName, ResourceObject,
+    Setpoint, ShareIn, ShareObject, ShownEvent, ShownInterval, Stamps, Text, UpstreamId, VenIn,
+    VenObject, canonical, read_canonical,
 };
 pub use ids::{resource_id, shown_id, ven_id};
 pub use notice::NoticeIn;
 pub use read_found::{read_one, read_page};
 pub use read_notices::read_notice;
 pub use read_site::{read_resource, read_share, read_ven};
-pub use write::{write_event, write_events, write_problem, write_resource, write_share, write_ven};
+pub use write::{
+    write_event, write_events, write_problem, write_program, write_resource, write_share, write_ven,
+};

@@ -2,11 +2,13 @@
 ghost use Rattle.std.specs.Prelude.{◌≡◌, [], ◌∷◌, map, IfOk, OnOk, option_map, string_bytes};
 ghost use Rattle.serde_json.specs.View.{view, members_view};
 ghost use Rattle.adr_text.specs.Objects.{add_all, array_of, whole_data};
-ghost use Rattle.adr_schema.specs.Objects.{values_data, payloads_data, targets_data, shown_interval_data, event_object_head, event_object_tail, event_object_data, ven_object_data, resource_object_data, share_object_data, problem_data, event_text, events_text, ven_text, resource_text, share_text, problem_text};
+ghost use Rattle.adr_schema.specs.Objects.{values_data, payloads_data, targets_data, shown_interval_data, event_object_head, event_object_tail, event_object_data, program_object_data, ven_object_data, resource_object_data, share_object_data, problem_data, event_text, events_text, program_text, ven_text, resource_text, share_text, problem_text};
 
 use crate::ids::{resource_id, shown_id, ven_id};
 use crate::write_fields::{compact, put_text, valued};
-use adr_objects::{EventObject, ResourceObject, ShareObject, ShownInterval, VenObject};
+use adr_objects::{
+    EventObject, ProgramObject, ResourceObject, ShareObject, ShownInterval, VenObject,
+};
 use adr_text::{Name, Refusal, ToJson, put, put_maybe};
 use serde_json::{Map, Value};
 use std::alloc::{AllocError, Global};
@@ -129,6 +131,29 @@ fn event_objects(alloc: Global, events: &[EventObject]) -> Result<Value, AllocEr
     Ok(Value::Array(values))
 }
 
+#[tactic(auto, unfolding(crate::specs::Objects::program_object_data))]
+fn program_object(alloc: Global, program: &ProgramObject) -> Result<Value, AllocError>
+    ensures { IfOk result (λ v. view v ≡ program_object_data program.now) }
+{
+    let mut members = Map::new(alloc);
+    put(
+        &mut members,
+        alloc,
+        "createdDateTime",
+        &program.stamps.created,
+    )?;
+    put(&mut members, alloc, "id", &program.id)?;
+    put(
+        &mut members,
+        alloc,
+        "modificationDateTime",
+        &program.stamps.modified,
+    )?;
+    put_text(&mut members, alloc, "objectType", "PROGRAM")?;
+    put(&mut members, alloc, "programName", &program.name)?;
+    Ok(Value::Object(members))
+}
+
 #[tactic(auto, unfolding(crate::specs::Objects::ven_object_data))]
 fn ven_object(alloc: Global, ven: &VenObject) -> Result<Value, AllocError>
     ensures { IfOk result (λ v. view v ≡ ven_object_data ven.now) }
@@ -213,6 +238,14 @@ pub fn write_events(alloc: Global, events: &[EventObject]) -> Result<String, All
     ensures { IfOk result (λ s. string_bytes s ≡ events_text events.now) }
 {
     compact(alloc, event_objects(alloc, events)?)
+}
+
+/// The text of a program (OpenADR 3.0, PROGRAM).
+#[tactic(auto, using(crate::proofs::NoFloats::program_object_whole), unfolding(crate::specs::Objects::program_text))]
+pub fn write_program(alloc: Global, program: &ProgramObject) -> Result<String, AllocError>
+    ensures { IfOk result (λ s. string_bytes s ≡ program_text program.now) }
+{
+    compact(alloc, program_object(alloc, program)?)
 }
 
 /// The text of a ven (OpenADR 3.0, VEN).
