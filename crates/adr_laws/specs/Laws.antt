@@ -6,6 +6,7 @@ use Rattle.std.specs.Map.{keys_of, values_of}
 use Rattle.std.specs.Ordering.{nat_cmp}
 use Rattle.adr_text.specs.declared.refusal.Refusal.{Refusal}
 use Rattle.adr_objects.specs.declared.body.EventBody.{EventBody}
+use Rattle.adr_objects.specs.declared.kind.Kind.{Kind}
 use Rattle.adr_state.specs.declared.base.Base.{Base}
 use Rattle.adr_state.specs.declared.portfolio.Ven.{Ven}
 use Rattle.adr_state.specs.declared.portfolio.Resource.{Resource}
@@ -13,6 +14,7 @@ use Rattle.adr_state.specs.declared.base.Mark.{Mark}
 use Rattle.adr_state.specs.declared.base.Mark.TheVariants.{Dead}
 use Rattle.adr_state.specs.declared.keys.MirrorKey.{MirrorKey}
 use Rattle.adr_state.specs.declared.keys.ShareKey.{ShareKey}
+use Rattle.adr_state.specs.declared.keys.ViewKey.{ViewKey}
 use Rattle.adr_state.specs.declared.keys.ViewKey.TheVariants as key
 use Rattle.adr_state.specs.declared.limits.Settings.{Settings}
 use Rattle.adr_state.specs.declared.state.State.{State}
@@ -22,6 +24,7 @@ use Rattle.adr_state.specs.Mirror.{evidence_of}
 use Rattle.adr_state.specs.Participants.{participants}
 use Rattle.adr_state.specs.States.{empty}
 use Rattle.adr_state.specs.Weights.{most_weight}
+use Rattle.adr_view.specs.declared.view.Content.{Content}
 use Rattle.adr_view.specs.Views.{view}
 use Rattle.adr_view.specs.Laws.{StandsInOrder}
 use Rattle.adr_machine.specs.declared.answer.Answer.{Answer}
@@ -29,11 +32,12 @@ use Rattle.adr_machine.specs.declared.command.Command.{Command}
 use Rattle.adr_machine.specs.declared.command.Command.TheVariants.{Evidence, Gone}
 use Rattle.adr_machine.specs.declared.sight.Sight.{Sight}
 use Rattle.adr_machine.specs.Runs.{state_after, stands, step_at, IsRun}
-use Rattle.adr_machine.specs.Steps.{sees, events_in_sight}
+use Rattle.adr_machine.specs.declared.answer.Object.{Object}
+use Rattle.adr_machine.specs.Shown.{rows_in_sight, objects_in_sight, object_shown}
 use Rattle.adr_laws.specs.Enrolled.{enrolled}
 use Rattle.adr_laws.specs.ShownParts.{IsLive, IsSharedOut}
 use Rattle.adr_laws.specs.Standing.{answers_of, state_of, standing}
-use Rattle.adr_laws.specs.Told.{is_of_event, Tells}
+use Rattle.adr_laws.specs.Told.{Tells}
 
 -- what a command tells of upstream keys
 abbrev pub evidence_in : Command → List (MirrorKey × Mark)
@@ -155,11 +159,15 @@ StampsAreOfTheView = (settings : Settings) (cs : List (ℕ × Command)) → IsSt
 abbrev pub StampsAreInTime : Type 0
 StampsAreInTime = (settings : Settings) (cs : List (ℕ × Command)) → IsNonDecreasing (map (λ c. c.0) cs) → All (λ stamps. stamps.created ≤ stamps.modified) (values_of (state_of (step_at settings) empty cs).stamps)
 
--- ---- events in sight
+-- ---- programs and events in sight
 
--- where what is shown is stamped, the events in sight are those at all keys of events that are in sight, one by one and in order: none lacks for want of stamps
-abbrev pub EventsLackNone : Type 0
-EventsLackNone = (s : State) (sight : Sight) → IsStampedAsShown s → AllZip (Tells s.stamps) (filter (λ r. is_of_event r.0) (filter (λ r. sees s.base sight r.0) (view s.base))) (events_in_sight s sight)
+-- where what is shown is stamped, the programs, or the events, in sight are those at all their keys that are in sight, one by one and in order: none lacks for want of stamps
+abbrev pub ObjectsLackNone : Type 0
+ObjectsLackNone = (s : State) (kind : Kind) (sight : Sight) → IsStampedAsShown s → AllZip (Tells s.stamps) (rows_in_sight s.base kind sight) (objects_in_sight s kind sight)
+
+-- and what stands at a key is told: it never counts as not there for want of stamps
+abbrev pub ShownIsTold : Type 0
+ShownIsTold = (s : State) (key : ViewKey) (c : Content) → IsStampedAsShown s → at view_cmp key (view s.base) ≡ Some c → (o : Object) × (object_shown s key ≡ Some o) × Tells s.stamps (key, c) o
 
 -- ---- runs over desks
 

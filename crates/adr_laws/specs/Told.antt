@@ -1,5 +1,5 @@
 -- What an object tells of what is shown.
-use Rattle.std.specs.Prelude.{◌≡◌, Bool, true, false, List, Some}
+use Rattle.std.specs.Prelude.{◌≡◌, List, Some}
 use Rattle.adr_objects.specs.declared.shown.Stamps.{Stamps}
 use Rattle.adr_state.specs.declared.keys.ViewKey.{ViewKey}
 use Rattle.adr_state.specs.declared.keys.ViewKey.TheVariants as key
@@ -9,13 +9,9 @@ use Rattle.adr_view.specs.declared.view.Content.TheVariants as content
 use Rattle.adr_machine.specs.declared.answer.Object.{Object}
 use Rattle.adr_machine.specs.declared.answer.Object.TheVariants as object
 
--- whether an event is shown at a key
-abbrev pub is_of_event : ViewKey → Bool
-is_of_event (key.Event event resource) = true
-is_of_event (key.Program id) = false
-
 -- an object tells what is shown at a key, and the stamps that stand there
 abbrev pub Tells : List (ViewKey × Stamps) → ViewKey × Content → Object → Type 0
+Tells stamps (key.Program id, content.Program name) told = (s : Stamps) × (at view_cmp (key.Program id) stamps ≡ Some s) × (told ≡ object.Program (record { id = id; name = name; stamps = s }))
 Tells stamps (key.Event event resource, content.Event shown) told =
     (s : Stamps) × (at view_cmp (key.Event event resource) stamps ≡ Some s) × (told ≡ object.Event (record { resource = resource; event = event; shown = shown; stamps = s }))
 Tells stamps _ told = ⊥

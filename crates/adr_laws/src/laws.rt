@@ -1,5 +1,5 @@
 //! Laws over whole runs.
-ghost use Rattle.adr_laws.specs.Laws.{MirrorIsGreatest, PortfolioIsWhole, RowsStandInOrder, ParticipantsLackNone, ShownPartsSumUp, ShownPartsSumUpAfterRuns, OnlyLiveEventsAreShown, EventsLackNone, NumbersAreOwn, NumbersAreDrawnOnce, StampsAreOfTheView, StampsAreInTime, RunsAreOfTheStepsThatStand};
+ghost use Rattle.adr_laws.specs.Laws.{MirrorIsGreatest, PortfolioIsWhole, RowsStandInOrder, ParticipantsLackNone, ShownPartsSumUp, ShownPartsSumUpAfterRuns, OnlyLiveEventsAreShown, ObjectsLackNone, ShownIsTold, NumbersAreOwn, NumbersAreDrawnOnce, StampsAreOfTheView, StampsAreInTime, RunsAreOfTheStepsThatStand};
 
 /// After any run from an empty start, the mirror at a key is the greatest mark in all accepted evidence
 /// for it, whatever was lost, repeated or reordered.
@@ -53,10 +53,11 @@ pub fn stamps_are_of_the_view()
     ensures time { StampsAreInTime }
 {}
 
-/// Where what is shown is stamped, the events in sight are exactly those at all keys of events that are in sight,
-/// in order, each with its stamps.
-pub fn events_lack_none()
-    ensures { EventsLackNone }
+/// Where what is shown is stamped, the programs and the events in sight are exactly those at all their keys that
+/// are in sight, in order, each with its stamps; and what is shown at a key is told, and never as if it were not there.
+pub fn objects_lack_none()
+    ensures listed { ObjectsLackNone }
+    ensures one { ShownIsTold }
 {}
 
 /// Of whatever a run over a desk answers, the answers that stand are the machine's over the commands that

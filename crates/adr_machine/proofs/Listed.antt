@@ -25,6 +25,7 @@ use Rattle.adr_state.specs.Shares.{weight_set, share_of, share_set}
 use Rattle.adr_state.specs.Resources.{is_under, resource_at, resource_under, resource_add, resource_put, resource_remove}
 use Rattle.adr_state.specs.Vens.{ven_with_id, ven_at, ven_add, ven_put, ven_remove}
 use Rattle.adr_machine.specs.declared.answer.Answer.{Answer}
+use Rattle.adr_machine.specs.declared.answer.Object.{Object}
 use Rattle.adr_machine.specs.declared.command.Command.{Command}
 use Rattle.adr_machine.specs.declared.command.Command.TheVariants.{Evidence, Gone, ScanBegin, ScanEnd, VenAdd, VenPut, VenRemove, ResourceAdd, ResourcePut, ResourceRemove, ShareSet}
 use Rattle.adr_machine.specs.declared.query.Query.{Query}
@@ -36,6 +37,7 @@ use Rattle.adr_machine.specs.declared.role.Role.TheVariants as role
 use Rattle.adr_machine.specs.Roles.{sight_by, sight_of}
 use Rattle.adr_machine.specs.Edits.{is_allowed, draws_number, of_portfolio, decided, edit_of, edit}
 use Rattle.adr_machine.specs.Listed.{listed, listed_for, is_of_machine, IsListed}
+use Rattle.adr_machine.specs.Shown.{told, resource_part, event_part, resource_named, event_shown, event_told, event_named}
 use Rattle.adr_machine.specs.Listings.{sees_ven, ven_told, resources_told, resource_told}
 use Rattle.adr_machine.specs.Runs.{AreListed}
 use Rattle.adr_machine.specs.Steps.{committed, step, reply, probes_reply}
@@ -158,6 +160,18 @@ module _ (P : Refusal → Type 0) (base : Base) (forbidden : P Forbidden) where
   shown sees x = either P sees (Ok x) (Err Forbidden) (never P x) (record { so = forbidden })
 
   module _ (missing : P NotFound) (sight : Sight) where
+    told_so : (o : Option Object) → Refuses P (told o)
+    told_so None = record { so = missing }
+    told_so (Some o) = never P _
+
+    event_so : (s : State) (resource : List ℕ) (event : Option (List ℕ)) → Refuses P (event_named s sight resource event)
+    event_so s resource None = record { so = missing }
+    event_so s resource (Some event) = by (resource_named s.base.portfolio resource)
+      where
+        by : (o : Option (ℕ × Resource)) → Refuses P (event_told s sight event o)
+        by None = record { so = missing }
+        by (Some (n, r)) = either P (sees_ven sight r.ven) _ _ (told_so (event_shown s n event)) (record { so = forbidden })
+
     ven_so : (o : Option (ℕ × Ven)) → Refuses P (ven_told sight o)
     ven_so None = record { so = missing }
     ven_so (Some (n, ven)) = shown _ _
@@ -176,7 +190,10 @@ scan_told limit base (Some polled) = never _ _
 
 reply_so : (s : State) (q : Query) → Refuses (Contains (listed_for q)) (reply s q)
 unfolding reply
+reply_so s (query.Programs role page) = first_then _ _ _ (sight_so _ s.base (0, omega arith, refl) role) (λ sight. never _ _)
+reply_so s (query.Program role id) = first_then _ _ _ (sight_so _ s.base (0, omega arith, refl) role) (λ sight. told_so _ s.base (0, omega arith, refl) (1, omega arith, refl) sight _)
 reply_so s (query.Events role page) = first_then _ _ _ (sight_so _ s.base (0, omega arith, refl) role) (λ sight. never _ _)
+reply_so s (query.Event role id) = first_then _ _ _ (sight_so _ s.base (0, omega arith, refl) role) (λ sight. event_so _ s.base (0, omega arith, refl) (1, omega arith, refl) sight s (resource_part id) (event_part id))
 reply_so s (query.Vens role page) = first_then _ _ _ (sight_so _ s.base (0, omega arith, refl) role) (λ sight. never _ _)
 reply_so s (query.Ven role id) = first_then _ _ _ (sight_so _ s.base (0, omega arith, refl) role) (λ sight. ven_so _ s.base (0, omega arith, refl) (1, omega arith, refl) sight _)
 reply_so s (query.Resources role ven page) = first_then _ _ _ (sight_so _ s.base (0, omega arith, refl) role) (λ sight. resources_so _ s.base (0, omega arith, refl) (1, omega arith, refl) sight page _)
@@ -203,7 +220,10 @@ listed_of_machine (ResourceRemove role ven id) = refl
 listed_of_machine (ShareSet role program resource share) = refl
 
 pub listed_for_of_machine : (q : Query) → list_all is_of_machine (listed_for q) ≡ true
+listed_for_of_machine (query.Programs role page) = refl
+listed_for_of_machine (query.Program role id) = refl
 listed_for_of_machine (query.Events role page) = refl
+listed_for_of_machine (query.Event role id) = refl
 listed_for_of_machine (query.Vens role page) = refl
 listed_for_of_machine (query.Ven role id) = refl
 listed_for_of_machine (query.Resources role ven page) = refl

@@ -1,11 +1,12 @@
 //! What the machine answers.
-use adr_objects::{EventObject, ResourceObject, ShareObject, VenObject};
+use adr_objects::{EventObject, ProgramObject, ResourceObject, ShareObject, VenObject};
 use adr_state::MirrorKey;
 use adr_text::Rows;
 
 /// An object as it is shown.
 #[derive(Drop)]
 pub enum Object {
+    Program(ProgramObject),
     Event(EventObject),
     Ven(VenObject),
     Resource(ResourceObject),

@@ -1,78 +1,108 @@
-//! Events, as they are listed.
+//! One event, by an id that names a resource and an event of the utility.
 ghost use Rattle.std.specs.Prelude.{◌≡◌, ◌≢◌, Ok, Err, IfOk, IfErr};
+ghost use Rattle.std.specs.Option.{option_copied};
 ghost use Rattle.adr_text.specs.declared.refusal.Refusal.TheVariants.{Store};
 ghost use Rattle.adr_text.specs.Refusals.{IsRefusalOf};
-ghost use Rattle.std.specs.Option.{option_copied};
-ghost use Rattle.adr_machine.specs.Steps.{event_of, event_at, events_in_sight, events_reply};
+ghost use Rattle.adr_machine.specs.Shown.{resource_part, event_part, id_in, event_shown, resource_named, event_told, event_reply};
 
 use crate::answer::{Answer, Object};
-use crate::page::page_of;
-use crate::query::Page;
+use crate::resource::resource_with_id;
 use crate::role::Role;
-use crate::sight::{Sight, sees, sight_of};
-use adr_objects::{EventObject, Stamps};
-use adr_state::{State, ViewKey, push_some};
-use adr_text::{Refusal, Rows, Table};
-use adr_view::{Content, row_at, view_of};
+use crate::shown::{object_shown, told};
+use crate::sight::{Sight, sight_of};
+use crate::ven::sees_ven;
+use adr_objects::Number;
+use adr_state::{Portfolio, Resource, State, ViewKey};
+use adr_text::{ObjectId, Refusal};
 use std::alloc::{AllocError, Global};
 
-/// The event that is shown at a key, if there is one.
-fn event_of(key: &ViewKey, content: &Content, stamps: Stamps) -> Result<Option<Object>, AllocError>
-    ensures { IfOk result (λ object. object ≡ event_of key.now content.now stamps) }
+/// The object id that the text is.
+fn id_in(alloc: Global, text: &str) -> Result<Option<ObjectId>, AllocError>
+    ensures { IfOk result (λ id. id ≡ id_in text.now) }
 {
-    match (key, content) {
-        (ViewKey::Event(event, resource), Content::Event(shown)) => {
-            Ok(Some(Object::Event(EventObject {
-                resource: *resource,
-                event: event.clone()?,
-                shown: shown.clone()?,
-                stamps,
-            })))
-        }
-        _ => Ok(None),
+    match ObjectId::new(alloc, text) {
+        Ok(id) => Ok(Some(id)),
+        Err(Refusal::OutOfMemory) => Err(AllocError),
+        Err(_) => Ok(None),
     }
 }
 
-/// The event at a key with its stamps, if it has some.
-fn event_at(
-    stamps: &Table<ViewKey, Stamps>,
-    key: &ViewKey,
-    content: &Content,
-) -> Result<Option<Object>, AllocError>
-    ensures { IfOk result (λ object. object ≡ event_at stamps.now (key.now, content.now)) }
+/// The resource that the text before the first `-` names.
+fn resource_named(
+    alloc: Global,
+    portfolio: &Portfolio,
+    text: &str,
+) -> Result<Option<(Number, Resource)>, AllocError>
+    ensures { IfOk result (λ resource. resource ≡ resource_named portfolio.now text.now) }
 {
-    match row_at(stamps, key) {
-        Some(stamps) => event_of(key, content, *stamps),
+    match id_in(alloc, text)? {
+        Some(id) => resource_with_id(&id, portfolio),
         None => Ok(None),
     }
 }
 
-/// The events in sight, in the order of the keys.
-fn events_in_sight(alloc: Global, state: &State, sight: Sight) -> Result<Vec<Object>, AllocError>
-    ensures { IfOk result (λ all. all.items ≡ events_in_sight state.now sight) }
+/// What the resource is shown of the event that the text behind the `-` names.
+fn event_shown(
+    alloc: Global,
+    state: &State,
+    resource: Number,
+    text: &str,
+) -> Result<Option<Object>, AllocError>
+    ensures { IfOk result (λ object. object ≡ event_shown state.now resource text.now) }
 {
-    let view = view_of(alloc, &state.base)?;
-    let mut all = Vec::new(alloc);
-    for (key, content) in view.iter() {
-        if sees(&state.base, sight, key) {
-            push_some(&mut all, event_at(&state.stamps, key, content)?)?;
-        }
+    match id_in(alloc, text)? {
+        Some(event) => object_shown(alloc, state, &ViewKey::Event(event, resource)),
+        None => Ok(None),
     }
-    Ok(all)
 }
 
-/// The events that a role sees, or `Forbidden`.
-pub(crate) fn events_reply(
+/// What is told of an event, by the two parts of its id.
+fn event_told(
+    alloc: Global,
+    state: &State,
+    sight: Sight,
+    resource: &str,
+    event: &str,
+) -> Result<Answer, Refusal>
+    ensures ok { IfOk result (λ answer. event_told state.now sight event.now (resource_named state.now.base.portfolio resource.now) ≡ Ok answer) }
+    ensures refused { IfErr result (λ refusal. IsRefusalOf refusal (event_told state.now sight event.now (resource_named state.now.base.portfolio resource.now))) }
+    ensures no_store { result ≢ Err Store }
+{
+    let Some((number, resource)) = resource_named(alloc, &state.base.portfolio, resource)? else {
+        return Err(Refusal::NotFound);
+    };
+    if !sees_ven(sight, resource.ven) {
+        return Err(Refusal::Forbidden);
+    }
+    told(event_shown(alloc, state, number, event)?)
+}
+
+/// The parts of an event id, before and behind its first `-`, where it has one.
+fn id_parts(id: &ObjectId) -> (&str, Option<&str>)
+    ensures front { result.0.now ≡ resource_part id.now }
+    ensures back { option_copied result.1 ≡ event_part id.now }
+{
+    match id.as_str().split_once('-') {
+        Some((resource, event)) => (resource, Some(event)),
+        None => (id.as_str(), None),
+    }
+}
+
+/// The event of an id; `Forbidden` where the id names a resource that is out of sight, and `NotFound`
+/// where no such event is shown.
+pub(crate) fn event_reply(
     alloc: Global,
     state: &State,
     role: &Role,
-    page: Page,
+    id: &ObjectId,
 ) -> Result<Answer, Refusal>
-    ensures ok { IfOk result (λ answer. events_reply state.now role.now page ≡ Ok answer) }
-    ensures refused { IfErr result (λ refusal. IsRefusalOf refusal (events_reply state.now role.now page)) }
+    ensures ok { IfOk result (λ answer. event_reply state.now role.now id.now ≡ Ok answer) }
+    ensures refused { IfErr result (λ refusal. IsRefusalOf refusal (event_reply state.now role.now id.now)) }
     ensures no_store { result ≢ Err Store }
 {
     let sight = sight_of(&state.base, role)?;
-    let objects = events_in_sight(alloc, state, sight)?;
-    Ok(Answer::List(Rows::from_vec(page_of(alloc, page, objects)?)))
+    match id_parts(id) {
+        (resource, Some(event)) => event_told(alloc, state, sight, resource, event),
+        (_, None) => Err(Refusal::NotFound),
+    }
 }

@@ -11,6 +11,7 @@ mod event;
 mod evidence;
 mod page;
 mod plain;
+mod program;
 mod query;
 mod reply;
 mod resource;
@@ -18,6 +19,7 @@ mod role;
 mod runs;
 mod scan;
 mod share;
+mod shown;
 mod sight;
 mod ven;
 

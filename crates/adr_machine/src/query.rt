@@ -12,10 +12,26 @@ pub struct Page {
 /// A query, which changes nothing.
 #[derive(Clone, Drop)]
 pub enum Query {
+    /// The programs, by id: every enrolled ven sees them.
+    Programs {
+        role: Role,
+        page: Page,
+    },
+    /// The program of an id. Refused where it isn't there.
+    Program {
+        role: Role,
+        id: ObjectId,
+    },
     /// The events that the role sees, by upstream id and then by resource.
     Events {
         role: Role,
         page: Page,
+    },
+    /// The event of an id, which names a resource before its first `-`. Refused for the resource of
+    /// another ven, and where it isn't there.
+    Event {
+        role: Role,
+        id: ObjectId,
     },
     /// The vens that the role sees, by number: a ven sees itself alone.
     Vens {

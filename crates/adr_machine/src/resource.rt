@@ -21,7 +21,7 @@ use adr_text::{Moment, ObjectId, Refusal, Rows};
 use std::alloc::{AllocError, Global};
 
 /// The resource of that id, with its number.
-fn resource_with_id(
+pub(crate) fn resource_with_id(
     id: &ObjectId,
     portfolio: &Portfolio,
 ) -> Result<Option<(Number, Resource)>, AllocError>

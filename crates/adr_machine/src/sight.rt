@@ -1,7 +1,7 @@
 //! What a role sees.
 ghost use Rattle.std.specs.Prelude.{◌≡◌};
 ghost use Rattle.adr_machine.specs.Roles.{sight_of};
-ghost use Rattle.adr_machine.specs.Steps.{sees};
+ghost use Rattle.adr_machine.specs.Shown.{sees};
 
 use crate::role::Role;
 use crate::ven::ven_at;

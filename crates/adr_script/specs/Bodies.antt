@@ -4,12 +4,12 @@ use Rattle.std.specs.List.{flat_map}
 use Rattle.std.specs.Fmt.{decimal}
 use Rattle.adr_text.specs.Refusals.{number_of, title_of, status_of}
 use Rattle.adr_text.specs.declared.refusal.Refusal.{Refusal}
-use Rattle.adr_schema.specs.Objects.{event_text, ven_text, resource_text, share_text, problem_text}
+use Rattle.adr_schema.specs.Objects.{program_text, event_text, ven_text, resource_text, share_text, problem_text}
 use Rattle.adr_objects.specs.declared.kind.Kind.{Kind}
 use Rattle.adr_objects.specs.declared.kind.Kind.TheVariants as kind
 use Rattle.adr_state.specs.declared.keys.MirrorKey.{MirrorKey}
 use Rattle.adr_machine.specs.declared.answer.Object.{Object}
-use Rattle.adr_machine.specs.declared.answer.Object.TheVariants.{Event, Ven, Resource, Share}
+use Rattle.adr_machine.specs.declared.answer.Object.TheVariants.{Program, Event, Ven, Resource, Share}
 use Rattle.adr_machine.specs.declared.answer.Answer.{Answer}
 use Rattle.adr_machine.specs.declared.answer.Answer.TheVariants as answer
 use Rattle.adr_script.specs.declared.asked.Asked.{Asked}
@@ -18,6 +18,7 @@ use Rattle.adr_machine.specs.Edits.{draws_number}
 
 -- an object
 abbrev pub object_text : Object → List ℕ
+object_text (Program p) = program_text p
 object_text (Event e) = event_text e
 object_text (Ven v) = ven_text v
 object_text (Resource r) = resource_text r

@@ -1,7 +1,7 @@
 -- Paths, and the ids in them.
 use Rattle.std.specs.Prelude.{ℕ, List, codes, Option, Some, None, option_map, option_and_then, bytes_eq, if◌then◌else◌}
 use Rattle.adr_script.specs.declared.paths.Path.{Path}
-use Rattle.adr_script.specs.declared.paths.Path.TheVariants.{Events, Notifications, Vens, Ven, Resources, Resource, Shares, Share}
+use Rattle.adr_script.specs.declared.paths.Path.TheVariants.{Programs, Program, Events, Event, Notifications, Vens, Ven, Resources, Resource, Shares, Share}
 use Rattle.adr_script.specs.Cuts.{cut, behind}
 use Rattle.adr_script.specs.Words.{id_from}
 
@@ -26,15 +26,28 @@ abbrev pub share_path : List ℕ × Option (List ℕ) → Option Path
 share_path (program, None) = option_map (λ program. Shares program) (id_from program)
 share_path (program, Some resource) = option_map (λ ids. Share ids.0 ids.1) (both_ids program resource)
 
-abbrev pub longer_path : Option (List ℕ) → Option (List ℕ) → Option Path
-longer_path (Some behind_vens) behind_shares = ven_path (cut 47 behind_vens)
-longer_path None (Some behind_shares) = share_path (cut 47 behind_shares)
-longer_path None None = None
+-- behind the front of a path
+abbrev pub path_behind : Option (List ℕ) → (List ℕ → Option Path) → Option Path → Option Path
+path_behind (Some rest) reads other = reads rest
+path_behind None reads other = other
+
+-- behind `/programs/` and `/events/`: `{id}`
+unfoldable pub item_path : List ℕ → Option Path
+item_path path =
+    path_behind (behind (codes "/programs/") path) (λ rest. option_map (λ id. Program id) (id_from rest))
+    (path_behind (behind (codes "/events/") path) (λ rest. option_map (λ id. Event id) (id_from rest)) None)
+
+-- a path with an id in it
+unfoldable pub longer_path : List ℕ → Option Path
+longer_path path =
+    path_behind (behind (codes "/vens/") path) (λ rest. ven_path (cut 47 rest))
+    (path_behind (behind (codes "/shares/") path) (λ rest. share_path (cut 47 rest)) (item_path path))
 
 -- the path that the bytes are
 unfoldable pub path_of : List ℕ → Option Path
 path_of path =
-    if bytes_eq path (codes "/events") then Some Events
+    if bytes_eq path (codes "/programs") then Some Programs
+    else (if bytes_eq path (codes "/events") then Some Events
     else (if bytes_eq path (codes "/notifications") then Some Notifications
     else (if bytes_eq path (codes "/vens") then Some Vens
-    else longer_path (behind (codes "/vens/") path) (behind (codes "/shares/") path)))
+    else longer_path path)))

@@ -10,7 +10,7 @@ use Rattle.adr_schema.specs.Notices.{notice_of}
 use Rattle.adr_machine.specs.declared.role.Role.{Role}
 use Rattle.adr_machine.specs.declared.role.Role.TheVariants.{Utility}
 use Rattle.adr_machine.specs.declared.command.Command.TheVariants.{Evidence, Gone, VenAdd, VenPut, VenRemove, ResourceAdd, ResourcePut, ResourceRemove, ShareSet}
-use Rattle.adr_machine.specs.declared.query.Query.TheVariants.{Events, Vens, Ven, Resources, Resource, Shares}
+use Rattle.adr_machine.specs.declared.query.Query.TheVariants.{Programs, Program, Events, Event, Vens, Ven, Resources, Resource, Shares}
 use Rattle.adr_script.specs.declared.asked.Asked.{Asked}
 use Rattle.adr_script.specs.declared.asked.Asked.TheVariants as asked
 use Rattle.adr_script.specs.Cuts.{cut}
@@ -22,7 +22,10 @@ use Rattle.adr_script.specs.Paths.{path_of}
 
 -- what is read at a path: only a listing has a query
 unfoldable pub asked_by_get : Role → Path → List ℕ → Result (Option Asked) Refusal
+asked_by_get role path.Programs query = page_asked query >>= λ page. Ok (Some (asked.Query (Programs role page)))
+asked_by_get role (path.Program id) query = Ok (Some (asked.Query (Program role id)))
 asked_by_get role path.Events query = page_asked query >>= λ page. Ok (Some (asked.Query (Events role page)))
+asked_by_get role (path.Event id) query = Ok (Some (asked.Query (Event role id)))
 asked_by_get role path.Vens query = page_asked query >>= λ page. Ok (Some (asked.Query (Vens role page)))
 asked_by_get role (path.Ven id) query = Ok (Some (asked.Query (Ven role id)))
 asked_by_get role (path.Resources ven) query = page_asked query >>= λ page. Ok (Some (asked.Query (Resources role ven page)))

@@ -5,7 +5,9 @@ ghost use Rattle.adr_script.specs.Bodies.{object_text, list_text, answer_text, r
 use crate::asked::{Asked, status_for};
 use adr_machine::{Answer, Object};
 use adr_objects::Kind;
-use adr_schema::{write_event, write_problem, write_resource, write_share, write_ven};
+use adr_schema::{
+    write_event, write_problem, write_program, write_resource, write_share, write_ven,
+};
 use adr_state::MirrorKey;
 use adr_text::Refusal;
 use std::alloc::{AllocError, Global};
@@ -14,6 +16,7 @@ fn object_text(alloc: Global, object: &Object) -> Result<String, AllocError>
     ensures { IfOk result (λ text. string_bytes text ≡ object_text object.now) }
 {
     match object {
+        Object::Program(program) => write_program(alloc, program),
         Object::Event(event) => write_event(alloc, event),
         Object::Ven(ven) => write_ven(alloc, ven),
         Object::Resource(resource) => write_resource(alloc, resource),

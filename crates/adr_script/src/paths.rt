@@ -1,7 +1,7 @@
 //! Paths, and the ids in them.
 ghost use Rattle.std.specs.Prelude.{◌≡◌, IfOk, codes};
 ghost use Rattle.adr_script.specs.Cuts.{cut, behind};
-ghost use Rattle.adr_script.specs.Paths.{both_ids, under_ven, ven_path, share_path, longer_path, path_of};
+ghost use Rattle.adr_script.specs.Paths.{both_ids, under_ven, ven_path, share_path, item_path, longer_path, path_of};
 
 use crate::cuts::{behind, cut};
 use crate::words::id_from;
@@ -11,8 +11,14 @@ use std::alloc::{AllocError, Global};
 /// A path that there is.
 #[derive(Drop)]
 pub enum Path {
+    /// `/programs`
+    Programs,
+    /// `/programs/{id}`
+    Program(ObjectId),
     /// `/events`
     Events,
+    /// `/events/{id}`
+    Event(ObjectId),
     /// `/notifications`
     Notifications,
     /// `/vens`
@@ -91,16 +97,31 @@ fn share_path(alloc: Global, rest: &[u8]) -> Result<Option<Path>, AllocError>
     }
 }
 
+/// A program or an event.
+#[tactic(auto, unfolding(crate::specs::Paths::item_path))]
+fn item_path(alloc: Global, path: &[u8]) -> Result<Option<Path>, AllocError>
+    ensures { IfOk result (λ found. found ≡ item_path path.now) }
+{
+    if let Some(id) = behind(b"/programs/", path) {
+        return Ok(id_from(alloc, id)?.map(Path::Program));
+    }
+    match behind(b"/events/", path) {
+        Some(id) => Ok(id_from(alloc, id)?.map(Path::Event)),
+        None => Ok(None),
+    }
+}
+
 /// A path with an id in it.
+#[tactic(auto, unfolding(crate::specs::Paths::longer_path))]
 fn longer_path(alloc: Global, path: &[u8]) -> Result<Option<Path>, AllocError>
-    ensures { IfOk result (λ found. found ≡ longer_path (behind (codes "/vens/") path.now) (behind (codes "/shares/") path.now)) }
+    ensures { IfOk result (λ found. found ≡ longer_path path.now) }
 {
     if let Some(rest) = behind(b"/vens/", path) {
         return ven_path(alloc, rest);
     }
     match behind(b"/shares/", path) {
         Some(rest) => share_path(alloc, rest),
-        None => Ok(None),
+        None => item_path(alloc, path),
     }
 }
 
@@ -109,7 +130,9 @@ fn longer_path(alloc: Global, path: &[u8]) -> Result<Option<Path>, AllocError>
 pub(crate) fn path_of(alloc: Global, path: &[u8]) -> Result<Option<Path>, AllocError>
     ensures { IfOk result (λ found. found ≡ path_of path.now) }
 {
-    if path == b"/events".as_slice() {
+    if path == b"/programs".as_slice() {
+        Ok(Some(Path::Programs))
+    } else if path == b"/events".as_slice() {
         Ok(Some(Path::Events))
     } else if path == b"/notifications".as_slice() {
         Ok(Some(Path::Notifications))

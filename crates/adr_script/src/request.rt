@@ -26,10 +26,16 @@ fn asked_by_get(
     ensures { Gives (λ a. a) result (asked_by_get role path query.now) }
 {
     let query = match path {
+        Path::Programs => {
+            let page = page_asked(alloc, query)?;
+            Query::Programs { role, page }
+        }
+        Path::Program(id) => Query::Program { role, id },
         Path::Events => {
             let page = page_asked(alloc, query)?;
             Query::Events { role, page }
         }
+        Path::Event(id) => Query::Event { role, id },
         Path::Vens => {
             let page = page_asked(alloc, query)?;
             Query::Vens { role, page }

@@ -1,0 +1,121 @@
+-- What a role is told of programs and events.
+use Rattle.std.specs.Prelude.{ℕ, ◌+◌, Bool, true, false, ◌&&◌, ◌==◌, List, drop, filter, Option, None, Some, option_map, option_and_then, Result, Ok, Err, if◌then◌else◌}
+use Rattle.std.specs.List.{filter_map, position, before_first}
+use Rattle.std.specs.Option.{option_map_or}
+use Rattle.std.specs.Ordering.{nat_cmp}
+use Rattle.std.specs.Result.{result_ok}
+use Rattle.adr_text.specs.Ids.{id_of}
+use Rattle.adr_text.specs.Refusals.{◌>>=◌}
+use Rattle.adr_text.specs.declared.refusal.Refusal.{Refusal}
+use Rattle.adr_text.specs.declared.refusal.Refusal.TheVariants.{NotFound, Forbidden}
+use Rattle.adr_objects.specs.declared.kind.Kind.{Kind}
+use Rattle.adr_objects.specs.declared.kind.Kind.TheVariants as kind
+use Rattle.adr_objects.specs.declared.shown.Stamps.{Stamps}
+use Rattle.adr_state.specs.declared.base.Base.{Base}
+use Rattle.adr_state.specs.declared.state.State.{State}
+use Rattle.adr_state.specs.declared.portfolio.Portfolio.{Portfolio}
+use Rattle.adr_state.specs.declared.portfolio.Resource.{Resource}
+use Rattle.adr_state.specs.declared.keys.ViewKey.{ViewKey}
+use Rattle.adr_state.specs.declared.keys.ViewKey.TheVariants as key
+use Rattle.adr_view.specs.declared.view.Content.{Content}
+use Rattle.adr_view.specs.declared.view.Content.TheVariants as content
+use Rattle.adr_machine.specs.declared.role.Role.{Role}
+use Rattle.adr_machine.specs.declared.sight.Sight.{Sight}
+use Rattle.adr_machine.specs.declared.sight.Sight.TheVariants.{All, Of}
+use Rattle.adr_machine.specs.declared.query.Page.{Page}
+use Rattle.adr_machine.specs.declared.answer.Object.{Object}
+use Rattle.adr_machine.specs.declared.answer.Object.TheVariants as object
+use Rattle.adr_machine.specs.declared.answer.Answer.{Answer}
+use Rattle.adr_machine.specs.declared.answer.Answer.TheVariants as answer
+use Rattle.adr_state.specs.Keys.{view_cmp, at}
+use Rattle.adr_state.specs.Resources.{resource_with_id}
+use Rattle.adr_view.specs.Views.{view}
+use Rattle.adr_machine.specs.Roles.{sight_of}
+use Rattle.adr_machine.specs.Listings.{page_of, sees_ven}
+
+-- ---- what is in sight
+
+-- the ven that owns a resource
+abbrev pub owner_of : Base → ℕ → Option ℕ
+owner_of base resource = option_map (λ r. r.ven) (at nat_cmp resource base.portfolio.resources)
+
+-- whether what stands at a key is in sight: every ven sees the programs
+abbrev pub sees : Base → Sight → ViewKey → Bool
+sees base All key = true
+sees base (Of ven) (key.Program id) = true
+sees base (Of ven) (key.Event event resource) = option_map_or (λ owner. owner == ven) (owner_of base resource) false
+
+-- whether something of the kind stands at a key
+abbrev pub is_of : Kind → ViewKey → Bool
+is_of kind.Program (key.Program id) = true
+is_of kind.Program (key.Event event resource) = false
+is_of kind.Event (key.Program id) = false
+is_of kind.Event (key.Event event resource) = true
+
+-- what is shown of a kind and in sight
+abbrev pub rows_in_sight : Base → Kind → Sight → List (ViewKey × Content)
+rows_in_sight base kind sight = filter (λ r. is_of kind r.0 && sees base sight r.0) (view base)
+
+-- what is shown at a key, as an object
+abbrev pub object_of : ViewKey → Content → Stamps → Option Object
+object_of (key.Program id) (content.Program name) stamps = Some (object.Program (record { id = id; name = name; stamps = stamps }))
+object_of (key.Event event resource) (content.Event shown) stamps = Some (object.Event (record { resource = resource; event = event; shown = shown; stamps = stamps }))
+object_of _ _ stamps = None
+
+abbrev pub object_at : List (ViewKey × Stamps) → ViewKey × Content → Option Object
+object_at stamps r = option_and_then (object_of r.0 r.1) (at view_cmp r.0 stamps)
+
+-- ---- listings
+
+-- the programs or the events in sight, in the order of the keys, each with its stamps; on every state that a run reaches none is left out for want of stamps (law `objects_lack_none` of adr_laws)
+abbrev pub objects_in_sight : State → Kind → Sight → List Object
+objects_in_sight s kind sight = filter_map (object_at s.stamps) (rows_in_sight s.base kind sight)
+
+abbrev pub objects_reply : State → Kind → Role → Page → Result Answer Refusal
+objects_reply s kind role page = sight_of s.base role >>= λ sight. Ok (answer.List (page_of page (objects_in_sight s kind sight)))
+
+-- ---- one of them
+
+-- what is shown at a key, with its stamps
+abbrev pub object_shown : State → ViewKey → Option Object
+object_shown s key = option_and_then (λ c. object_at s.stamps (key, c)) (at view_cmp key (view s.base))
+
+abbrev pub told : Option Object → Result Answer Refusal
+told None = Err NotFound
+told (Some o) = Ok (answer.Object o)
+
+-- every ven sees each program
+abbrev pub program_reply : State → Role → List ℕ → Result Answer Refusal
+program_reply s role id = sight_of s.base role >>= λ sight. told (object_shown s (key.Program id))
+
+-- what stands in an event id before its first `-`, and what behind it, where it has one
+abbrev pub resource_part : List ℕ → List ℕ
+resource_part id = before_first (λ b. b == 45) id
+
+abbrev pub event_part : List ℕ → Option (List ℕ)
+event_part id = option_map (λ i. drop (i + 1) id) (position (λ b. b == 45) id)
+
+-- the object id that a text is
+abbrev pub id_in : List ℕ → Option (List ℕ)
+id_in text = result_ok (id_of text)
+
+-- the resource that an event id names
+abbrev pub resource_named : Portfolio → List ℕ → Option (ℕ × Resource)
+resource_named p text = option_and_then (λ id. resource_with_id id p) (id_in text)
+
+-- what a resource is shown of the event that an event id names
+abbrev pub event_shown : State → ℕ → List ℕ → Option Object
+event_shown s resource text = option_and_then (λ id. object_shown s (key.Event id resource)) (id_in text)
+
+-- an event of a resource that is out of sight is forbidden, whether it is there or not
+abbrev pub event_told : State → Sight → List ℕ → Option (ℕ × Resource) → Result Answer Refusal
+event_told s sight event None = Err NotFound
+event_told s sight event (Some (n, resource)) = if sees_ven sight resource.ven then told (event_shown s n event) else Err Forbidden
+
+-- an id without `-` names no resource
+abbrev pub event_named : State → Sight → List ℕ → Option (List ℕ) → Result Answer Refusal
+event_named s sight resource None = Err NotFound
+event_named s sight resource (Some event) = event_told s sight event (resource_named s.base.portfolio resource)
+
+abbrev pub event_reply : State → Role → List ℕ → Result Answer Refusal
+event_reply s role id = sight_of s.base role >>= λ sight. event_named s sight (resource_part id) (event_part id)

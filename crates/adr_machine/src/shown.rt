@@ -1,0 +1,126 @@
+//! Programs and events, as they are listed.
+ghost use Rattle.std.specs.Prelude.{◌≡◌, ◌≢◌, Ok, Err, IfOk, IfErr};
+ghost use Rattle.adr_text.specs.declared.refusal.Refusal.TheVariants.{Store};
+ghost use Rattle.adr_text.specs.Refusals.{IsRefusalOf};
+ghost use Rattle.std.specs.Option.{option_copied};
+ghost use Rattle.adr_machine.specs.Shown.{is_of, object_of, object_at, objects_in_sight, object_shown, told, objects_reply};
+
+use crate::answer::{Answer, Object};
+use crate::page::page_of;
+use crate::query::Page;
+use crate::role::Role;
+use crate::sight::{Sight, sees, sight_of};
+use adr_objects::{EventObject, Kind, ProgramObject, Stamps};
+use adr_state::{State, ViewKey, push_some};
+use adr_text::{Refusal, Rows, Table};
+use adr_view::{Content, row_at, view_of};
+use std::alloc::{AllocError, Global};
+
+/// Whether something of the kind stands at the key.
+fn is_of(kind: Kind, key: &ViewKey) -> bool
+    ensures { result ≡ is_of kind key.now }
+{
+    match (kind, key) {
+        (Kind::Program, ViewKey::Program(_)) | (Kind::Event, ViewKey::Event(_, _)) => true,
+        _ => false,
+    }
+}
+
+/// What is shown at a key, as an object.
+fn object_of(key: &ViewKey, content: &Content, stamps: Stamps) -> Result<Option<Object>, AllocError>
+    ensures { IfOk result (λ object. object ≡ object_of key.now content.now stamps) }
+{
+    match (key, content) {
+        (ViewKey::Program(id), Content::Program(name)) => {
+            Ok(Some(Object::Program(ProgramObject {
+                id: id.clone()?,
+                name: name.clone()?,
+                stamps,
+            })))
+        }
+        (ViewKey::Event(event, resource), Content::Event(shown)) => {
+            Ok(Some(Object::Event(EventObject {
+                resource: *resource,
+                event: event.clone()?,
+                shown: shown.clone()?,
+                stamps,
+            })))
+        }
+        _ => Ok(None),
+    }
+}
+
+/// The object at a key with its stamps, if it has some.
+fn object_at(
+    stamps: &Table<ViewKey, Stamps>,
+    key: &ViewKey,
+    content: &Content,
+) -> Result<Option<Object>, AllocError>
+    ensures { IfOk result (λ object. object ≡ object_at stamps.now (key.now, content.now)) }
+{
+    match row_at(stamps, key) {
+        Some(stamps) => object_of(key, content, *stamps),
+        None => Ok(None),
+    }
+}
+
+/// The objects of a kind that are in sight, in the order of the keys.
+pub(crate) fn objects_in_sight(
+    alloc: Global,
+    state: &State,
+    kind: Kind,
+    sight: Sight,
+) -> Result<Vec<Object>, AllocError>
+    ensures { IfOk result (λ all. all.items ≡ objects_in_sight state.now kind sight) }
+{
+    let view = view_of(alloc, &state.base)?;
+    let mut all = Vec::new(alloc);
+    for (key, content) in view.iter() {
+        if is_of(kind, key) && sees(&state.base, sight, key) {
+            push_some(&mut all, object_at(&state.stamps, key, content)?)?;
+        }
+    }
+    Ok(all)
+}
+
+/// The object that is shown at a key, if there is one.
+pub(crate) fn object_shown(
+    alloc: Global,
+    state: &State,
+    key: &ViewKey,
+) -> Result<Option<Object>, AllocError>
+    ensures { IfOk result (λ object. object ≡ object_shown state.now key.now) }
+{
+    let view = view_of(alloc, &state.base)?;
+    match row_at(&view, key) {
+        Some(content) => object_at(&state.stamps, key, content),
+        None => Ok(None),
+    }
+}
+
+/// The answer of an object; `NotFound` where it isn't there.
+pub(crate) fn told(object: Option<Object>) -> Result<Answer, Refusal>
+    ensures { result ≡ told object }
+{
+    match object {
+        Some(object) => Ok(Answer::Object(object)),
+        None => Err(Refusal::NotFound),
+    }
+}
+
+/// The objects of a kind that a role sees, or `Forbidden`.
+pub(crate) fn objects_reply(
+    alloc: Global,
+    state: &State,
+    kind: Kind,
+    role: &Role,
+    page: Page,
+) -> Result<Answer, Refusal>
+    ensures ok { IfOk result (λ answer. objects_reply state.now kind role.now page ≡ Ok answer) }
+    ensures refused { IfErr result (λ refusal. IsRefusalOf refusal (objects_reply state.now kind role.now page)) }
+    ensures no_store { result ≢ Err Store }
+{
+    let sight = sight_of(&state.base, role)?;
+    let objects = objects_in_sight(alloc, state, kind, sight)?;
+    Ok(Answer::List(Rows::from_vec(page_of(alloc, page, objects)?)))
+}
