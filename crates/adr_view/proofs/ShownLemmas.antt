@@ -17,7 +17,7 @@ use Rattle.adr_state.specs.Participants.{is_for, participant_of, participants}
 use Rattle.adr_state.proofs.KeyLemmas.{view_order}
 use Rattle.adr_view.specs.declared.parts.SplitInterval.{SplitInterval}
 use Rattle.adr_view.specs.declared.view.Content.{Content}
-use Rattle.adr_view.specs.Laws.{StandsInOrder, ShownIsOfTheView, is_of}
+use Rattle.adr_view.specs.Laws.{StandsInOrder, ShownIsOfTheView, is_key_of}
 use Rattle.adr_view.specs.Views.{event_row, rows_for, carries, program_rows, event_rows, mark_rows, event_key, rows_known, view}
 use Rattle.adr_view.proofs.KeyLemmas.{mirror_exact, made_of, stand_alike}
 use Rattle.adr_view.proofs.ListLemmas.{map_filter_map, sorted_map, in_order_filter_map, in_order_flat, filter_alike, filter_flat}
@@ -89,7 +89,7 @@ module _ (base : Base) (stands : StandsInOrder base) where
 
 module _ (base : Base) (id : List ℕ) where
   abbrev passes : ViewKey × Content → Bool
-  passes r = is_of id r.0
+  passes r = is_key_of id r.0
 
   -- the rows of a mark are all at keys of the event, or none is
   its_rows : (e : MirrorKey × Mark) → filter passes (mark_rows base e) ≡ cond (is_eq (mirror_cmp (event_key id) e.0)) (mark_rows base e) []
@@ -99,4 +99,4 @@ module _ (base : Base) (id : List ℕ) where
 
 pub shown_is_of_view : ShownIsOfTheView
 shown_is_of_view base id stands =
-    ap (filter (λ r. is_of id r.0)) (view_made base stands) ∙ filter_flat mirror_exact (mark_rows base) (rows_known base) (λ k. refl) (λ e. refl) (λ r. is_of id r.0) (event_key id) (its_rows base id) base.mirror stands.upstream_keys
+    ap (filter (λ r. is_key_of id r.0)) (view_made base stands) ∙ filter_flat mirror_exact (mark_rows base) (rows_known base) (λ k. refl) (λ e. refl) (λ r. is_key_of id r.0) (event_key id) (its_rows base id) base.mirror stands.upstream_keys

@@ -29,10 +29,10 @@ pub record StandsInOrder (base : Base) : Type 0 where
   pub resources : IsStrictlySortedBy nat_cmp (keys_of base.portfolio.resources)
 
 -- whether a key of the view is one of this upstream event
-abbrev pub is_of : List ℕ → ViewKey → Bool
-is_of id (key.Program other) = false
-is_of id (key.Event other resource) = is_eq (id_cmp id other)
+abbrev pub is_key_of : List ℕ → ViewKey → Bool
+is_key_of id (key.Program other) = false
+is_key_of id (key.Event other resource) = is_eq (id_cmp id other)
 
 -- where rows stand in order, what is shown of an event is all that the view has at keys of it, in the order in which it stands there
 abbrev pub ShownIsOfTheView : Type 0
-ShownIsOfTheView = (base : Base) (id : List ℕ) → StandsInOrder base → filter (λ r. is_of id r.0) (view base) ≡ shown_of base id
+ShownIsOfTheView = (base : Base) (id : List ℕ) → StandsInOrder base → filter (λ r. is_key_of id r.0) (view base) ≡ shown_of base id
