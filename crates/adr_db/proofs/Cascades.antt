@@ -95,8 +95,8 @@ module _ (kept : Kept) (s : State) (held : Holds schema (contents_of kept) s) wh
       (child_full resource_columns kept.portfolio.resources share_row (λ e. e.0.resource) (λ e. refl) kept.portfolio.shares) (share_same n) in
       record {
         cascading = refl;
-        along = (tt, (tt, (tt, (tt, ((resources.0, tt), ((shares.0, tt), tt))))));
-        because = (tt, (tt, (tt, ((λ r has go. inl refl), (resources.1, (shares.1, tt))))));
+        along = (tt, (tt, (tt, (tt, ((resources.0, tt), ((shares.0, tt), (tt, tt)))))));
+        because = (tt, (tt, (tt, ((λ r has go. inl refl), (resources.1, (shares.1, (tt, tt)))))));
       }
 
   -- the shares of the resource
@@ -110,8 +110,8 @@ module _ (kept : Kept) (s : State) (held : Holds schema (contents_of kept) s) wh
       (child_full resource_columns kept.portfolio.resources share_row (λ e. e.0.resource) (λ e. refl) kept.portfolio.shares) (child_same resource_columns kept.portfolio.resources share_row (λ e. e.0.resource) (λ e. refl) kept.portfolio.shares n) in
       record {
         cascading = refl;
-        along = (tt, (tt, (tt, (tt, ((tt, tt), ((shares.0, tt), tt))))));
-        because = (tt, (tt, (tt, (tt, ((λ r has go. inl refl), (shares.1, tt))))));
+        along = (tt, (tt, (tt, (tt, ((tt, tt), ((shares.0, tt), (tt, tt)))))));
+        because = (tt, (tt, (tt, (tt, ((λ r has go. inl refl), (shares.1, (tt, tt)))))));
       }
 
 -- a table with other rows, by its name

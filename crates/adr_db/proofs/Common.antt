@@ -7,12 +7,13 @@ pub use Rattle.std.specs.List.{AllByRecursion, AllZip, cons_option, filter_map, 
 pub use Rattle.std.specs.Option.{option_map, option_map_or}
 pub use Rattle.std.specs.Ordering.{MatchOrdering, int_cmp, is_eq, match_ordering, nat_cmp, ordering_reverse, ordering_then}
 pub use Rattle.adr_text.specs.Refusals.{Gives, IsRefusalOf}
+pub use Rattle.adr_objects.specs.declared.shown.Stamps.{Stamps}
 pub use Rattle.adr_text.specs.declared.refusal.Refusal.{Refusal}
 pub use Rattle.adr_text.specs.declared.refusal.Refusal.TheVariants.{BadShape, Forbidden, LimitReached, NoScan, OutOfMemory, Store}
 pub use Rattle.adr_state.specs.BaseChanges.{BaseChange, ChangePortfolio, JoinMarks, SetScan, changed}
 pub use Rattle.adr_state.specs.Digits.{number_in}
 pub use Rattle.adr_state.specs.Evidence.{evidence, gone, joining, open_scan, scan_begin, scan_end, scan_with}
-pub use Rattle.adr_state.specs.Keys.{at, id_cmp, kind_cmp, map_of, mirror_cmp, share_cmp}
+pub use Rattle.adr_state.specs.Keys.{at, id_cmp, kind_cmp, map_of, mirror_cmp, share_cmp, view_cmp}
 pub use Rattle.adr_state.specs.Mirror.{evidence_of, joined, key_of, mark_of, raised}
 pub use Rattle.adr_state.specs.Names.{if_free, if_new, is_full, is_taken, is_taken_by_another, resource_name, ven_name}
 pub use Rattle.adr_state.specs.Portfolios.{DropResource, DropShare, DropVen, PortfolioChange, PutResource, PutShare, PutVen, is_of_ven, with_share, without_resource, without_ven}
@@ -25,6 +26,7 @@ pub use Rattle.adr_state.specs.declared.base.Mark.{Mark}
 pub use Rattle.adr_state.specs.declared.base.Mark.TheVariants.{Dead, Live}
 pub use Rattle.adr_state.specs.declared.keys.MirrorKey.{MirrorKey}
 pub use Rattle.adr_state.specs.declared.keys.ShareKey.{ShareKey}
+pub use Rattle.adr_state.specs.declared.keys.ViewKey.{ViewKey}
 pub use Rattle.adr_state.specs.declared.limits.Limits.{Limits}
 pub use Rattle.adr_state.specs.declared.participants.Participant.{Participant}
 pub use Rattle.adr_state.specs.declared.portfolio.Resource.{Resource}
@@ -32,7 +34,7 @@ pub use Rattle.adr_state.specs.declared.portfolio.Ven.{Ven}
 pub use Rattle.adr_sql.proofs.Counts.{IsCountText}
 pub use Rattle.adr_sql.proofs.Joins.{IsSelectText, join_runs, named_is, order_from}
 pub use Rattle.adr_sql.proofs.Keys.{and_true, are_full, equal_is, same_bool, then_eq, ties}
-pub use Rattle.adr_sql.proofs.Maps.{entry_found, fold_keys, insert_key_is, is_text, keys_alone, keys_back, number_key, number_text_key, text_number_key, text_passes, text_same}
+pub use Rattle.adr_sql.proofs.Maps.{entry_found, fold_keys, insert_key_is, is_text, keys_alone, keys_back, number_key, number_text_key, number_text_number_key, text_number_key, text_passes, text_same, then_none}
 pub use Rattle.adr_sql.proofs.Places.{seen, stores_at}
 pub use Rattle.adr_sql.proofs.Removals.{IsRemoveText}
 pub use Rattle.adr_sql.proofs.Selections.{absent_key, equalities, first_columns, first_runs, is_found, pairs_from, passes, read_runs, select_runs, selection, whole_rows}

@@ -20,14 +20,13 @@ pub record KeptMap (K V : Type 0) : Type 0 where
   pub stored : (kept : Kept) → rows_of_table (contents_of kept) rows.at ≡ map rows.row_of (entries kept)
   pub changed : (es : List (K × V)) (kept : Kept) → with_table (contents_of kept) rows.at (map rows.row_of es) ≡ contents_of (with_entries es kept)
 
--- what `refl` finds of the texts on such a table that put, remove and read an entry, read all of them and count them, and of its values
-pub record HasTexts {K V : Type 0} (m : KeptMap K V) (put remove one all count : List ℕ) : Type 0 where
+-- what `refl` finds of the texts on such a table that put, remove and read an entry and read all of them, and of its values
+pub record HasTexts {K V : Type 0} (m : KeptMap K V) (put remove one all : List ℕ) : Type 0 where
   pub puts : (e : K × V) → IsUpsertText schema m.rows.at m.rows.table put (m.rows.row_of e) (m.rows.row_of e)
   pub fit : (e : K × V) → AreValues m.rows.table (m.rows.row_of e)
   pub removes : IsRemoveText schema m.rows.at m.rows.table end (equalities 0 (key_width m.rows)) remove
   pub reads_one : IsSelectText schema m.rows.table (whole_rows (key_width m.rows) m.rows.table) end one
   pub reads_all : IsSelectText schema m.rows.table (whole_rows 0 m.rows.table) end all
-  pub counts : IsCountText schema 0 m.rows.table count
 
 -- rows are read as what they stand for, where each is
 pub read_back : {X : Type 0} (Reads : Row → X → Type 0) (row_of : X → Row) (xs ys : List X) → ((x y : X) → Has ys y → Reads (row_of y) x → x ≡ y) → AllZip Reads (map row_of ys) xs → xs ≡ ys

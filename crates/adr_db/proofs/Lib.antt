@@ -13,6 +13,7 @@ pub mod PolledKeys
 pub mod VenStatements
 pub mod ResourceStatements
 pub mod ShareStatements
+pub mod StampStatements
 pub mod Cascades
 pub mod Unseen
 pub mod Sharing

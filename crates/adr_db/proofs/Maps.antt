@@ -1,10 +1,10 @@
 -- The tables that are maps.
 use Rattle.std.proofs.Common.{ℕ, map, refl, sym}
-use Rattle.adr_db.proofs.Common.{nat_cmp, map-map, Mark, Ven, Resource, MirrorKey, ShareKey, mirror_cmp, share_cmp, with_table, keys_alone}
-use Rattle.adr_db.specs.Rows.{mark_row, key_row, number_row, ven_row, ven_columns, resource_row, resource_columns, share_row, share_key_row}
+use Rattle.adr_db.proofs.Common.{nat_cmp, map-map, Mark, Ven, Resource, Stamps, MirrorKey, ShareKey, ViewKey, mirror_cmp, share_cmp, view_cmp, with_table, keys_alone}
+use Rattle.adr_db.specs.Rows.{mark_row, key_row, number_row, ven_row, ven_columns, resource_row, resource_columns, share_row, share_key_row, stamp_row, view_key_row}
 use Rattle.adr_db.specs.Kept.{contents_of}
-use Rattle.adr_db.proofs.Rows.{mirror_codec, polled_codec, number_codec, share_codec}
-use Rattle.adr_db.proofs.Tables.{mirror, mirror_keyed, polled, polled_keyed, ven, ven_keyed, resource, resource_keyed, share, share_keyed}
+use Rattle.adr_db.proofs.Rows.{mirror_codec, polled_codec, number_codec, share_codec, stamp_codec}
+use Rattle.adr_db.proofs.Tables.{mirror, mirror_keyed, polled, polled_keyed, ven, ven_keyed, resource, resource_keyed, share, share_keyed, stamp, stamp_keyed}
 use Rattle.adr_db.proofs.KeptMaps.{KeptMap}
 
 abbrev pub mirror_map : KeptMap MirrorKey Mark
@@ -49,6 +49,15 @@ share_map = record {
   rows = record { at = 5; table = share; keyed = share_keyed; cmp = share_cmp; row_of = share_row; key_of = share_key_row; codec = share_codec };
   entries = λ kept. kept.portfolio.shares;
   with_entries = λ es kept. record kept { portfolio = record kept.portfolio { shares = es } };
+  stored = λ kept. refl;
+  changed = λ es kept. refl;
+}
+
+abbrev pub stamp_map : KeptMap ViewKey Stamps
+stamp_map = record {
+  rows = record { at = 6; table = stamp; keyed = stamp_keyed; cmp = view_cmp; row_of = stamp_row; key_of = view_key_row; codec = stamp_codec };
+  entries = λ kept. kept.stamps;
+  with_entries = λ es kept. record kept { stamps = es };
   stored = λ kept. refl;
   changed = λ es kept. refl;
 }

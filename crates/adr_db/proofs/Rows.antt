@@ -1,14 +1,15 @@
 -- Keys and marks as rows, and back.
-use Rattle.std.proofs.Common.{◌≡◌, ◌<◌, ◌<ℤ◌, sym, ℕ, pos, arith, Bool, true, false, cond, List, [], ◌∷◌, refl, ap, ap₂, ◌∙◌, Ordering, Less, Equal, Greater}
-use Rattle.adr_db.proofs.Common.{int_cmp, nat_cmp, ordering_then, MatchOrdering, ranked, Int, Text, Row, column, Mark, Live, Dead, Ven, Resource, MirrorKey, ShareKey, Participant, kind_cmp, id_cmp, mirror_cmp, share_cmp, cells, key_order, number_key, text_number_key, number_text_key, text_same}
+use Rattle.std.proofs.Common.{◌≡◌, ◌<◌, ◌<ℤ◌, sym, ℕ, pos, arith, Bool, true, false, cond, List, [], ◌∷◌, ◌++◌, refl, ap, ap₂, ◌∙◌, Ordering, Less, Equal, Greater}
+use Rattle.adr_db.proofs.Common.{int_cmp, nat_cmp, ordering_then, MatchOrdering, ranked, Int, Text, Row, column, Mark, Live, Dead, Ven, Resource, Stamps, MirrorKey, ShareKey, ViewKey, Participant, kind_cmp, id_cmp, mirror_cmp, share_cmp, view_cmp, cells, key_order, number_key, text_number_key, number_text_key, number_text_number_key, text_same, then_none}
 use Rattle.std.specs.Cmp.{int_cmp_is}
 use Rattle.std.proofs.lemmas.Int.{ints}
 use Rattle.sqlite_value.specs.declared.value.Value.{Value}
 use Rattle.adr_objects.specs.declared.kind.Kind.{Kind}
 use Rattle.adr_objects.specs.declared.kind.Kind.TheVariants.{Program, Event}
+use Rattle.adr_state.specs.declared.keys.ViewKey.TheVariants as view
 use Rattle.adr_sql.specs.Codecs.{IsCodec}
 use Rattle.adr_db.specs.declared.meta.Meta.{Meta}
-use Rattle.adr_db.specs.Rows.{number, kind_number, meta_row, key_row, mark_columns, mark_row, number_row, ven_columns, resource_columns, share_key_row, share_row, participant_row}
+use Rattle.adr_db.specs.Rows.{number, kind_number, meta_row, key_row, mark_columns, mark_row, number_row, ven_columns, resource_columns, share_key_row, share_row, stamps_columns, view_kind, view_id, view_resource, view_key_row, stamp_row, participant_row}
 
 -- ---- keys
 
@@ -93,6 +94,30 @@ share_codec = record {
   same = λ j k v e. ap (λ key. share_row (key, v)) (share_same j k e);
 }
 
+-- ---- the stamps of what is shown
+
+views_as_numbers : (j k : ViewKey) → ordering_then (int_cmp (pos (view_kind j)) (pos (view_kind k))) (ordering_then (id_cmp (view_id j) (view_id k)) (int_cmp (pos (view_resource j)) (pos (view_resource k)))) ≡ view_cmp j k
+views_as_numbers (view.Program a) (view.Program b) = then_none (id_cmp a b)
+views_as_numbers (view.Program a) (view.Event b n) = refl
+views_as_numbers (view.Event a m) (view.Program b) = refl
+views_as_numbers (view.Event a m) (view.Event b n) = ap (ordering_then (id_cmp a b)) (numbers_as_values m n)
+
+views_as_rows : (j k : ViewKey) (a b : Row) → key_order 3 (view_key_row j ++ a) (view_key_row k ++ b) ≡ view_cmp j k
+views_as_rows j k a b = number_text_number_key (pos (view_kind j)) (pos (view_kind k)) (view_id j) (view_id k) (pos (view_resource j)) (pos (view_resource k)) a b ∙ views_as_numbers j k
+
+view_same : (j k : ViewKey) → view_cmp k j ≡ Equal → k ≡ j
+view_same (view.Program a) (view.Program b) h = ap view.Program (text_same a b h)
+view_same (view.Program a) (view.Event b n) h = absurd cc
+view_same (view.Event a m) (view.Program b) h = absurd cc
+view_same (view.Event a m) (view.Event b n) h = let both = both_tie (id_cmp b a) (nat_cmp n m) h in ap₂ view.Event (text_same a b both.0) (number_same_is n m both.1)
+
+pub stamp_codec : IsCodec 3 view_cmp stamp_row view_key_row
+stamp_codec = record {
+  named = λ k e. views_as_rows k e.0 [] (stamps_columns e.1);
+  keyed = λ k v e. views_as_rows k e.0 (stamps_columns v) (stamps_columns e.1);
+  same = λ j k v e. ap (λ key. stamp_row (key, v)) (view_same j k e);
+}
+
 -- ---- a row keeps one value
 
 kind_kept : (a b : Kind) → number (kind_number a) ≡ number (kind_number b) → a ≡ b
@@ -150,6 +175,15 @@ resource_kept a b h = λ i. record { ven = number_of (column (h i) 0); name = te
 
 pub share_key_kept : (j k : ShareKey) → share_key_row j ≡ share_key_row k → j ≡ k
 share_key_kept j k h = λ i. record { program = text_of (column (h i) 0); resource = number_of (column (h i) 1) }
+
+pub view_key_kept : (j k : ViewKey) → view_key_row j ≡ view_key_row k → j ≡ k
+view_key_kept (view.Program a) (view.Program b) h = λ i. view.Program (text_of (column (h i) 1))
+view_key_kept (view.Program a) (view.Event b n) h = absurd (let e : 1 ≡ 2 = number_kept 1 2 (ap (λ (row : Row). column row 0) h) in omega arith)
+view_key_kept (view.Event a m) (view.Program b) h = absurd (let e : 2 ≡ 1 = number_kept 2 1 (ap (λ (row : Row). column row 0) h) in omega arith)
+view_key_kept (view.Event a m) (view.Event b n) h = λ i. view.Event (text_of (column (h i) 1)) (number_of (column (h i) 2))
+
+pub stamps_kept : (a b : Stamps) → stamps_columns a ≡ stamps_columns b → a ≡ b
+stamps_kept a b h = λ i. record { created = number_of (column (h i) 0); modified = number_of (column (h i) 1) }
 
 pub participant_kept : (p q : Participant) → participant_row p ≡ participant_row q → p ≡ q
 participant_kept p q h = λ i. record { resource = number_of (column (h i) 0); weight = number_of (column (h i) 1); name = text_of (column (h i) 2); ven_name = text_of (column (h i) 3) }

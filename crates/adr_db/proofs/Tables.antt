@@ -6,7 +6,7 @@ use Rattle.sqlite_value.specs.Keys.{joined}
 use Rattle.sqlite_catalog.specs.Listing.{automatic}
 use Rattle.adr_sql.proofs.References.{is_childless}
 use Rattle.adr_sql.proofs.Upserts.{IsKeyed}
-use Rattle.adr_db.specs.Tables.{schema, meta_table, mirror_table, polled_table, ven_table, resource_table, share_table}
+use Rattle.adr_db.specs.Tables.{schema, meta_table, mirror_table, polled_table, ven_table, resource_table, share_table, stamp_table}
 
 -- each table with its tree
 abbrev pub meta : Table
@@ -26,6 +26,9 @@ resource = record resource_table { tree = 9 }
 
 abbrev pub share : Table
 share = record share_table { tree = 12 }
+
+abbrev pub stamp : Table
+stamp = record stamp_table { tree = 15 }
 
 -- each is written over by its key, also those to which references point
 pub meta_keyed : IsKeyed schema 0 meta
@@ -52,6 +55,10 @@ pub share_keyed : IsKeyed schema 5 share
 unfolding same_name joined
 share_keyed = record { place = record { found = refl; alone = refl }; unfollowed = refl; uncounted = refl; unnumbered = refl; index = automatic share 0 share.primary 13; aimed = refl; order = refl; places = refl }
 
+pub stamp_keyed : IsKeyed schema 6 stamp
+unfolding same_name joined
+stamp_keyed = record { place = record { found = refl; alone = refl }; unfollowed = refl; uncounted = refl; unnumbered = refl; index = automatic stamp 0 stamp.primary 16; aimed = refl; order = refl; places = refl }
+
 -- no reference points to these
 pub polled_childless : is_childless schema polled.tree ≡ true
 unfolding same_name joined
@@ -60,3 +67,7 @@ polled_childless = refl
 pub share_childless : is_childless schema share.tree ≡ true
 unfolding same_name joined
 share_childless = refl
+
+pub stamp_childless : is_childless schema stamp.tree ≡ true
+unfolding same_name joined
+stamp_childless = refl

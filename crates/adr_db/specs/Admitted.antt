@@ -10,6 +10,7 @@ use Rattle.adr_objects.specs.declared.shown.Stamps.{Stamps}
 use Rattle.adr_state.specs.declared.base.Mark.{Mark}
 use Rattle.adr_state.specs.declared.keys.MirrorKey.{MirrorKey}
 use Rattle.adr_state.specs.declared.keys.ShareKey.{ShareKey}
+use Rattle.adr_state.specs.declared.keys.ViewKey.{ViewKey}
 use Rattle.adr_state.specs.declared.portfolio.Ven.{Ven}
 use Rattle.adr_state.specs.declared.portfolio.Resource.{Resource}
 use Rattle.adr_state.specs.declared.participants.Participant.{Participant}
@@ -19,7 +20,7 @@ use Rattle.adr_db.specs.declared.meta.Meta.{Meta}
 use Rattle.adr_db.specs.declared.mirror.MarkColumns.{MarkColumns}
 use Rattle.adr_db.specs.declared.mirror.MirrorRow.{MirrorRow}
 use Rattle.adr_sql.specs.Keys.{cells}
-use Rattle.adr_db.specs.Rows.{number, meta_row, key_row, columns_row, mark_from, mirror_row, ven_columns, resource_columns, share_key_row, participant_row}
+use Rattle.adr_db.specs.Rows.{number, meta_row, key_row, columns_row, mark_from, mirror_row, ven_columns, resource_columns, share_key_row, view_id, view_key_row, stamps_columns, participant_row}
 
 abbrev pub IsNumber : ℕ → Type 0
 IsNumber n = ⊤
@@ -59,6 +60,12 @@ IsResource resource = IsResourceNameText resource.name × AreStamps resource.sta
 
 abbrev pub IsShareKey : ShareKey → Type 0
 IsShareKey key = IsIdText key.program
+
+abbrev pub IsViewKey : ViewKey → Type 0
+IsViewKey key = IsIdText (view_id key)
+
+abbrev pub IsStamped : ViewKey × Stamps → Type 0
+IsStamped e = IsViewKey e.0 × AreStamps e.1
 
 abbrev pub IsParticipant : Participant → Type 0
 IsParticipant p = IsTrue (is_weight p.weight) × (IsNameText p.name × IsNameText p.ven_name)
@@ -127,6 +134,15 @@ ReadsShareWeight row weight = number weight ≡ column row 2
 
 abbrev pub ReadsShare : Row → ShareKey × ℕ → Type 0
 ReadsShare row e = ReadsShareKey row e.0 × ReadsShareWeight row e.1
+
+abbrev pub ReadsViewKey : Row → ViewKey → Type 0
+ReadsViewKey row key = view_key_row key ≡ cells 0 3 row
+
+abbrev pub ReadsStamps : Row → Stamps → Type 0
+ReadsStamps row stamps = stamps_columns stamps ≡ cells 3 2 row
+
+abbrev pub ReadsStamped : Row → ViewKey × Stamps → Type 0
+ReadsStamped row e = ReadsViewKey row e.0 × ReadsStamps row e.1
 
 abbrev pub ReadsParticipant : Row → Participant → Type 0
 ReadsParticipant row p = participant_row p ≡ cells 0 4 row

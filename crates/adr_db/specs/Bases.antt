@@ -1,10 +1,13 @@
--- What is kept of a base. What has no table yet is no part of it.
+-- What is kept of a state. What has no table yet is no part of it.
 use Rattle.std.specs.Prelude.{Option, None, Some, is_some, List, [], length}
 use Rattle.sqlite_catalog.specs.Listing.{IsSound}
 use Rattle.sqlite.specs.Tree.{Trees}
-use Rattle.sqlite.specs.State.{State}
+use Rattle.sqlite.specs.State as sql
+use Rattle.adr_objects.specs.declared.shown.Stamps.{Stamps}
 use Rattle.adr_state.specs.declared.base.Base.{Base}
+use Rattle.adr_state.specs.declared.state.State.{State}
 use Rattle.adr_state.specs.declared.keys.MirrorKey.{MirrorKey}
+use Rattle.adr_state.specs.declared.keys.ViewKey.{ViewKey}
 use Rattle.adr_db.specs.declared.meta.Meta.{Meta}
 use Rattle.adr_sql.specs.Contents.{StoresEach}
 use Rattle.adr_db.specs.Tables.{schema}
@@ -19,24 +22,33 @@ keys_polled (Some keys) = keys
 abbrev pub meta_of : Base → Meta
 meta_of base = record first_meta { serial = base.serial; scan = is_some base.scan; keys = length base.mirror }
 
--- the maps of a base, beside any numbers
-abbrev pub kept_beside : Meta → Base → Kept
-kept_beside row base = record { meta = row; mirror = base.mirror; polled = keys_polled base.scan; portfolio = base.portfolio }
+-- what stands beside the maps of a base: the numbers of the node, and the stamps of what is shown
+pub record Beside : Type 0 where
+  pub numbers : Meta
+  pub stamps : List (ViewKey × Stamps)
 
-abbrev pub kept_of : Base → Kept
-kept_of base = kept_beside (meta_of base) base
+-- the maps of a base, with what stands beside them
+abbrev pub kept_beside : Beside → Base → Kept
+kept_beside beside base = record { meta = beside.numbers; mirror = base.mirror; polled = keys_polled base.scan; portfolio = base.portfolio; stamps = beside.stamps }
 
--- the tables hold a base, with its own numbers
-abbrev pub HoldsBase : Base → State → Type 0
-HoldsBase base s = Keeps (kept_of base) s
+-- of a state: its base's own numbers, and its stamps
+abbrev pub beside_of : State → Beside
+beside_of state = record { numbers = meta_of state.base; stamps = state.stamps }
 
--- and beside these numbers
-abbrev pub HoldsBeside : Meta → Base → State → Type 0
-HoldsBeside row base s = Keeps (kept_beside row base) s
+abbrev pub kept_of : State → Kept
+kept_of state = kept_beside (beside_of state) state.base
 
--- Trees that a crash may leave hold a base: they list the schema and obey it, they store the rows of the base, and each version says what the types
+-- the tables hold a base, beside these
+abbrev pub HoldsBeside : Beside → Base → sql.State → Type 0
+HoldsBeside beside base s = Keeps (kept_beside beside base) s
+
+-- the tables hold a state
+abbrev pub HoldsState : State → sql.State → Type 0
+HoldsState state s = Keeps (kept_of state) s
+
+-- Trees that a crash may leave hold a state: they list the schema and obey it, they store the rows of the state, and each version says what the types
 -- admit. An open of them finds tables that hold it.
-pub record AreLeftWith (base : Base) (trees : Trees) : Type 0 where
+pub record AreLeftWith (state : State) (trees : Trees) : Type 0 where
   pub sound : IsSound schema trees
-  pub rows : StoresEach schema.tables trees (contents_of (kept_of base))
-  pub marks : AreMarks base.mirror
+  pub rows : StoresEach schema.tables trees (contents_of (kept_of state))
+  pub marks : AreMarks state.base.mirror

@@ -1,27 +1,32 @@
 -- The tables hold the state: the rows of each, read by key, are the corresponding map.
 use Rattle.std.specs.List.{AllByRecursion}
 use Rattle.std.specs.Prelude.{ℕ, ℤ, pos, negsuc, false, Option, None, Some, take, bytes_eq, List, [], ◌∷◌, map, filter}
-use Rattle.std.specs.BTreeMap.{insert_entry}
+use Rattle.std.specs.BTreeMap.{insert_entry, is_at}
 use Rattle.std.specs.BTreeSet.{insert_key}
+use Rattle.std.specs.Map.{remove_entry}
 use Rattle.sqlite.specs.State.{State}
 use Rattle.adr_objects.specs.Bodies.{IsBody}
+use Rattle.adr_objects.specs.declared.shown.Stamps.{Stamps}
 use Rattle.adr_state.specs.declared.base.Mark.{Mark}
 use Rattle.adr_state.specs.declared.base.Mark.TheVariants.{Live, Dead}
 use Rattle.adr_state.specs.declared.portfolio.Portfolio.{Portfolio}
 use Rattle.adr_state.specs.declared.keys.MirrorKey.{MirrorKey}
-use Rattle.adr_state.specs.Keys.{mirror_cmp}
+use Rattle.adr_state.specs.declared.keys.ViewKey.{ViewKey}
+use Rattle.adr_state.specs.Keys.{mirror_cmp, view_cmp}
 use Rattle.adr_state.specs.Portfolios.{nobody}
 use Rattle.adr_sql.specs.Contents.{Contents, Holds}
 use Rattle.adr_db.specs.declared.meta.Meta.{Meta}
 use Rattle.adr_db.specs.Tables.{schema}
-use Rattle.adr_db.specs.Rows.{meta_row, mark_row, key_row, ven_row, resource_row, share_row}
+use Rattle.adr_db.specs.Rows.{meta_row, mark_row, key_row, ven_row, resource_row, share_row, stamp_row}
 
--- what is kept: the numbers of the node, the mirror in the order of its keys, the polled keys in that order, and the portfolio
+-- what is kept: the numbers of the node, the mirror in the order of its keys, the polled keys in that order, the portfolio, and the
+-- stamps of what is shown
 pub record Kept : Type 0 where
   pub meta : Meta
   pub mirror : List (MirrorKey × Mark)
   pub polled : List MirrorKey
   pub portfolio : Portfolio
+  pub stamps : List (ViewKey × Stamps)
 
 -- the rows of each table, in the order of the tables
 abbrev pub contents_of : Kept → Contents
@@ -32,6 +37,7 @@ contents_of kept =
     ∷ map ven_row kept.portfolio.vens
     ∷ map resource_row kept.portfolio.resources
     ∷ map share_row kept.portfolio.shares
+    ∷ map stamp_row kept.stamps
     ∷ []
 
 -- a version says what the types admit, so that its canonical text reads back
@@ -52,7 +58,7 @@ abbrev pub first_meta : Meta
 first_meta = record { serial = 0; scan = false; made = 0; sent = 0; given_up = 0; dropped = 0; keys = 0 }
 
 abbrev pub nothing_kept : Kept
-nothing_kept = record { meta = first_meta; mirror = []; polled = []; portfolio = nobody }
+nothing_kept = record { meta = first_meta; mirror = []; polled = []; portfolio = nobody; stamps = [] }
 
 abbrev pub with_meta : Meta → Kept → Kept
 with_meta meta kept = record kept { meta = meta }
@@ -68,6 +74,12 @@ with_none_polled kept = record kept { polled = [] }
 
 abbrev pub with_portfolio : (Portfolio → Portfolio) → Kept → Kept
 with_portfolio change kept = record kept { portfolio = change kept.portfolio }
+
+abbrev pub with_stamps : ViewKey → Stamps → Kept → Kept
+with_stamps key stamps kept = record kept { stamps = insert_entry view_cmp kept.stamps key stamps }
+
+abbrev pub without_stamps : ViewKey → Kept → Kept
+without_stamps key kept = record kept { stamps = remove_entry (is_at (view_cmp key)) kept.stamps }
 
 -- ---- names
 

@@ -1,5 +1,5 @@
 -- How what is kept stands in rows of SQL's values.
-use Rattle.std.specs.Prelude.{ℕ, pos, ◌==◌, if◌then◌else◌, [], ◌∷◌, ◌++◌, string_bytes, Result, Ok, Err}
+use Rattle.std.specs.Prelude.{ℕ, pos, List, ◌==◌, if◌then◌else◌, [], ◌∷◌, ◌++◌, string_bytes, Result, Ok, Err}
 use Rattle.sqlite.specs.declared.types.Value.TheVariants.{Int, Text}
 use Rattle.sqlite.specs.Order.{Row, column}
 use Rattle.adr_text.specs.declared.refusal.Refusal.{Refusal}
@@ -16,6 +16,8 @@ use Rattle.adr_state.specs.declared.portfolio.Ven.{Ven}
 use Rattle.adr_state.specs.declared.portfolio.Resource.{Resource}
 use Rattle.adr_state.specs.declared.keys.MirrorKey.{MirrorKey}
 use Rattle.adr_state.specs.declared.keys.ShareKey.{ShareKey}
+use Rattle.adr_state.specs.declared.keys.ViewKey.{ViewKey}
+use Rattle.adr_state.specs.declared.keys.ViewKey.TheVariants as view
 use Rattle.adr_state.specs.declared.participants.Participant.{Participant}
 use Rattle.adr_objects.specs.declared.shown.Stamps.{Stamps}
 use Rattle.adr_db.specs.declared.meta.Meta.{Meta}
@@ -91,6 +93,31 @@ share_key_row key = Text key.program ∷ number key.resource ∷ []
 -- a share behind its key
 abbrev pub share_row : ShareKey × ℕ → Row
 share_row e = Text e.0.program ∷ number e.0.resource ∷ number e.1 ∷ []
+
+-- ---- the stamps of what is shown
+
+-- 1 a program, 2 what a resource is shown of an event
+abbrev pub view_kind : ViewKey → ℕ
+view_kind (view.Program id) = 1
+view_kind (view.Event id resource) = 2
+
+abbrev pub view_id : ViewKey → List ℕ
+view_id (view.Program id) = id
+view_id (view.Event id resource) = id
+
+-- the resource's number; 0 of a program
+abbrev pub view_resource : ViewKey → ℕ
+view_resource (view.Program id) = 0
+view_resource (view.Event id resource) = resource
+
+abbrev pub view_key_row : ViewKey → Row
+view_key_row key = number (view_kind key) ∷ Text (view_id key) ∷ number (view_resource key) ∷ []
+
+-- the stamps of a key behind it
+abbrev pub stamp_row : ViewKey × Stamps → Row
+stamp_row e = view_key_row e.0 ++ stamps_columns e.1
+
+-- ---- participants
 
 -- a resource with its weight in a program and the names
 abbrev pub participant_row : Participant → Row

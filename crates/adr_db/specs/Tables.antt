@@ -69,8 +69,18 @@ share_table =
     ∷ column (codes "weight") Integer
     ∷ []) ((1 ∷ 2 ∷ []) ∷ (2 ∷ 1 ∷ []) ∷ []) (1 ∷ 2 ∷ []) (weight_check ∷ []) (cascades_to 2 (codes "resource") (codes "id") ∷ [])
 
+-- when each key of what is shown appeared and changed
+abbrev pub stamp_table : Table
+stamp_table =
+    table (codes "stamp") (column (codes "kind") Integer
+    ∷ column (codes "a") Text
+    ∷ column (codes "b") Integer
+    ∷ column (codes "created") Integer
+    ∷ column (codes "modified") Integer
+    ∷ []) ((1 ∷ 2 ∷ 3 ∷ []) ∷ []) (1 ∷ 2 ∷ 3 ∷ []) []
+
 abbrev pub tables : List Table
-tables = meta_table ∷ mirror_table ∷ polled_table ∷ ven_table ∷ resource_table ∷ share_table ∷ []
+tables = meta_table ∷ mirror_table ∷ polled_table ∷ ven_table ∷ resource_table ∷ share_table ∷ stamp_table ∷ []
 
 abbrev pub schema : Schema
 schema = schema_of tables

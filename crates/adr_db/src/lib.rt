@@ -11,6 +11,7 @@ mod resource;
 mod schema;
 mod share;
 mod sharers;
+mod stamp;
 mod statement;
 mod ven;
 
@@ -27,5 +28,6 @@ pub use resource::{
 pub use schema::create;
 pub use share::{count_shares, put_share, read_share, read_shares, remove_share};
 pub use sharers::read_sharers;
+pub use stamp::{put_stamps, read_stamps, read_stamps_of, remove_stamps};
 pub use statement::refusal_of;
 pub use ven::{count_vens, put_ven, read_ven, read_vens, read_vens_named, remove_ven};

@@ -36,15 +36,18 @@ const RESOURCE: &str =
 const SHARE: &str =
     "CREATE TABLE share (program TEXT NOT NULL, resource INT NOT NULL REFERENCES resource (id) ON DELETE CASCADE, weight INT NOT NULL CHECK (weight >= 1 AND weight <= 1000000), PRIMARY KEY (program, resource), UNIQUE (resource, program)) STRICT";
 
+const STAMP: &str =
+    "CREATE TABLE stamp (kind INT NOT NULL, a TEXT NOT NULL, b INT NOT NULL, created INT NOT NULL, modified INT NOT NULL, PRIMARY KEY (kind, a, b)) STRICT";
+
 /// Makes the tables of a new node, which keep nothing, in an empty database.
 pub fn create<S: Alter>(tx: &mut Transaction<'_, S>) -> Result<(), Refusal>
     ensures same_reference { tx.new.conn.ghost_name ≡ tx.old.conn.ghost_name }
     ensures stays { Stays S.Store tx.old.conn.now tx.new.conn.now result }
     ensures made { HasCleanDisk (state S.Store tx.new.conn.now) → OnOk result (Holds no_schema [] (state S.Store tx.old.conn.now) → Keeps nothing_kept (state S.Store tx.new.conn.now)) }
     ensures refused { IfErr result IsOfStore }
-    ensures fails { RefusesToRunAll S.Store tx.old.conn.now tx.new.conn.now (META.now ∷ MIRROR.now ∷ POLLED.now ∷ VEN.now ∷ RESOURCE.now ∷ SHARE.now ∷ []) PUT.now (meta_numbers first_meta) result }
+    ensures fails { RefusesToRunAll S.Store tx.old.conn.now tx.new.conn.now (META.now ∷ MIRROR.now ∷ POLLED.now ∷ VEN.now ∷ RESOURCE.now ∷ SHARE.now ∷ STAMP.now ∷ []) PUT.now (meta_numbers first_meta) result }
 {
-    let texts = [META, MIRROR, POLLED, VEN, RESOURCE, SHARE];
+    let texts = [META, MIRROR, POLLED, VEN, RESOURCE, SHARE, STAMP];
     match create_tables(tx, &texts) {
         Ok(()) => write_meta(tx, &Meta::first()),
         Err(error) => Err(refusal_of(error)),

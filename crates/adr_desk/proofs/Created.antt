@@ -10,7 +10,7 @@ use Rattle.adr_desk.proofs.Transactions.{ends_whole}
 
 module _ {S : Type 0} (g : Ghosts S) (old begun last end : Held S) (ended : Result Unit Refusal) where
   pub created_whole : begun ≡ record old { in_transaction = true } → Stays g begun last {T = Unit {0}} {E = Refusal} (Ok tt) → (HasCleanDisk (state g last) → Holds no_schema [] (state g begun) → Keeps nothing_kept (state g last)) → Ends g last end ended
-      → Commits g old end (λ s. Holds no_schema [] (state g old) → Keeps nothing_kept s) (λ trees. Holds no_schema [] (state g old) → AreLeftWith empty.base trees) ended
+      → Commits g old end (λ s. Holds no_schema [] (state g old) → Keeps nothing_kept s) (λ trees. Holds no_schema [] (state g old) → AreLeftWith empty trees) ended
   created_whole is stays made ends =
       ends_whole g old last end {T = Unit {0}} tt ended _ _ (subst (λ (b : Held S). Stays g b last {T = Unit {0}} {E = Refusal} (Ok tt)) is stays)
       (λ clean none. made clean (subst (λ (b : Held S). Holds no_schema [] (state g b)) (sym is) (holds_now no_schema [] (state g old) _ refl none)))

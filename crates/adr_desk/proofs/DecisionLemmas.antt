@@ -1,11 +1,13 @@
 -- What the layers below carry out is what the command decides.
 use Rattle.std.proofs.Common.{◌≡◌, ◌⊎◌, inl, inr, ℕ, ◌+◌, List, Option, Some, None, Result, Ok, Err, IfErr, refl, sym, ap, subst, ◌∙◌}
 use Rattle.std.proofs.lemmas.Result.{IfErr-weaker}
-use Rattle.adr_db.proofs.Common.{Ghosts, Held, state, IsRefusalOf, Refusal, OutOfMemory, Store, Base, PortfolioChange, BaseChange, JoinMarks, SetScan, ChangePortfolio, changed, MirrorKey, scan_begin, scan_end, Limits, State}
+use Rattle.adr_db.proofs.Common.{Ghosts, Held, state, IsRefusalOf, Refusal, OutOfMemory, Store, Base, PortfolioChange, BaseChange, JoinMarks, SetScan, ChangePortfolio, changed, MirrorKey, scan_begin, scan_end, Limits}
 use Rattle.adr_text.specs.Refusals.{◌>>=◌}
 use Rattle.adr_state.specs.declared.portfolio.Portfolio.{Portfolio}
+use Rattle.adr_state.specs.declared.state.State.{State}
+use Rattle.sqlite.specs.State as sql
 use Rattle.adr_db.specs.declared.meta.Meta.{Meta}
-use Rattle.adr_db.specs.Bases.{meta_of, kept_beside, HoldsBeside}
+use Rattle.adr_db.specs.Bases.{beside_of, meta_of, kept_beside, HoldsBeside}
 use Rattle.adr_db.specs.BaseCalls.{Carries, Makes, Refuses, RefusesOn}
 use Rattle.adr_db.specs.Calls.{IsOfStore}
 use Rattle.adr_machine.specs.declared.answer.Answer.{Answer}
@@ -46,7 +48,7 @@ module _ {S : Type 0} (g : Ghosts S) (old new : Held S) where
   pub portfolio_carries : {A : Type 0} (told : A → Answer) (tell : A → Edit) → ((base after : Base) (x : A) → IsAnswer base (Some (told x)) after (tell x)) → (decide : Portfolio → Result (A × PortfolioChange) Refusal) (meta : Meta) (r : Result A Refusal)
       → Carries g old new decide r → Refuses g old new (λ kept. decide kept.portfolio) r → CarriesOut g old new (λ base. of_portfolio told (decide base.portfolio)) meta meta (told_by tell r)
   portfolio_carries told tell agree decide meta (Ok x) carries refuses = record {
-    decides = λ clean row base was same. let it = carries clean (kept_beside row base) was in record {
+    decides = λ clean beside base was same. let it = carries clean (kept_beside beside base) was in record {
       decision = answered (told x) (ChangePortfolio it.change);
       decided = ap (of_portfolio told) it.decided;
       holds = it.keeps;
@@ -57,7 +59,7 @@ module _ {S : Type 0} (g : Ghosts S) (old new : Held S) where
   }
   portfolio_carries told tell agree decide meta (Err e) carries refuses = record {
     decides = λ clean. tt;
-    refuses = λ clean row base was same. then_refused e (decide base.portfolio) _ (refuses clean (kept_beside row base) was);
+    refuses = λ clean beside base was same. then_refused e (decide base.portfolio) _ (refuses clean (kept_beside beside base) was);
   }
 
   -- one whose change is decided by itself, and whose answer follows
@@ -66,7 +68,7 @@ module _ {S : Type 0} (g : Ghosts S) (old new : Held S) where
       (refused : (base : Base) (e : Refusal) → IsRefusalOf e (part base) → IsRefusalOf e (whole base)) where
     base_carries : (r : Result A Refusal) → Makes g old new part before after IsRight r → RefusesOn g old new part before r → CarriesOut g old new whole before after (told_by tell r)
     base_carries (Ok x) makes refuses = record {
-      decides = λ clean row base was same. let it = makes clean row base was same in let so = follows base it.change x it.decided it.right in record {
+      decides = λ clean beside base was same. let it = makes clean beside base was same in let so = follows base it.change x it.decided it.right in record {
         decision = record { answer = so.0; change = it.change };
         decided = so.1;
         holds = it.holds;
@@ -75,7 +77,7 @@ module _ {S : Type 0} (g : Ghosts S) (old new : Held S) where
       };
       refuses = λ clean. tt;
     }
-    base_carries (Err e) makes refuses = record { decides = λ clean. tt; refuses = λ clean row base was same. refused base e (refuses clean row base was same) }
+    base_carries (Err e) makes refuses = record { decides = λ clean. tt; refuses = λ clean beside base was same. refused base e (refuses clean beside base was same) }
 
   -- the number of changes is the answer
   pub counted_carries : (decide : Base → Result BaseChange Refusal) (before after : Meta) (r : Result (List MirrorKey) Refusal) → Makes g old new decide before after (λ base made keys. HaveRisen base.mirror made.mirror keys) r → RefusesOn g old new decide before r
@@ -88,7 +90,7 @@ module _ {S : Type 0} (g : Ghosts S) (old new : Held S) where
   pub begun_carries : (before after : Meta) (r : Result Unit Refusal) → Makes g old new (λ base. Ok scan_begin) before after (λ base made x. Unit {0}) r → IfErr r IsOfStore → CarriesOut g old new (λ base. Ok (answered answer.Done scan_begin)) before after (told_by (λ x. edit.Done) r)
   begun_carries before after r makes refused =
       base_carries (λ x. edit.Done) (λ base. Ok scan_begin) _ before after _ (λ base change x is right. (Some answer.Done, ap (λ (r : Result BaseChange Refusal). r >>= λ change. Ok (answered answer.Done change)) is, refl))
-      (λ base e h. then_refused e (Ok scan_begin) (λ change. Ok (answered answer.Done change)) h) r makes (λ clean. IfErr-weaker r IsOfStore _ (λ e h row base was same. of_store e _ h) refused)
+      (λ base e h. then_refused e (Ok scan_begin) (λ change. Ok (answered answer.Done change)) h) r makes (λ clean. IfErr-weaker r IsOfStore _ (λ e h beside base was same. of_store e _ h) refused)
 
   -- a scan is closed
   pub ended_carries : (before after : Meta) (r : Result (List MirrorKey) Refusal) → Makes g old new closing before after (λ base made keys. scan_end base ≡ Ok (keys, SetScan None)) r → RefusesOn g old new closing before r
@@ -115,11 +117,14 @@ right_still base made serial said (edit.Object object) h = h
 right_still base made serial said (edit.Share share) h = h
 
 -- what was decided, and its number drawn, is the edit
-module _ (limits : Limits) (now : ℕ) (command : Command) (base : Base) (n : ℕ) (next : n ≡ base.serial + 1) where
+module _ (limits : Limits) (now : ℕ) (command : Command) (held : State) (n : ℕ) (next : n ≡ held.base.serial + 1) where
+  abbrev base : Base
+  base = held.base
+
   pub decision_refused : (e : Refusal) → IsRefusalOf e (decided limits now n base command) → IsRefusalOf e (edit_of limits now base command)
   decision_refused e h = then_refused e (decided limits now (base.serial + 1) base command) (numbered limits (draws_number command) base) (subst (λ (m : ℕ). IsRefusalOf e (decided limits now m base command)) next h)
 
-  module _ (meta : Meta) (edited : Edit) (s : State) (it : IsDecided (λ base. decided limits now n base command) (meta_of base) base meta edited s) where
+  module _ (meta : Meta) (edited : Edit) (s : sql.State) (it : IsDecided (λ base. decided limits now n base command) (beside_of held) base meta edited s) where
     -- the edit, when it is known what is drawn
     drawn_is : (r : Result ℕ Refusal) → drawn limits meta.serial (draws_number command) ≡ r → edit_of limits now base command ≡ (r >>= λ serial. Ok (it.decision.answer, record (changed it.decision.change base) { serial = serial }))
     drawn_is r is =
@@ -130,8 +135,8 @@ module _ (limits : Limits) (now : ℕ) (command : Command) (base : Base) (n : �
     pub draw_refused : (e : Refusal) → drawn limits meta.serial (draws_number command) ≡ Err e → IsRefusalOf e (edit_of limits now base command)
     draw_refused e is = refused_so e _ (drawn_is (Err e) is)
 
-    pub is_edited : (serial : ℕ) (t : State) → drawn limits meta.serial (draws_number command) ≡ Ok serial → ((kept : Kept) → Keeps kept s → kept.meta ≡ meta_of base → Keeps (with_meta (record meta { serial = serial }) kept) t)
-        → IsEdited (λ base. edit_of limits now base command) base edited t
+    pub is_edited : (serial : ℕ) (t : sql.State) → drawn limits meta.serial (draws_number command) ≡ Ok serial → ((kept : Kept) → Keeps kept s → kept.meta ≡ meta_of base → Keeps (with_meta (record meta { serial = serial }) kept) t)
+        → IsEdited (λ base. edit_of limits now base command) held edited t
     is_edited serial t left put =
         let d = it.decision in
         let counted : ◌≡◌ {A = Meta} (record meta { serial = serial }) (record (meta_of (changed d.change base)) { serial = serial }) = ap (λ (m : Meta). let after : Meta = record m { serial = serial } in after) it.counted in
@@ -139,6 +144,6 @@ module _ (limits : Limits) (now : ℕ) (command : Command) (base : Base) (n : �
           said = d.answer;
           after = record (changed d.change base) { serial = serial };
           edited = drawn_is (Ok serial) left;
-          holds = subst (λ (m : Meta). Keeps (kept_beside m (changed d.change base)) t) counted (put (kept_beside (meta_of base) (changed d.change base)) it.holds refl);
+          holds = subst (λ (m : Meta). Keeps (kept_beside (record { numbers = m; stamps = held.stamps }) (changed d.change base)) t) counted (put (kept_beside (beside_of held) (changed d.change base)) it.holds refl);
           right = right_still base (changed d.change base) serial d.answer edited it.right;
         }

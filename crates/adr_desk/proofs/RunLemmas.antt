@@ -6,7 +6,7 @@ use Rattle.adr_text.specs.Refusals.{◌>>=◌}
 use Rattle.adr_state.specs.declared.limits.Settings.{Settings}
 use Rattle.adr_state.specs.declared.state.State.{State}
 use Rattle.adr_state.specs.States.{empty}
-use Rattle.adr_db.specs.Bases.{HoldsBase}
+use Rattle.adr_db.specs.Bases.{HoldsState}
 use Rattle.adr_machine.specs.declared.answer.Answer.{Answer}
 use Rattle.adr_machine.specs.declared.command.Command.{Command}
 use Rattle.adr_machine.specs.Edits.{edit}
@@ -16,7 +16,7 @@ use Rattle.adr_laws.specs.Standing.{answers_of, state_of, standing}
 use Rattle.adr_laws.proofs.RunLemmas.{standing-push, filter_stands-push, answers_of-push, state_of-push}
 use Rattle.adr_laws.proofs.MirrorLemmas.{mirror_greatest}
 use Rattle.adr_desk.specs.declared.edit.Edit.{Edit}
-use Rattle.adr_desk.specs.Edits.{edit_by, IsEdited}
+use Rattle.adr_desk.specs.Edits.{edit_by, with_base, IsEdited}
 use Rattle.adr_desk.specs.Runs.{unsaid, IsRunOf, HoldsGreatest}
 
 module _ (settings : Settings) (s : State) where
@@ -26,7 +26,7 @@ module _ (settings : Settings) (s : State) where
 
   -- one that stands
   stood : (cs : List (ℕ × Command)) (rs : List (Result Edit Refusal)) (before now : sql.State) (c : ℕ × Command) (r : Result Edit Refusal) → IsRunOf settings s cs rs before → length cs ≡ length rs
-      → stands r ≡ true → unsaid r ≡ unsaid (told (step_at settings (led cs rs) c)) → HoldsBase (state_after (led cs rs) (step_at settings (led cs rs) c)).base now
+      → stands r ≡ true → unsaid r ≡ unsaid (told (step_at settings (led cs rs) c)) → HoldsState (with_base (state_after (led cs rs) (step_at settings (led cs rs) c)).base s) now
       → IsRunOf settings s (cs ++ c ∷ []) (rs ++ r ∷ []) now
   stood cs rs before now c r run e h is holds =
       let all = standing-push cs rs c r true h e in
@@ -35,18 +35,18 @@ module _ (settings : Settings) (s : State) where
             ∙ ap₂ (λ xs x. xs ++ x ∷ []) run.answered is
             ∙ sym (map-append unsaid (answers_of (step_at settings) s (standing cs rs)) (told (step_at settings (led cs rs) c) ∷ []))
             ∙ ap (map unsaid) (sym (answers_of-push (step_at settings) s (standing cs rs) c) ∙ ap (answers_of (step_at settings) s) (sym all));
-        base = subst (λ (t : State). HoldsBase t.base now) (sym (state_of-push (step_at settings) s (standing cs rs) c) ∙ ap (state_of (step_at settings) s) (sym all)) holds;
+        holds = subst (λ (t : State). HoldsState (with_base t.base s) now) (sym (state_of-push (step_at settings) s (standing cs rs) c) ∙ ap (state_of (step_at settings) s) (sym all)) holds;
       }
 
   -- one that stands for no step
   passed_over : (cs : List (ℕ × Command)) (rs : List (Result Edit Refusal)) (before now : sql.State) (c : ℕ × Command) (r : Result Edit Refusal) → IsRunOf settings s cs rs before → length cs ≡ length rs
-      → stands r ≡ false → HoldsBase (led cs rs).base now
+      → stands r ≡ false → HoldsState (with_base (led cs rs).base s) now
       → IsRunOf settings s (cs ++ c ∷ []) (rs ++ r ∷ []) now
   passed_over cs rs before now c r run e h holds =
       let all = standing-push cs rs c r false h e ∙ append-nil (standing cs rs) in
       record {
         answered = ap (map unsaid) (filter_stands-push rs r false h ∙ append-nil (filter stands rs)) ∙ run.answered ∙ ap (λ xs. map unsaid (answers_of (step_at settings) s xs)) (sym all);
-        base = subst (λ (t : State). HoldsBase t.base now) (ap (state_of (step_at settings) s) (sym all)) holds;
+        holds = subst (λ (t : State). HoldsState (with_base t.base s) now) (ap (state_of (step_at settings) s) (sym all)) holds;
       }
 
   -- the step is the edit, and then its commit
@@ -54,22 +54,22 @@ module _ (settings : Settings) (s : State) where
   stepped t c e is = ap (λ r. r >>= λ x. Ok (committed t c.0 x.0 x.1)) is
 
   pub IsRunOf-push : (cs : List (ℕ × Command)) (rs : List (Result Edit Refusal)) (before now : sql.State) (c : ℕ × Command) (r : Result Edit Refusal) → IsRunOf settings s cs rs before → length cs ≡ length rs
-      → IfOk r (λ done. (base : Base) → HoldsBase base before → IsEdited (edit_by settings.limits c.0 c.1) base done now)
-      → IfErr r (λ refusal. (base : Base) → HoldsBase base before → IsRefusalOf refusal (edit settings.limits c.0 base c.1))
-      → OnErr r ((base : Base) → HoldsBase base before → HoldsBase base now)
+      → IfOk r (λ done. (held : State) → HoldsState held before → IsEdited (edit_by settings.limits c.0 c.1) held done now)
+      → IfErr r (λ refusal. (held : State) → HoldsState held before → IsRefusalOf refusal (edit settings.limits c.0 held.base c.1))
+      → OnErr r ((held : State) → HoldsState held before → HoldsState held now)
       → IsRunOf settings s (cs ++ c ∷ []) (rs ++ r ∷ []) now
   IsRunOf-push cs rs before now c (Ok done) run e makes refuses same =
       let t = led cs rs in
-      let it = makes t.base run.base in
+      let it = makes (with_base t.base s) run.holds in
       let is = stepped t c (Ok (it.said, it.after)) it.edited in
-      stood cs rs before now c (Ok done) run e refl (ap (λ x. unsaid (told x)) (sym is)) (subst (λ x. HoldsBase (state_after t x).base now) (sym is) it.holds)
-  IsRunOf-push cs rs before now c (Err OutOfMemory) run e makes refuses same = passed_over cs rs before now c (Err OutOfMemory) run e refl (same (led cs rs).base run.base)
-  IsRunOf-push cs rs before now c (Err Store) run e makes refuses same = passed_over cs rs before now c (Err Store) run e refl (same (led cs rs).base run.base)
+      stood cs rs before now c (Ok done) run e refl (ap (λ x. unsaid (told x)) (sym is)) (subst (λ x. HoldsState (with_base (state_after t x).base s) now) (sym is) it.holds)
+  IsRunOf-push cs rs before now c (Err OutOfMemory) run e makes refuses same = passed_over cs rs before now c (Err OutOfMemory) run e refl (same (with_base (led cs rs).base s) run.holds)
+  IsRunOf-push cs rs before now c (Err Store) run e makes refuses same = passed_over cs rs before now c (Err Store) run e refl (same (with_base (led cs rs).base s) run.holds)
   IsRunOf-push cs rs before now c (Err refusal) run e makes refuses same =
       let t = led cs rs in
-      let is = stepped t c (Err refusal) (refuses t.base run.base) in
-      stood cs rs before now c (Err refusal) run e refl (ap (λ x. unsaid (told x)) (sym is)) (subst (λ x. HoldsBase (state_after t x).base now) (sym is) (same t.base run.base))
+      let is = stepped t c (Err refusal) (refuses (with_base t.base s) run.holds) in
+      stood cs rs before now c (Err refusal) run e refl (ap (λ x. unsaid (told x)) (sym is)) (subst (λ x. HoldsState (with_base (state_after t x).base s) now) (sym is) (same (with_base t.base s) run.holds))
 
 -- the law of the mirror, over a run from an empty start
 pub holds_greatest : (settings : Settings) (cs : List (ℕ × Command)) (rs : List (Result Edit Refusal)) (now : sql.State) → IsRunOf settings empty cs rs now → HoldsGreatest settings cs rs now
-holds_greatest settings cs rs now run = ((state_of (step_at settings) empty (standing cs rs)).base, run.base, λ key. mirror_greatest settings (standing cs rs) key)
+holds_greatest settings cs rs now run = (with_base (state_of (step_at settings) empty (standing cs rs)).base empty, run.holds, λ key. mirror_greatest settings (standing cs rs) key)

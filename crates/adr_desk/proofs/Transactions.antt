@@ -1,27 +1,29 @@
 -- A transaction from its begin to its commit.
 use Rattle.std.proofs.Common.{◌≡◌, true, Ok, Err, Result, IfOk, OnOk, Option}
-use Rattle.adr_db.proofs.Common.{Trees, Ghosts, Held, state, State, HasCleanDisk, Refusal, Base, Stays, Commits, holds_now}
+use Rattle.adr_db.proofs.Common.{Trees, Ghosts, Held, state, HasCleanDisk, Refusal, Stays, Commits, holds_now}
+use Rattle.sqlite.specs.State as sql
+use Rattle.adr_state.specs.declared.state.State.{State}
 use Rattle.adr_sql.proofs.Commits.{committed}
 use Rattle.adr_db.specs.Tables.{schema}
 use Rattle.adr_db.specs.Kept.{contents_of}
-use Rattle.adr_db.specs.Bases.{kept_of, HoldsBase}
+use Rattle.adr_db.specs.Bases.{kept_of, HoldsState}
 use Rattle.adr_desk.specs.declared.edit.Edit.{Edit}
 use Rattle.adr_machine.specs.Edits.{told_by}
 use Rattle.adr_desk.specs.Transactions.{Ends}
 
 -- what is held stays, where all is as it was
-pub held_now : (base : Base) (a b : State) → b.now ≡ a.now → HoldsBase base a → HoldsBase base b
-held_now base a b same was = record { rows = holds_now schema (contents_of (kept_of base)) a b same was.rows; marks = was.marks }
+pub held_now : (held : State) (a b : sql.State) → b.now ≡ a.now → HoldsState held a → HoldsState held b
+held_now held a b same was = record { rows = holds_now schema (contents_of (kept_of held)) a b same was.rows; marks = was.marks }
 
 module _ {S : Type 0} (g : Ghosts S) (old last end : Held S) where
   abbrev begun : Held S
   begun = record old { in_transaction = true }
 
-  pub ends_whole : {A F T : Type 0} (x : A) (r : Result T Refusal) (IsDone : State → Type 0) (IsLeft : Trees → Type 0)
+  pub ends_whole : {A F T : Type 0} (x : A) (r : Result T Refusal) (IsDone : sql.State → Type 0) (IsLeft : Trees → Type 0)
       → Stays g begun last {T = A} {E = F} (Ok x)
       → (HasCleanDisk (state g last) → IsDone (state g last))
-      → ((a b : State) → b.now ≡ a.now → IsDone a → IsDone b)
-      → ((s : State) → IsDone s → IsLeft s.now.trees)
+      → ((a b : sql.State) → b.now ≡ a.now → IsDone a → IsDone b)
+      → ((s : sql.State) → IsDone s → IsLeft s.now.trees)
       → Ends g last end r
       → Commits g old end IsDone IsLeft r
   ends_whole {T = T} x (Ok y) IsDone IsLeft stays made moves leaves ends =
@@ -36,6 +38,6 @@ told_ok (Ok u) edit P h = h
 told_ok (Err e) edit P h = tt
 
 module _ {S : Type 0} (g : Ghosts S) (old end : Held S) where
-  pub told_whole : (r : Result Unit Refusal) (edit : Edit) (IsDone : State → Type 0) (IsLeft : Trees → Type 0) → Commits g old end IsDone IsLeft r → Commits g old end IsDone IsLeft (told_by (λ u. edit) r)
+  pub told_whole : (r : Result Unit Refusal) (edit : Edit) (IsDone : sql.State → Type 0) (IsLeft : Trees → Type 0) → Commits g old end IsDone IsLeft r → Commits g old end IsDone IsLeft (told_by (λ u. edit) r)
   told_whole (Ok u) edit IsDone IsLeft h = record { done = h.done; is_open = h.is_open; undone = λ clean is_open. tt; over = h.over; crash = h.crash }
   told_whole (Err e) edit IsDone IsLeft h = record { done = λ clean. tt; is_open = λ clean. tt; undone = h.undone; over = h.over; crash = h.crash }

@@ -1,13 +1,8 @@
--- The state as the tables keep it: the base, and no stamps yet.
-use Rattle.std.specs.Prelude.{[], Option, None, Some, List, if◌then◌else◌}
-use Rattle.adr_state.specs.declared.base.Base.{Base}
+-- What the tables keep, as a state.
+use Rattle.std.specs.Prelude.{Option, None, Some, List, if◌then◌else◌}
 use Rattle.adr_state.specs.declared.keys.MirrorKey.{MirrorKey}
 use Rattle.adr_state.specs.declared.state.State.{State}
 use Rattle.adr_db.specs.Kept.{Kept}
-
--- what the tables keep of a base
-abbrev pub image_of : Base → State
-image_of base = record { base = base; stamps = [] }
 
 -- the keys that were polled, where a scan is open
 abbrev pub scan_kept : Kept → Option (List MirrorKey)
@@ -15,4 +10,4 @@ scan_kept kept = if kept.meta.scan then Some kept.polled else None
 
 -- what is kept, as a state
 abbrev pub image_kept : Kept → State
-image_kept kept = image_of (record { mirror = kept.mirror; scan = scan_kept kept; portfolio = kept.portfolio; serial = kept.meta.serial })
+image_kept kept = record { base = record { mirror = kept.mirror; scan = scan_kept kept; portfolio = kept.portfolio; serial = kept.meta.serial }; stamps = kept.stamps }

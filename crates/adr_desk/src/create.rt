@@ -19,7 +19,7 @@ pub(crate) fn create_in<S: Alter>(conn: &mut Connection<S>) -> Result<(), Refusa
     requires { conn.old.in_transaction ≡ false }
     ensures whole { Commits S.Store conn.old conn.new
         (λ s. Holds no_schema [] (state S.Store conn.old) → Keeps nothing_kept s)
-        (λ trees. Holds no_schema [] (state S.Store conn.old) → AreLeftWith empty.base trees)
+        (λ trees. Holds no_schema [] (state S.Store conn.old) → AreLeftWith empty trees)
         result }
     ensures refused { IfErr result IsOfStore }
 {

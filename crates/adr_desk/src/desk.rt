@@ -2,11 +2,10 @@
 ghost use Rattle.std.specs.Prelude.{◌≡◌, false, IsTrue, IfOk, IfErr, OnOk, OnErr};
 ghost use Rattle.sqlite.specs.State.{HasCleanDisk, Survives};
 ghost use Rattle.sqlite.specs.Steps.{over_memory};
-ghost use Rattle.adr_state.specs.declared.base.Base.{Base};
+ghost use Rattle.adr_state.specs.declared.state.State.{State};
 ghost use Rattle.adr_state.specs.States.{empty};
-ghost use Rattle.adr_db.specs.Bases.{HoldsBase};
+ghost use Rattle.adr_db.specs.Bases.{HoldsState};
 ghost use Rattle.adr_db.specs.Calls.{IsOfStore};
-ghost use Rattle.adr_desk.specs.Images.{image_of};
 ghost use Rattle.adr_desk.specs.Edits.{edit_by, EditsTables, RefusesEdit, LeftEdited};
 
 use crate::create::create_in;
@@ -35,7 +34,7 @@ impl SqlDesk<MemStore> {
 
     /// A desk in memory, with the state at first, or want of memory or the store's refusal.
     pub fn open_memory(alloc: Global, settings: Settings) -> Result<MemoryDesk, Refusal>
-        ensures state { IfOk result (λ desk. HoldsBase empty.base (shown over_memory desk)) }
+        ensures state { IfOk result (λ desk. HoldsState empty (shown over_memory desk)) }
         ensures is_open { IfOk result (λ desk. IsTrue (shown over_memory desk).is_open) }
         ensures committed { IfOk result (λ desk. (shown over_memory desk).committed ≡ (shown over_memory desk).now) }
         ensures settings { IfOk result (λ desk. settings_of desk ≡ settings) }
@@ -61,11 +60,10 @@ impl<S: Alter> SqlDesk<S> {
         &self.settings
     }
 
-    /// The whole state, which stays, or want of memory or the store's refusal. Stamps of what is shown have no
-    /// table yet, so none are there.
+    /// The whole state, which stays, or want of memory or the store's refusal.
     pub fn image(&mut self) -> Result<Image, Refusal>
-        ensures image { HasCleanDisk (shown S.Store self.new) → IfOk result (λ image. (base : Base) → HoldsBase base (shown S.Store self.old) → image ≡ image_of base) }
-        ensures held { HasCleanDisk (shown S.Store self.new) → IsTrue (shown S.Store self.new).is_open → (base : Base) → HoldsBase base (shown S.Store self.old) → HoldsBase base (shown S.Store self.new) }
+        ensures image { HasCleanDisk (shown S.Store self.new) → IfOk result (λ image. (held : State) → HoldsState held (shown S.Store self.old) → image ≡ held) }
+        ensures held { HasCleanDisk (shown S.Store self.new) → IsTrue (shown S.Store self.new).is_open → (held : State) → HoldsState held (shown S.Store self.old) → HoldsState held (shown S.Store self.new) }
         ensures refused { IfErr result IsOfStore }
         ensures same_settings { settings_of self.new ≡ settings_of self.old }
         ensures crash { Survives (shown S.Store self.old) (shown S.Store self.new) (λ _. ⊥) }
@@ -79,9 +77,9 @@ impl<S: Alter> SqlDesk<S> {
         ensures makes { EditsTables (edit_by (settings_of self.old).limits now command.now) (shown S.Store self.old) (shown S.Store self.new) result }
         ensures committed { HasCleanDisk (shown S.Store self.new) → OnOk result ((shown S.Store self.new).committed ≡ (shown S.Store self.new).now) }
         ensures refused { RefusesEdit (edit_by (settings_of self.old).limits now command.now) (shown S.Store self.old) (shown S.Store self.new) result }
-        ensures unchanged { HasCleanDisk (shown S.Store self.new) → IsTrue (shown S.Store self.new).is_open → OnErr result ((base : Base) → HoldsBase base (shown S.Store self.old) → HoldsBase base (shown S.Store self.new)) }
+        ensures unchanged { HasCleanDisk (shown S.Store self.new) → IsTrue (shown S.Store self.new).is_open → OnErr result ((held : State) → HoldsState held (shown S.Store self.old) → HoldsState held (shown S.Store self.new)) }
         ensures same_settings { settings_of self.new ≡ settings_of self.old }
-        ensures crash { Survives (shown S.Store self.old) (shown S.Store self.new) (λ trees. (base : Base) → HoldsBase base (shown S.Store self.old) → LeftEdited (edit_by (settings_of self.old).limits now command.now) base trees) }
+        ensures crash { Survives (shown S.Store self.old) (shown S.Store self.new) (λ trees. (held : State) → HoldsState held (shown S.Store self.old) → LeftEdited (edit_by (settings_of self.old).limits now command.now) held trees) }
     {
         edit_in(
             self.alloc,

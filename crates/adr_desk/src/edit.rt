@@ -2,10 +2,10 @@
 ghost use Rattle.std.specs.Prelude.{◌≡◌, false, IsTrue, IfOk, IfErr, OnOk, OnErr};
 ghost use Rattle.sqlite.specs.Held.{state};
 ghost use Rattle.sqlite.specs.State.{HasCleanDisk};
-ghost use Rattle.adr_state.specs.declared.base.Base.{Base};
+ghost use Rattle.adr_state.specs.declared.state.State.{State};
 ghost use Rattle.adr_sql.specs.Calls.{Stays, Commits};
 ghost use Rattle.adr_db.specs.Kept.{Kept, Keeps, with_meta};
-ghost use Rattle.adr_db.specs.Bases.{HoldsBase};
+ghost use Rattle.adr_db.specs.Bases.{HoldsState};
 ghost use Rattle.adr_db.specs.Calls.{IsOfStore};
 ghost use Rattle.adr_machine.specs.Edits.{told_by, edit_of};
 ghost use Rattle.adr_desk.specs.Edits.{edit_by, EditsTables, RefusesEdit, HoldsEdited, LeftEdited};
@@ -120,8 +120,8 @@ pub(crate) fn edit_in<S: Alter>(
 ) -> Result<Edit, Refusal>
     requires { conn.old.in_transaction ≡ false }
     ensures whole { Commits S.Store conn.old conn.new
-        (λ s. (base : Base) → HoldsBase base (state S.Store conn.old) → HoldsEdited (edit_by limits.now now command.now) base s)
-        (λ trees. (base : Base) → HoldsBase base (state S.Store conn.old) → LeftEdited (edit_by limits.now now command.now) base trees)
+        (λ s. (held : State) → HoldsState held (state S.Store conn.old) → HoldsEdited (edit_by limits.now now command.now) held s)
+        (λ trees. (held : State) → HoldsState held (state S.Store conn.old) → LeftEdited (edit_by limits.now now command.now) held trees)
         result }
     ensures makes { EditsTables (edit_by limits.now now command.now) (state S.Store conn.old) (state S.Store conn.new) result }
     ensures refuses { RefusesEdit (edit_by limits.now now command.now) (state S.Store conn.old) (state S.Store conn.new) result }

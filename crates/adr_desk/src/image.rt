@@ -9,9 +9,11 @@ ghost use Rattle.adr_desk.specs.Transactions.{IsDropped};
 ghost use Rattle.adr_desk.specs.Images.{image_kept};
 
 use crate::frame::begin;
-use adr_db::{read_meta, read_mirror, read_polled_set, read_resources, read_shares, read_vens};
+use adr_db::{
+    read_meta, read_mirror, read_polled_set, read_resources, read_shares, read_stamps, read_vens,
+};
 use adr_state::{Base, Image, Polled, Portfolio, State};
-use adr_text::{Refusal, Table};
+use adr_text::Refusal;
 use sqlite::{Alter, Connection, Transaction};
 use std::alloc::Global;
 
@@ -48,6 +50,7 @@ fn read_image<S: Alter>(alloc: Global, tx: &mut Transaction<'_, S>) -> Result<Im
     let mirror = read_mirror(alloc, tx)?;
     let polled = read_polled_set(alloc, tx)?;
     let portfolio = read_portfolio(alloc, tx)?;
+    let stamps = read_stamps(alloc, tx)?;
     Ok(State {
         base: Base {
             mirror,
@@ -55,7 +58,7 @@ fn read_image<S: Alter>(alloc: Global, tx: &mut Transaction<'_, S>) -> Result<Im
             portfolio,
             serial: meta.serial,
         },
-        stamps: Table::new(alloc),
+        stamps,
     })
 }
 

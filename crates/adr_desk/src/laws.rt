@@ -11,7 +11,7 @@ pub fn memory_is_sound()
 {}
 
 /// What a crash may leave of an edit says all that the tables hold: a connection which is opened over such trees holds the
-/// base that they were left with.
+/// state that they were left with.
 pub fn left_is_held<S: Alter>(conn: &Connection<S>)
     ensures { LeftIsHeld (state S.Store conn.now) }
 {

@@ -3,7 +3,7 @@ ghost use Rattle.std.specs.Prelude.{◌≡◌, length, IfOk, OnErr};
 ghost use Rattle.sqlite.specs.Steps.{over_memory};
 ghost use Rattle.adr_state.specs.declared.state.State.{State};
 ghost use Rattle.adr_state.specs.States.{empty};
-ghost use Rattle.adr_db.specs.Bases.{HoldsBase};
+ghost use Rattle.adr_db.specs.Bases.{HoldsState};
 ghost use Rattle.adr_desk.specs.Desks.{shown, settings_of};
 ghost use Rattle.adr_desk.specs.Runs.{IsRunOf, HoldsGreatest};
 
@@ -20,8 +20,8 @@ pub fn edit_each(
     desk: &mut MemoryDesk,
     steps: &[(Moment, Command)],
 ) -> Result<Vec<Result<Edit, Refusal>>, AllocError>
-    ensures run { IfOk result (λ answers. (s : State) → HoldsBase s.base (shown over_memory desk.old) → IsRunOf (settings_of desk.old) s steps.now answers.items (shown over_memory desk.new)) }
-    ensures mirror { IfOk result (λ answers. HoldsBase empty.base (shown over_memory desk.old) → HoldsGreatest (settings_of desk.old) steps.now answers.items (shown over_memory desk.new)) }
+    ensures run { IfOk result (λ answers. (s : State) → HoldsState s (shown over_memory desk.old) → IsRunOf (settings_of desk.old) s steps.now answers.items (shown over_memory desk.new)) }
+    ensures mirror { IfOk result (λ answers. HoldsState empty (shown over_memory desk.old) → HoldsGreatest (settings_of desk.old) steps.now answers.items (shown over_memory desk.new)) }
     ensures each { IfOk result (λ answers. length answers.items ≡ length steps.now) }
     ensures unchanged { OnErr result (desk.new ≡ desk.old) }
     ensures same_settings { settings_of desk.new ≡ settings_of desk.old }

@@ -4,8 +4,7 @@ use Rattle.std.specs.Map.{keys_of}
 use Rattle.adr_db.proofs.Common.{AllByRecursion, Base, IsAscending, State, mirror_cmp, nat_cmp}
 use Rattle.adr_state.specs.declared.keys.ViewKey.{ViewKey}
 use Rattle.adr_db.proofs.Rises.{mirror_rises, resources_rise}
-use Rattle.adr_db.specs.declared.meta.Meta.{Meta}
-use Rattle.adr_db.specs.Bases.{kept_beside, HoldsBeside}
+use Rattle.adr_db.specs.Bases.{Beside, kept_beside, HoldsBeside}
 use Rattle.adr_view.proofs.Common.{IsStrictlySortedBy}
 use Rattle.adr_view.proofs.ShownLemmas.{shown_is_of_view}
 use Rattle.adr_view.specs.declared.view.Content.{Content}
@@ -24,11 +23,11 @@ module _ {K V : Type 0} (cmp : K → K → Ordering) where
   keys_in_order (e ∷ es) up = (keys_behind e.0 es up.0, keys_in_order es up.1)
 
 -- the base that tables hold has its rows in order, so what is shown of an event is all that its view has of it
-module _ (row : Meta) (base : Base) (s : State) (held : HoldsBeside row base s) where
+module _ (beside : Beside) (base : Base) (s : State) (held : HoldsBeside beside base s) where
   pub held_in_order : StandsInOrder base
   held_in_order = record {
-    upstream_keys = keys_in_order mirror_cmp base.mirror (mirror_rises (kept_beside row base) s held);
-    resources = keys_in_order nat_cmp base.portfolio.resources (resources_rise (kept_beside row base) s held);
+    upstream_keys = keys_in_order mirror_cmp base.mirror (mirror_rises (kept_beside beside base) s held);
+    resources = keys_in_order nat_cmp base.portfolio.resources (resources_rise (kept_beside beside base) s held);
   }
 
   pub is_shown : (id : List ℕ) (rows : List (ViewKey × Content)) → rows ≡ shown_of base id → IsShown id base rows

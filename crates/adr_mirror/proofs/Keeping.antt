@@ -9,7 +9,7 @@ use Rattle.adr_objects.specs.declared.body.Found.{Found}
 use Rattle.adr_state.specs.Marks.{is_below}
 use Rattle.adr_db.specs.declared.meta.Meta.{Meta}
 use Rattle.adr_db.specs.Kept.{Kept, Keeps, at_most, with_mark, first_meta}
-use Rattle.adr_db.specs.Bases.{keys_polled, meta_of, kept_beside}
+use Rattle.adr_db.specs.Bases.{Beside, keys_polled, meta_of, kept_beside}
 use Rattle.adr_mirror.specs.Raises.{are_beyond, with_raised, with_polled_if}
 use Rattle.adr_mirror.specs.Missed.{missed, closing}
 
@@ -53,12 +53,12 @@ pub polled_more : (polled : List MirrorKey) (founds : List Found) (f : Found) �
 polled_more polled founds f = fold-append (λ keys found. insert_key mirror_cmp keys (key_of found)) polled founds (f ∷ [])
 
 -- what is kept after a page is that of the base after it
-pub kept_after : (row : Meta) (base : Base) (scan : Option (List MirrorKey)) (founds : List Found) (polled : Bool) (mirror : List (MirrorKey × Mark))
-    → with_polled_if (polled && is_some scan) founds (kept_beside row (record base { mirror = mirror; scan = scan })) ≡ kept_beside row (record base { mirror = mirror; scan = scan_with scan founds polled })
-kept_after row base None founds true mirror = refl
-kept_after row base None founds false mirror = refl
-kept_after row base (Some keys) founds true mirror = refl
-kept_after row base (Some keys) founds false mirror = refl
+pub kept_after : (beside : Beside) (base : Base) (scan : Option (List MirrorKey)) (founds : List Found) (polled : Bool) (mirror : List (MirrorKey × Mark))
+    → with_polled_if (polled && is_some scan) founds (kept_beside beside (record base { mirror = mirror; scan = scan })) ≡ kept_beside beside (record base { mirror = mirror; scan = scan_with scan founds polled })
+kept_after beside base None founds true mirror = refl
+kept_after beside base None founds false mirror = refl
+kept_after beside base (Some keys) founds true mirror = refl
+kept_after beside base (Some keys) founds false mirror = refl
 
 pub still_open : (scan : Option (List MirrorKey)) (founds : List Found) (polled : Bool) → is_some (scan_with scan founds polled) ≡ is_some scan
 still_open None founds true = refl

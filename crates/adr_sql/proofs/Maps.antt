@@ -90,7 +90,7 @@ keys_back ks = map_back (λ k. (k, tt)) (λ e. e.0) (λ k. refl) ks
 
 -- ---- keys
 
-then_none : (o : Ordering) → ordering_then o Equal ≡ o
+pub then_none : (o : Ordering) → ordering_then o Equal ≡ o
 then_none Less = refl
 then_none Equal = refl
 then_none Greater = refl
@@ -119,3 +119,7 @@ number_text_key j k s t a b = ap₂ ordering_then (value_cmp-Int j k) (then_none
 -- a text, and then a number
 pub text_number_key : (s t : List ℕ) (j k : ℤ) (a b : Row) → key_order 2 (Text s ∷ Int j ∷ a) (Text t ∷ Int k ∷ b) ≡ ordering_then (slice_cmp nat_cmp s t) (int_cmp j k)
 text_number_key s t j k a b = ap₂ ordering_then (value_cmp-Text s t) (then_none _ ∙ value_cmp-Int j k)
+
+-- a number, a text, and then a number
+pub number_text_number_key : (h i : ℤ) (s t : List ℕ) (j k : ℤ) (a b : Row) → key_order 3 (Int h ∷ Text s ∷ Int j ∷ a) (Int i ∷ Text t ∷ Int k ∷ b) ≡ ordering_then (int_cmp h i) (ordering_then (slice_cmp nat_cmp s t) (int_cmp j k))
+number_text_number_key h i s t j k a b = ap₂ ordering_then (value_cmp-Int h i) (text_number_key s t j k a b)

@@ -7,7 +7,7 @@ use Rattle.adr_desk.proofs.edit.edited.Goals as goal
 -- another may not give it
 pub returns-then-not-is_allowed-clause-refuses : goal.returns-then-not-is_allowed-clause-refuses
 unfolding edit
-returns-then-not-is_allowed-clause-refuses g c clean base was = let no : is_allowed c.args.command.now ≡ false = sym c.is_allowed.ensures ∙ c.if-not-is_allowed.true in rw no refl
+returns-then-not-is_allowed-clause-refuses g c clean held was = let no : is_allowed c.args.command.now ≡ false = sym c.is_allowed.ensures ∙ c.if-not-is_allowed.true in rw no refl
 
 pub returns-clause-makes : goal.returns-clause-makes
 unfolding edit

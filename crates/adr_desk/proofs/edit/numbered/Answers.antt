@@ -1,7 +1,7 @@
 use Rattle.std.proofs.Common.{sym, ap, ◌+◌, ℕ, ◌∙◌, arith}
 use Rattle.adr_db.proofs.Common.{state, HasCleanDisk}
 use Rattle.adr_db.specs.declared.meta.Meta.{Meta}
-use Rattle.adr_db.specs.Bases.{kept_of, meta_of}
+use Rattle.adr_db.specs.Bases.{kept_of, beside_of}
 use Rattle.adr_db.proofs.Results.{handed_on}
 use Rattle.adr_desk.proofs.DecisionLemmas.{decision_refused, draw_refused, is_edited}
 use Rattle.adr_desk.proofs.edit.numbered.Goals as goal
@@ -10,25 +10,25 @@ pub returns-in_err-edit-clause-refuses : goal.returns-in_err-edit-clause-refuses
 returns-in_err-edit-clause-refuses g c clean =
     let first : HasCleanDisk (state g.S.Store c.read_meta.new.tx.conn.now) = omega (arith, c.carry_out.ensures.stays.crash.clean) in
     let e = c.in_err-edit.field-0.0 in
-    handed_on _ c.from_residual-in_err-edit.result e c.from_residual-in_err-edit.ensures.1 (λ base was.
-    let found = c.in_ok-before.ensures.finds first (kept_of base) was in
+    handed_on _ c.from_residual-in_err-edit.result e c.from_residual-in_err-edit.ensures.1 (λ held was.
+    let found = c.in_ok-before.ensures.finds first (kept_of held) was in
     let next = c.next.ensures ∙ ap (λ (m : Meta). m.serial + 1) found.0 in
-    decision_refused c.args.limits.now c.args.now c.args.command.now base c.next.result next e (c.in_err-edit.ensures.carries.refuses clean (meta_of base) base found.1 found.0))
+    decision_refused c.args.limits.now c.args.now c.args.command.now held c.next.result next e (c.in_err-edit.ensures.carries.refuses clean (beside_of held) held.base found.1 found.0))
 
 pub returns-in_err-draw-clause-refuses : goal.returns-in_err-draw-clause-refuses
 returns-in_err-draw-clause-refuses g c clean =
     let first : HasCleanDisk (state g.S.Store c.read_meta.new.tx.conn.now) = omega (arith, c.carry_out.ensures.stays.crash.clean) in
     let e = c.in_err-draw.field-0.0 in
-    handed_on _ c.from_residual-in_err-draw.result e c.from_residual-in_err-draw.ensures.1 (λ base was.
-    let found = c.in_ok-before.ensures.finds first (kept_of base) was in
+    handed_on _ c.from_residual-in_err-draw.result e c.from_residual-in_err-draw.ensures.1 (λ held was.
+    let found = c.in_ok-before.ensures.finds first (kept_of held) was in
     let next = c.next.ensures ∙ ap (λ (m : Meta). m.serial + 1) found.0 in
-    draw_refused c.args.limits.now c.args.now c.args.command.now base c.next.result next c.carry_out.new.meta c.in_ok-edit.edit (state g.S.Store c.carry_out.new.tx.conn.now) (c.in_ok-edit.ensures.carries.decides clean (meta_of base) base found.1 found.0) e (rw c.draws_number.ensures at c.in_err-draw.ensures.err))
+    draw_refused c.args.limits.now c.args.now c.args.command.now held c.next.result next c.carry_out.new.meta c.in_ok-edit.edit (state g.S.Store c.carry_out.new.tx.conn.now) (c.in_ok-edit.ensures.carries.decides clean (beside_of held) held.base found.1 found.0) e (rw c.draws_number.ensures at c.in_err-draw.ensures.err))
 
 pub returns-clause-makes : goal.returns-clause-makes
-returns-clause-makes g c clean base was =
+returns-clause-makes g c clean held was =
     let second : HasCleanDisk (state g.S.Store c.carry_out.new.tx.conn.now) = omega (arith, c.put_changed.ensures.stays.crash.clean) in
     let first : HasCleanDisk (state g.S.Store c.read_meta.new.tx.conn.now) = omega (arith, second, c.carry_out.ensures.stays.crash.clean) in
-    let found = c.in_ok-before.ensures.finds first (kept_of base) was in
+    let found = c.in_ok-before.ensures.finds first (kept_of held) was in
     let next = c.next.ensures ∙ ap (λ (m : Meta). m.serial + 1) found.0 in
-    is_edited c.args.limits.now c.args.now c.args.command.now base c.next.result next c.carry_out.new.meta c.in_ok-edit.edit (state g.S.Store c.carry_out.new.tx.conn.now) (c.in_ok-edit.ensures.carries.decides second (meta_of base) base found.1 found.0) c.draw.new.self (state g.S.Store c.put_changed.new.tx.conn.now)
+    is_edited c.args.limits.now c.args.now c.args.command.now held c.next.result next c.carry_out.new.meta c.in_ok-edit.edit (state g.S.Store c.carry_out.new.tx.conn.now) (c.in_ok-edit.ensures.carries.decides second (beside_of held) held.base found.1 found.0) c.draw.new.self (state g.S.Store c.put_changed.new.tx.conn.now)
     (rw c.draws_number.ensures at c.in_ok-draw.ensures.ok) (λ kept keeps is. c.in_ok-put_changed.ensures.leaves clean kept keeps (is ∙ sym found.0))

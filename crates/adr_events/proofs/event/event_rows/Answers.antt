@@ -10,6 +10,6 @@ returns-clause-finds g c clean =
     let id = c.args.id.now in
     let event = c.args.event.now in
     let some : carries event ≡ true = search rules in
-    ok_then c.rows_of.result (λ rows is row base was.
-    let found = c.in_ok-ps.ensures.finds clean (kept_beside row base) was in
+    ok_then c.rows_of.result (λ rows is beside base was.
+    let found = c.in_ok-ps.ensures.finds clean (kept_beside beside base) was in
     (subst (λ b. rows ≡ cond b (rows_for id event (participants base.portfolio event)) []) (sym some) (is ∙ ap (rows_for id event) (c.as_slice.ensures ∙ found.0)), found.1)) c.rows_of.ensures.rows

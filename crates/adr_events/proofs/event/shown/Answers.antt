@@ -10,7 +10,7 @@ pub returns-clause-finds : goal.returns-clause-finds
 returns-clause-finds g c clean =
     let id = c.args.event.now in
     let early : HasCleanDisk (state g.S.Store c.read_known.new.tx.conn.now) = omega (arith, c.rows_known.ensures.stays.crash.clean) in
-    ok_then c.rows_known.result (λ rows finds row base was.
-    let known = c.in_ok-known.ensures.finds early (kept_beside row base) was in
-    let found = finds row base known.1 in
-    (is_shown row base _ was id rows (found.0 ∙ ap (rows_known base (event_key id)) (known.0 ∙ ap (λ k. at mirror_cmp k base.mirror) c.in_ok-event_key.ensures)), found.1)) (c.rows_known.ensures.finds clean)
+    ok_then c.rows_known.result (λ rows finds beside base was.
+    let known = c.in_ok-known.ensures.finds early (kept_beside beside base) was in
+    let found = finds beside base known.1 in
+    (is_shown beside base _ was id rows (found.0 ∙ ap (rows_known base (event_key id)) (known.0 ∙ ap (λ k. at mirror_cmp k base.mirror) c.in_ok-event_key.ensures)), found.1)) (c.rows_known.ensures.finds clean)

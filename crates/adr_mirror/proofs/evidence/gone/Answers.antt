@@ -14,9 +14,9 @@ pub returns-in_err-count_keys-clause-refuses : goal.returns-in_err-count_keys-cl
 returns-in_err-count_keys-clause-refuses g c clean =
     let key : MirrorKey = record { kind = c.args.kind; id = c.args.id.now } in
     let e = c.in_err-count_keys.field-0.0 in
-    handed_on _ c.from_residual-in_err-count_keys.result e c.from_residual-in_err-count_keys.ensures.1 (λ row base was same.
-    let turned = (rw c.in_ok-key.ensures at c.in_ok-rise.ensures.turns) clean (kept_beside row base) was in
-    let risen = one_risen base.mirror (key, Dead) (mirror_rises (kept_beside row base) (state g.S.Store c.args.tx.now.conn.now) was) c.in_ok-rise.rise turned.0 in
+    handed_on _ c.from_residual-in_err-count_keys.result e c.from_residual-in_err-count_keys.ensures.1 (λ beside base was same.
+    let turned = (rw c.in_ok-key.ensures at c.in_ok-rise.ensures.turns) clean (kept_beside beside base) was in
+    let risen = one_risen base.mirror (key, Dead) (mirror_rises (kept_beside beside base) (state g.S.Store c.args.tx.now.conn.now) was) c.in_ok-rise.rise turned.0 in
     let added = subst (λ n. length base.mirror + n ≡ length (raised base.mirror (key, Dead))) (sym c.added.ensures) risen.added in
     let beyond = c.in_err-count_keys.ensures.beyond in
     let keys = ap (λ (m : Meta). are_beyond c.args.limits.now.keys m.keys c.added.result) (sym same) ∙ beyond.1 in
@@ -24,11 +24,11 @@ returns-in_err-count_keys-clause-refuses g c clean =
     own_refuses e LimitReached (gone c.args.limits.now key base) beyond.0 set set)
 
 pub returns-clause-makes : goal.returns-clause-makes
-returns-clause-makes g c clean row base was same =
+returns-clause-makes g c clean beside base was same =
     let key : MirrorKey = record { kind = c.args.kind; id = c.args.id.now } in
     let mirror = raised base.mirror (key, Dead) in
-    let turned = (rw c.in_ok-key.ensures at c.in_ok-rise.ensures.turns) clean (kept_beside row base) was in
-    let risen = one_risen base.mirror (key, Dead) (mirror_rises (kept_beside row base) (state g.S.Store c.args.tx.now.conn.now) was) c.in_ok-rise.rise turned.0 in
+    let turned = (rw c.in_ok-key.ensures at c.in_ok-rise.ensures.turns) clean (kept_beside beside base) was in
+    let risen = one_risen base.mirror (key, Dead) (mirror_rises (kept_beside beside base) (state g.S.Store c.args.tx.now.conn.now) was) c.in_ok-rise.rise turned.0 in
     let added = subst (λ n. length base.mirror + n ≡ length mirror) (sym c.added.ensures) risen.added in
     let counted = c.in_ok-count_keys.ensures.within in
     let keys = ap (λ (m : Meta). are_beyond c.args.limits.now.keys m.keys c.added.result) (sym same) ∙ counted.1 in

@@ -7,10 +7,10 @@ use Rattle.adr_mirror.proofs.scan.scan_begin.Goals as goal
 
 pub returns-clause-makes : goal.returns-clause-makes
 returns-clause-makes g c clean =
-    ok_from c.set_scan.result (λ x leaves row base was same. record {
+    ok_from c.set_scan.result (λ x leaves beside base was same. record {
       change = SetScan (Some []);
       decided = refl;
-      holds = leaves (kept_beside row base) was;
+      holds = leaves (kept_beside beside base) was;
       counted = c.set_scan.ensures.noted ∙ ap (λ (m : Meta). let after : Meta = record m { scan = true } in after) same;
       right = tt;
     }) (c.set_scan.ensures.leaves clean)

@@ -1,0 +1,179 @@
+//! The table `stamp`: the stamps of what is shown.
+ghost use Rattle.std.specs.Prelude.{◌≡◌, [], ◌∷◌, IfOk, IfErr};
+ghost use Rattle.sqlite.specs.declared.types.Value.TheVariants.{Text};
+ghost use Rattle.adr_text.specs.declared.refusal.Refusal.TheVariants.{Store};
+ghost use Rattle.adr_state.specs.declared.keys.ViewKey.{ViewKey as KeyOf};
+ghost use Rattle.adr_state.specs.Keys.{view_cmp, at};
+ghost use Rattle.adr_sql.specs.Calls.{Stays};
+ghost use Rattle.adr_db.specs.Kept.{with_stamps, without_stamps};
+ghost use Rattle.adr_db.specs.Rows.{number, kind_number, view_kind, view_id, view_resource, view_key_row, stamp_row};
+ghost use Rattle.adr_db.specs.Refusals.{RefusesToPut, RefusesToShow, CannotReadAll, CannotReadFirst};
+ghost use Rattle.adr_db.specs.Admitted.{IsViewKey, AreStamps, IsStamped, ReadsViewKey, ReadsStamps, ReadsStamped};
+ghost use Rattle.adr_db.specs.Calls.{LeavesKept, Finds, IsOfStore};
+
+use crate::cells::{column, number, stamps_in};
+use crate::reading::{FromRow, all_of, first_in, table_of};
+use crate::statement::{rows_of, run};
+use adr_objects::{Kind, Number, Stamps};
+use adr_state::{MirrorKey, ViewKey};
+use adr_text::{ObjectId, Refusal, Table};
+use sqlite::types::ToSql;
+use sqlite::{Alter, Row, Transaction};
+use std::alloc::Global;
+
+const PUT: &str =
+    "INSERT INTO stamp (kind, a, b, created, modified) VALUES (?1, ?2, ?3, ?4, ?5) ON CONFLICT (kind, a, b) DO UPDATE SET kind = excluded.kind, a = excluded.a, b = excluded.b, created = excluded.created, modified = excluded.modified";
+
+const REMOVE: &str = "DELETE FROM stamp WHERE kind = ?1 AND a = ?2 AND b = ?3";
+
+const READ_ONE: &str =
+    "SELECT kind, a, b, created, modified FROM stamp WHERE kind = ?1 AND a = ?2 AND b = ?3 ORDER BY kind, a, b";
+
+const READ_ALL: &str = "SELECT kind, a, b, created, modified FROM stamp ORDER BY kind, a, b";
+
+/// 1 a program, 2 what a resource is shown of an event.
+fn view_kind(key: &ViewKey) -> u32
+    ensures { result ≡ view_kind key.now }
+{
+    match key {
+        ViewKey::Program(_) => 1,
+        ViewKey::Event(_, _) => 2,
+    }
+}
+
+/// The upstream id.
+fn view_id(key: &ViewKey) -> &ObjectId
+    ensures { result.now ≡ view_id key.now }
+{
+    match key {
+        ViewKey::Program(id) => id,
+        ViewKey::Event(id, _) => id,
+    }
+}
+
+/// The resource's number; 0 of a program.
+fn view_resource(key: &ViewKey) -> u64
+    ensures { result ≡ view_resource key.now }
+{
+    match key {
+        ViewKey::Program(_) => 0,
+        ViewKey::Event(_, resource) => resource.get(),
+    }
+}
+
+/// Puts the stamps of a key, new or in the place of those that it has.
+pub fn put_stamps<S: Alter>(
+    tx: &mut Transaction<'_, S>,
+    key: &ViewKey,
+    stamps: Stamps,
+) -> Result<(), Refusal>
+    ensures same_reference { tx.new.conn.ghost_name ≡ tx.old.conn.ghost_name }
+    ensures stays { Stays S.Store tx.old.conn.now tx.new.conn.now result }
+    ensures leaves { LeavesKept S.Store tx.old.conn.now tx.new.conn.now (with_stamps key.now stamps) result }
+    ensures refused { IfErr result IsOfStore }
+    ensures fails { RefusesToPut S.Store tx.old.conn.now tx.new.conn.now PUT.now (stamp_row (key.now, stamps)) result }
+{
+    run(
+        tx,
+        PUT,
+        &[
+            view_kind(key).to_sql(),
+            view_id(key).as_str().to_sql(),
+            number(view_resource(key))?,
+            number(stamps.created.nanos())?,
+            number(stamps.modified.nanos())?,
+        ],
+    )
+}
+
+/// The stamps of a key go.
+pub fn remove_stamps<S: Alter>(tx: &mut Transaction<'_, S>, key: &ViewKey) -> Result<(), Refusal>
+    ensures same_reference { tx.new.conn.ghost_name ≡ tx.old.conn.ghost_name }
+    ensures stays { Stays S.Store tx.old.conn.now tx.new.conn.now result }
+    ensures leaves { LeavesKept S.Store tx.old.conn.now tx.new.conn.now (without_stamps key.now) result }
+    ensures refused { IfErr result IsOfStore }
+    ensures fails { RefusesToPut S.Store tx.old.conn.now tx.new.conn.now REMOVE.now (view_key_row key.now) result }
+{
+    let resource = number(view_resource(key))?;
+    run(
+        tx,
+        REMOVE,
+        &[
+            view_kind(key).to_sql(),
+            view_id(key).as_str().to_sql(),
+            resource,
+        ],
+    )
+}
+
+/// The key of this kind and id, and of this resource: a program has the number 0.
+fn key_from(upstream: MirrorKey, resource: u64) -> Result<ViewKey, Refusal>
+    ensures key { IfOk result (λ key. view_key_row key ≡ number (kind_number upstream.kind) ∷ Text upstream.id ∷ number resource ∷ []) }
+    ensures refused { IfErr result (λ refusal. (refusal ≡ Store) × ((key : KeyOf) → ¬ (view_key_row key ≡ number (kind_number upstream.kind) ∷ Text upstream.id ∷ number resource ∷ []))) }
+{
+    match (upstream.kind, resource) {
+        (Kind::Program, 0) => Ok(ViewKey::Program(upstream.id)),
+        (Kind::Program, _) => Err(Refusal::Store),
+        (Kind::Event, _) => Ok(ViewKey::Event(upstream.id, Number::new(resource))),
+    }
+}
+
+impl FromRow for ViewKey {
+    ghost reads = { ReadsViewKey };
+
+    ghost admits = { IsViewKey };
+
+    fn from_row(alloc: Global, row: &Row) -> Result<ViewKey, Refusal> {
+        key_from(MirrorKey::from_row(alloc, row)?, column(row, 2)?)
+    }
+}
+
+impl FromRow for Stamps {
+    ghost reads = { ReadsStamps };
+
+    ghost admits = { AreStamps };
+
+    fn from_row(_: Global, row: &Row) -> Result<Stamps, Refusal> {
+        stamps_in(row, 3)
+    }
+}
+
+/// The stamps of a key, where it has some.
+pub fn read_stamps_of<S: Alter>(
+    tx: &mut Transaction<'_, S>,
+    key: &ViewKey,
+) -> Result<Option<Stamps>, Refusal>
+    ensures same_reference { tx.new.conn.ghost_name ≡ tx.old.conn.ghost_name }
+    ensures stays { Stays S.Store tx.old.conn.now tx.new.conn.now result }
+    ensures finds { Finds S.Store tx.old.conn.now tx.new.conn.now (λ kept found. found ≡ at view_cmp key.now kept.stamps) result }
+    ensures refused { IfErr result IsOfStore }
+    ensures fails { RefusesToShow S.Store tx.old.conn.now tx.new.conn.now READ_ONE.now (view_key_row key.now) (CannotReadFirst AreStamps ReadsStamps) result }
+{
+    let resource = number(view_resource(key))?;
+    let rows = rows_of(
+        tx,
+        READ_ONE,
+        &[
+            view_kind(key).to_sql(),
+            view_id(key).as_str().to_sql(),
+            resource,
+        ],
+    )?;
+    first_in(*rows.allocator(), &rows)
+}
+
+/// The stamps of all that is shown: programs before events, each by the bytes of its id, and events then by
+/// their resource's number.
+pub fn read_stamps<S: Alter>(
+    alloc: Global,
+    tx: &mut Transaction<'_, S>,
+) -> Result<Table<ViewKey, Stamps>, Refusal>
+    ensures same_reference { tx.new.conn.ghost_name ≡ tx.old.conn.ghost_name }
+    ensures stays { Stays S.Store tx.old.conn.now tx.new.conn.now result }
+    ensures finds { Finds S.Store tx.old.conn.now tx.new.conn.now (λ kept stamps. stamps ≡ kept.stamps) result }
+    ensures refused { IfErr result IsOfStore }
+    ensures fails { RefusesToShow S.Store tx.old.conn.now tx.new.conn.now READ_ALL.now [] (CannotReadAll IsStamped ReadsStamped) result }
+{
+    let entries = all_of(alloc, tx, READ_ALL, &[])?;
+    table_of(alloc, entries)
+}
