@@ -71,8 +71,8 @@ impl<S: Alter> SqlDesk<S> {
         image_in(self.alloc, &mut self.conn)
     }
 
-    /// Applies a command to the tables, in one transaction, and answers what it made of them. A refusal
-    /// leaves all as it was, where the store is open.
+    /// Applies a command to the tables, in one transaction, and answers what it made of them. It leaves the
+    /// stamps of what is shown. A refusal leaves all as it was, where the store is open.
     pub fn edit(&mut self, now: Moment, command: &Command) -> Result<Edit, Refusal>
         ensures makes { EditsTables (edit_by (settings_of self.old).limits now command.now) (shown S.Store self.old) (shown S.Store self.new) result }
         ensures committed { HasCleanDisk (shown S.Store self.new) → OnOk result ((shown S.Store self.new).committed ≡ (shown S.Store self.new).now) }
