@@ -192,7 +192,7 @@ reply_so : (s : State) (q : Query) → Refuses (Contains (listed_for q)) (reply 
 unfolding reply
 reply_so s (query.Programs role page) = first_then _ _ _ (sight_so _ s.base (0, omega arith, refl) role) (λ sight. never _ _)
 reply_so s (query.Program role id) = first_then _ _ _ (sight_so _ s.base (0, omega arith, refl) role) (λ sight. told_so _ s.base (0, omega arith, refl) (1, omega arith, refl) sight _)
-reply_so s (query.Events role page) = first_then _ _ _ (sight_so _ s.base (0, omega arith, refl) role) (λ sight. never _ _)
+reply_so s (query.Events role filter page) = first_then _ _ _ (sight_so _ s.base (0, omega arith, refl) role) (λ sight. never _ _)
 reply_so s (query.Event role id) = first_then _ _ _ (sight_so _ s.base (0, omega arith, refl) role) (λ sight. event_so _ s.base (0, omega arith, refl) (1, omega arith, refl) sight s (resource_part id) (event_part id))
 reply_so s (query.Vens role page) = first_then _ _ _ (sight_so _ s.base (0, omega arith, refl) role) (λ sight. never _ _)
 reply_so s (query.Ven role id) = first_then _ _ _ (sight_so _ s.base (0, omega arith, refl) role) (λ sight. ven_so _ s.base (0, omega arith, refl) (1, omega arith, refl) sight _)
@@ -222,7 +222,7 @@ listed_of_machine (ShareSet role program resource share) = refl
 pub listed_for_of_machine : (q : Query) → list_all is_of_machine (listed_for q) ≡ true
 listed_for_of_machine (query.Programs role page) = refl
 listed_for_of_machine (query.Program role id) = refl
-listed_for_of_machine (query.Events role page) = refl
+listed_for_of_machine (query.Events role filter page) = refl
 listed_for_of_machine (query.Event role id) = refl
 listed_for_of_machine (query.Vens role page) = refl
 listed_for_of_machine (query.Ven role id) = refl

@@ -1,5 +1,6 @@
 pub mod Roles
 pub mod Listings
+pub mod Filters
 pub mod Shown
 pub mod Changes
 pub mod Edits

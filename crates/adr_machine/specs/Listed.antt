@@ -26,7 +26,7 @@ listed (ShareSet role program resource share) = Forbidden ∷ NotFound ∷ BadSh
 abbrev pub listed_for : Query → List Refusal
 listed_for (query.Programs role page) = Forbidden ∷ []
 listed_for (query.Program role id) = Forbidden ∷ NotFound ∷ []
-listed_for (query.Events role page) = Forbidden ∷ []
+listed_for (query.Events role filter page) = Forbidden ∷ []
 listed_for (query.Event role id) = Forbidden ∷ NotFound ∷ []
 listed_for (query.Vens role page) = Forbidden ∷ []
 listed_for (query.Ven role id) = Forbidden ∷ NotFound ∷ []

@@ -22,6 +22,7 @@ use Rattle.adr_view.specs.declared.view.Content.TheVariants as content
 use Rattle.adr_machine.specs.declared.role.Role.{Role}
 use Rattle.adr_machine.specs.declared.sight.Sight.{Sight}
 use Rattle.adr_machine.specs.declared.sight.Sight.TheVariants.{All, Of}
+use Rattle.adr_machine.specs.declared.filter.EventFilter.{EventFilter}
 use Rattle.adr_machine.specs.declared.query.Page.{Page}
 use Rattle.adr_machine.specs.declared.answer.Object.{Object}
 use Rattle.adr_machine.specs.declared.answer.Object.TheVariants as object
@@ -30,6 +31,7 @@ use Rattle.adr_machine.specs.declared.answer.Answer.TheVariants as answer
 use Rattle.adr_state.specs.Keys.{view_cmp, at}
 use Rattle.adr_state.specs.Resources.{resource_with_id}
 use Rattle.adr_view.specs.Views.{view}
+use Rattle.adr_machine.specs.Filters.{wanted_of}
 use Rattle.adr_machine.specs.Roles.{sight_of}
 use Rattle.adr_machine.specs.Listings.{page_of, sees_ven}
 
@@ -71,8 +73,12 @@ object_at stamps r = option_and_then (object_of r.0 r.1) (at view_cmp r.0 stamps
 abbrev pub objects_in_sight : State → Kind → Sight → List Object
 objects_in_sight s kind sight = filter_map (object_at s.stamps) (rows_in_sight s.base kind sight)
 
-abbrev pub objects_reply : State → Kind → Role → Page → Result Answer Refusal
-objects_reply s kind role page = sight_of s.base role >>= λ sight. Ok (answer.List (page_of page (objects_in_sight s kind sight)))
+abbrev pub programs_reply : State → Role → Page → Result Answer Refusal
+programs_reply s role page = sight_of s.base role >>= λ sight. Ok (answer.List (page_of page (objects_in_sight s kind.Program sight)))
+
+-- what isn't wanted is left out before the page is cut
+abbrev pub events_reply : State → Role → EventFilter → Page → Result Answer Refusal
+events_reply s role wanted page = sight_of s.base role >>= λ sight. Ok (answer.List (page_of page (wanted_of wanted (objects_in_sight s kind.Event sight))))
 
 -- ---- one of them
 

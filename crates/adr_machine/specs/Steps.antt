@@ -3,7 +3,6 @@ use Rattle.std.specs.Prelude.{ℕ, List, length, take, Option, None, Some, Resul
 use Rattle.adr_text.specs.Refusals.{◌>>=◌}
 use Rattle.adr_text.specs.declared.refusal.Refusal.{Refusal}
 use Rattle.adr_text.specs.declared.refusal.Refusal.TheVariants.{NoScan}
-use Rattle.adr_objects.specs.declared.kind.Kind.TheVariants as kind
 use Rattle.adr_objects.specs.declared.shown.Stamps.{Stamps}
 use Rattle.adr_state.specs.declared.base.Base.{Base}
 use Rattle.adr_state.specs.declared.state.State.{State}
@@ -19,7 +18,7 @@ use Rattle.adr_state.specs.Scans.{probes}
 use Rattle.adr_view.specs.Views.{view}
 use Rattle.adr_view.specs.Changes.{changes, restamped}
 use Rattle.adr_machine.specs.Edits.{edit}
-use Rattle.adr_machine.specs.Shown.{objects_reply, program_reply, event_reply}
+use Rattle.adr_machine.specs.Shown.{programs_reply, program_reply, events_reply, event_reply}
 use Rattle.adr_machine.specs.Listings.{vens_reply, ven_reply, resources_reply, resource_reply, shares_reply}
 
 -- ---- steps
@@ -53,9 +52,9 @@ probes_reply limit base (Some polled) = Ok (answer.Probes (take limit (probes ba
 
 -- the reply to a query
 unfoldable pub reply : State → Query → Result Answer Refusal
-reply s (Programs role page) = objects_reply s kind.Program role page
+reply s (Programs role page) = programs_reply s role page
 reply s (Program role id) = program_reply s role id
-reply s (Events role page) = objects_reply s kind.Event role page
+reply s (Events role filter page) = events_reply s role filter page
 reply s (Event role id) = event_reply s role id
 reply s (Vens role page) = vens_reply s.base role page
 reply s (Ven role id) = ven_reply s.base role id

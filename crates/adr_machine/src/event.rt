@@ -1,23 +1,44 @@
-//! One event, by an id that names a resource and an event of the utility.
+//! Events, as they are listed, and one of them, by an id that names a resource and an event of the utility.
 ghost use Rattle.std.specs.Prelude.{◌≡◌, ◌≢◌, Ok, Err, IfOk, IfErr};
 ghost use Rattle.std.specs.Option.{option_copied};
 ghost use Rattle.adr_text.specs.declared.refusal.Refusal.TheVariants.{Store};
 ghost use Rattle.adr_text.specs.Refusals.{IsRefusalOf};
-ghost use Rattle.adr_machine.specs.Shown.{resource_part, event_part, id_in, event_shown, resource_named, event_told, event_reply};
+ghost use Rattle.adr_machine.specs.Shown.{resource_part, event_part, id_in, event_shown, resource_named, event_told, events_reply, event_reply};
 
 use crate::answer::{Answer, Object};
+use crate::filter::{EventFilter, wanted_of};
+use crate::page::page_of;
+use crate::query::Page;
 use crate::resource::resource_with_id;
 use crate::role::Role;
-use crate::shown::{object_shown, told};
+use crate::shown::{object_shown, objects_in_sight, told};
 use crate::sight::{Sight, sight_of};
 use crate::ven::sees_ven;
-use adr_objects::Number;
+use adr_objects::{Kind, Number};
 use adr_state::{Portfolio, Resource, State, ViewKey};
-use adr_text::{ObjectId, Refusal};
+use adr_text::{ObjectId, Refusal, Rows};
 use std::alloc::{AllocError, Global};
 
+/// The events that a role sees and the filter wants, or `Forbidden`.
+pub(crate) fn events_reply(
+    alloc: Global,
+    state: &State,
+    role: &Role,
+    filter: &EventFilter,
+    page: Page,
+) -> Result<Answer, Refusal>
+    ensures ok { IfOk result (λ answer. events_reply state.now role.now filter.now page ≡ Ok answer) }
+    ensures refused { IfErr result (λ refusal. IsRefusalOf refusal (events_reply state.now role.now filter.now page)) }
+    ensures no_store { result ≢ Err Store }
+{
+    let sight = sight_of(&state.base, role)?;
+    let events = objects_in_sight(alloc, state, Kind::Event, sight)?;
+    let wanted = wanted_of(alloc, filter, events)?;
+    Ok(Answer::List(Rows::from_vec(page_of(alloc, page, wanted)?)))
+}
+
 /// The object id that the text is.
-fn id_in(alloc: Global, text: &str) -> Result<Option<ObjectId>, AllocError>
+pub fn id_in(alloc: Global, text: &str) -> Result<Option<ObjectId>, AllocError>
     ensures { IfOk result (λ id. id ≡ id_in text.now) }
 {
     match ObjectId::new(alloc, text) {

@@ -9,6 +9,7 @@ mod desk;
 mod edit;
 mod event;
 mod evidence;
+mod filter;
 mod page;
 mod plain;
 mod program;
@@ -27,6 +28,8 @@ pub use adr_state::{Image, Limits, MOST_NUMBER, Settings, number_in, number_with
 pub use answer::{Answer, Object};
 pub use command::Command;
 pub use desk::Desk;
+pub use event::id_in;
+pub use filter::{EventFilter, TargetFilter};
 pub use plain::PlainDesk;
 pub use query::{Page, Query};
 pub use role::{Role, is_operator};

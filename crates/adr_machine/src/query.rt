@@ -1,4 +1,5 @@
 //! What the machine is asked.
+use crate::filter::EventFilter;
 use crate::role::Role;
 use adr_text::ObjectId;
 
@@ -22,9 +23,10 @@ pub enum Query {
         role: Role,
         id: ObjectId,
     },
-    /// The events that the role sees, by upstream id and then by resource.
+    /// The events that the role sees and the filter wants, by upstream id and then by resource.
     Events {
         role: Role,
+        filter: EventFilter,
         page: Page,
     },
     /// The event of an id, which names a resource before its first `-`. Refused for the resource of

@@ -5,15 +5,13 @@ ghost use Rattle.adr_text.specs.Refusals.{IsRefusalOf};
 ghost use Rattle.adr_machine.specs.Steps.{reply};
 
 use crate::answer::Answer;
-use crate::event::event_reply;
-use crate::program::program_reply;
+use crate::event::{event_reply, events_reply};
+use crate::program::{program_reply, programs_reply};
 use crate::query::Query;
 use crate::resource::{resource_reply, resources_reply};
 use crate::scan::probes_reply;
 use crate::share::shares_reply;
-use crate::shown::objects_reply;
 use crate::ven::{ven_reply, vens_reply};
-use adr_objects::Kind;
 use adr_state::State;
 use adr_text::Refusal;
 use std::alloc::Global;
@@ -26,9 +24,9 @@ pub(crate) fn reply(alloc: Global, state: &State, query: &Query) -> Result<Answe
     ensures no_store { result ≢ Err Store }
 {
     match query {
-        Query::Programs { role, page } => objects_reply(alloc, state, Kind::Program, role, *page),
+        Query::Programs { role, page } => programs_reply(alloc, state, role, *page),
         Query::Program { role, id } => program_reply(alloc, state, role, id),
-        Query::Events { role, page } => objects_reply(alloc, state, Kind::Event, role, *page),
+        Query::Events { role, filter, page } => events_reply(alloc, state, role, filter, *page),
         Query::Event { role, id } => event_reply(alloc, state, role, id),
         Query::Vens { role, page } => vens_reply(alloc, &state.base, role, *page),
         Query::Ven { role, id } => ven_reply(&state.base, role, id),

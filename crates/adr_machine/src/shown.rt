@@ -1,18 +1,13 @@
 //! Programs and events, as they are listed.
-ghost use Rattle.std.specs.Prelude.{◌≡◌, ◌≢◌, Ok, Err, IfOk, IfErr};
-ghost use Rattle.adr_text.specs.declared.refusal.Refusal.TheVariants.{Store};
-ghost use Rattle.adr_text.specs.Refusals.{IsRefusalOf};
+ghost use Rattle.std.specs.Prelude.{◌≡◌, IfOk};
 ghost use Rattle.std.specs.Option.{option_copied};
-ghost use Rattle.adr_machine.specs.Shown.{is_of, object_of, object_at, objects_in_sight, object_shown, told, objects_reply};
+ghost use Rattle.adr_machine.specs.Shown.{is_of, object_of, object_at, objects_in_sight, object_shown, told};
 
 use crate::answer::{Answer, Object};
-use crate::page::page_of;
-use crate::query::Page;
-use crate::role::Role;
-use crate::sight::{Sight, sees, sight_of};
+use crate::sight::{Sight, sees};
 use adr_objects::{EventObject, Kind, ProgramObject, Stamps};
 use adr_state::{State, ViewKey, push_some};
-use adr_text::{Refusal, Rows, Table};
+use adr_text::{Refusal, Table};
 use adr_view::{Content, row_at, view_of};
 use std::alloc::{AllocError, Global};
 
@@ -106,21 +101,4 @@ pub(crate) fn told(object: Option<Object>) -> Result<Answer, Refusal>
         Some(object) => Ok(Answer::Object(object)),
         None => Err(Refusal::NotFound),
     }
-}
-
-/// The objects of a kind that a role sees, or `Forbidden`.
-pub(crate) fn objects_reply(
-    alloc: Global,
-    state: &State,
-    kind: Kind,
-    role: &Role,
-    page: Page,
-) -> Result<Answer, Refusal>
-    ensures ok { IfOk result (λ answer. objects_reply state.now kind role.now page ≡ Ok answer) }
-    ensures refused { IfErr result (λ refusal. IsRefusalOf refusal (objects_reply state.now kind role.now page)) }
-    ensures no_store { result ≢ Err Store }
-{
-    let sight = sight_of(&state.base, role)?;
-    let objects = objects_in_sight(alloc, state, kind, sight)?;
-    Ok(Answer::List(Rows::from_vec(page_of(alloc, page, objects)?)))
 }

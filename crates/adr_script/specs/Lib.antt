@@ -1,6 +1,7 @@
 pub mod Cuts
 pub mod Words
 pub mod Queries
+pub mod Filters
 pub mod Paths
 pub mod Requests
 pub mod Steps

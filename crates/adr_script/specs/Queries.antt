@@ -1,5 +1,5 @@
 -- The query of a listing: which part of it is asked for.
-use Rattle.std.specs.Prelude.{ℕ, List, [], ◌∷◌, map, filter, codes, bytes_eq, Result, Ok, Err}
+use Rattle.std.specs.Prelude.{ℕ, List, [], ◌∷◌, map, filter, codes, bytes_eq, Option, None, Some, Result, Ok, Err}
 use Rattle.std.specs.Str.Lossy.{utf8_lossy}
 use Rattle.form_urlencoded.specs.Form.{decode, raw_pairs}
 use Rattle.adr_text.specs.Refusals.{◌>>=◌, or_else}
@@ -16,14 +16,19 @@ decoded_text bytes = utf8_lossy (decode bytes)
 unfoldable pub values_of : List ℕ → List (List ℕ × List ℕ) → List (List ℕ)
 values_of name pairs = map (λ p. decoded_text p.1) (filter (λ p. bytes_eq (decoded_text p.0) name) pairs)
 
--- the number that a parameter is, given at most once
-abbrev pub single : ℕ → ℕ → List (List ℕ) → Result ℕ Refusal
-single default most [] = Ok default
-single default most (v ∷ []) = or_else BadShape (number_within most v)
-single default most (v ∷ w ∷ vs) = Err BadShape
+-- the value of a parameter that is given at most once
+abbrev pub only_one : List (List ℕ) → Result (Option (List ℕ)) Refusal
+only_one [] = Ok None
+only_one (v ∷ []) = Ok (Some v)
+only_one (v ∷ w ∷ vs) = Err BadShape
+
+-- the number that a value is, or the default where there is none
+abbrev pub number_or : ℕ → ℕ → Option (List ℕ) → Result ℕ Refusal
+number_or default most None = Ok default
+number_or default most (Some v) = or_else BadShape (number_within most v)
 
 unfoldable pub number_in : List ℕ → ℕ → ℕ → List ℕ → Result ℕ Refusal
-number_in name default most query = single default most (values_of name (raw_pairs query))
+number_in name default most query = only_one (values_of name (raw_pairs query)) >>= number_or default most
 
 -- `skip` from 0 to 2147483647 and `limit` from 0 to 50; other parameters are passed over
 unfoldable pub page_asked : List ℕ → Result Page Refusal

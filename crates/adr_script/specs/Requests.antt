@@ -15,6 +15,7 @@ use Rattle.adr_script.specs.declared.asked.Asked.{Asked}
 use Rattle.adr_script.specs.declared.asked.Asked.TheVariants as asked
 use Rattle.adr_script.specs.Cuts.{cut}
 use Rattle.adr_script.specs.Words.{text_from, role_from, if_there}
+use Rattle.adr_script.specs.Filters.{filter_asked}
 use Rattle.adr_script.specs.Queries.{page_asked}
 use Rattle.adr_script.specs.declared.paths.Path.{Path}
 use Rattle.adr_script.specs.declared.paths.Path.TheVariants as path
@@ -24,7 +25,7 @@ use Rattle.adr_script.specs.Paths.{path_of}
 unfoldable pub asked_by_get : Role → Path → List ℕ → Result (Option Asked) Refusal
 asked_by_get role path.Programs query = page_asked query >>= λ page. Ok (Some (asked.Query (Programs role page)))
 asked_by_get role (path.Program id) query = Ok (Some (asked.Query (Program role id)))
-asked_by_get role path.Events query = page_asked query >>= λ page. Ok (Some (asked.Query (Events role page)))
+asked_by_get role path.Events query = filter_asked query >>= λ wanted. page_asked query >>= λ page. Ok (Some (asked.Query (Events role wanted page)))
 asked_by_get role (path.Event id) query = Ok (Some (asked.Query (Event role id)))
 asked_by_get role path.Vens query = page_asked query >>= λ page. Ok (Some (asked.Query (Vens role page)))
 asked_by_get role (path.Ven id) query = Ok (Some (asked.Query (Ven role id)))

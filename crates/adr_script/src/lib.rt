@@ -5,6 +5,7 @@ mod asked;
 mod bodies;
 mod cuts;
 mod fault;
+mod filter;
 pub mod laws;
 mod output;
 mod paths;

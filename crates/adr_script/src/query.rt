@@ -1,10 +1,11 @@
 //! The query of a listing (OpenADR 3.0, skip and limit).
 ghost use Rattle.std.specs.Prelude.{◌≡◌, ◌≤◌, map, codes, IfOk};
 ghost use Rattle.std.specs.Cow.{cow_str_bytes};
+ghost use Rattle.std.specs.Option.{option_copied};
 ghost use Rattle.form_urlencoded.specs.Form.{raw_pairs};
 ghost use Rattle.adr_text.specs.Refusals.{Gives};
 ghost use Rattle.adr_state.specs.Digits.{most_number};
-ghost use Rattle.adr_script.specs.Queries.{values_of, single, number_in, page_asked, decoded_text};
+ghost use Rattle.adr_script.specs.Queries.{values_of, only_one, number_or, number_in, page_asked, decoded_text};
 ghost use Rattle.std.specs.Prelude.{bytes_eq};
 
 use adr_machine::{Page, number_within};
@@ -29,7 +30,11 @@ fn decoded(alloc: Global, encoded: &[u8]) -> Result<CowStr<'_>, AllocError>
 
 /// The values of the parameter of a name, decoded, in their order.
 #[tactic(auto, unfolding(crate::specs::Queries::values_of))]
-fn values_of<'q>(alloc: Global, name: &str, query: &'q [u8]) -> Result<Vec<CowStr<'q>>, AllocError>
+pub(crate) fn values_of<'q>(
+    alloc: Global,
+    name: &str,
+    query: &'q [u8],
+) -> Result<Vec<CowStr<'q>>, AllocError>
     ensures { IfOk result (λ values. map cow_str_bytes values.items ≡ values_of name.now (raw_pairs query.now)) }
 {
     let mut values = Vec::new(alloc);
@@ -41,17 +46,27 @@ fn values_of<'q>(alloc: Global, name: &str, query: &'q [u8]) -> Result<Vec<CowSt
     Ok(values)
 }
 
-/// The number that a parameter is, given at most once.
-fn single(default: u32, most: u32, values: &[CowStr<'_>]) -> Result<u32, Refusal>
-    ensures { result ≡ single default most (map cow_str_bytes values.now) }
+/// The value of a parameter that is given at most once.
+pub(crate) fn only_one<'v>(values: &'v [CowStr<'_>]) -> Result<Option<&'v str>, Refusal>
+    ensures { Gives (λ value. option_copied value) result (only_one (map cow_str_bytes values.now)) }
 {
     match values {
-        [] => Ok(default),
-        [value] => match number_within(most as u64, value.as_str().as_bytes()) {
-            Some(number) => Ok(number as u32),
-            None => Err(Refusal::BadShape),
-        },
+        [] => Ok(None),
+        [value] => Ok(Some(value.as_str())),
         _ => Err(Refusal::BadShape),
+    }
+}
+
+/// The number that a value is, or the default where there is none.
+fn number_or(default: u32, most: u32, value: Option<&str>) -> Result<u32, Refusal>
+    ensures { result ≡ number_or default most (option_copied value.entry) }
+{
+    let Some(value) = value else {
+        return Ok(default);
+    };
+    match number_within(most as u64, value.as_bytes()) {
+        Some(number) => Ok(number as u32),
+        None => Err(Refusal::BadShape),
     }
 }
 
@@ -66,7 +81,7 @@ fn number_in(
     ensures { Gives (λ n. n) result (number_in name.now default most query.now) }
 {
     let values = values_of(alloc, name, query)?;
-    single(default, most, &values)
+    number_or(default, most, only_one(&values)?)
 }
 
 /// The part of a listing that a query asks for; `BadShape` where it asks in another form.

@@ -6,6 +6,7 @@ ghost use Rattle.adr_script.specs.Requests.{told_asked, notified, asked_by_get, 
 
 use crate::asked::Asked;
 use crate::cuts::cut;
+use crate::filter::filter_asked;
 use crate::paths::{Path, path_of};
 use crate::query::page_asked;
 use crate::words::{role_from, text_from};
@@ -32,8 +33,9 @@ fn asked_by_get(
         }
         Path::Program(id) => Query::Program { role, id },
         Path::Events => {
+            let filter = filter_asked(alloc, query)?;
             let page = page_asked(alloc, query)?;
-            Query::Events { role, page }
+            Query::Events { role, filter, page }
         }
         Path::Event(id) => Query::Event { role, id },
         Path::Vens => {
