@@ -102,7 +102,14 @@ impl Desk for Twin {
     fn apply(&mut self, now: Moment, command: &Command) -> Result<Answer, Refusal> {
         let said = self.plain.apply(now, command);
         let alloc = self.alloc;
-        if !has_followed(alloc, &mut self.plain, &mut self.tables, now, command, &said) {
+        if !has_followed(
+            alloc,
+            &mut self.plain,
+            &mut self.tables,
+            now,
+            command,
+            &said,
+        ) {
             self.apart = self.apart.saturating_add(1);
         }
         said
