@@ -2,6 +2,7 @@ pub mod Tables
 pub mod Rows
 pub mod Kept
 pub mod Bases
+pub mod Images
 pub mod Sharing
 pub mod Calls
 pub mod Refusals

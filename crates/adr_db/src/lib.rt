@@ -12,6 +12,7 @@ mod schema;
 mod share;
 mod sharers;
 mod stamp;
+mod state;
 mod statement;
 mod ven;
 
@@ -29,5 +30,6 @@ pub use schema::create;
 pub use share::{count_shares, put_share, read_share, read_shares, remove_share};
 pub use sharers::read_sharers;
 pub use stamp::{put_stamps, read_stamps, read_stamps_of, remove_stamps};
+pub use state::{read_portfolio, read_state};
 pub use statement::refusal_of;
 pub use ven::{count_vens, put_ven, read_ven, read_vens, read_vens_named, remove_ven};

@@ -6,7 +6,7 @@ use Rattle.sqlite.specs.State as sql
 use Rattle.adr_state.specs.declared.state.State.{State}
 use Rattle.sqlite_catalog.specs.Listing.{IsSound}
 use Rattle.adr_db.specs.Bases.{keys_polled, kept_of}
-use Rattle.adr_desk.specs.Images.{image_kept}
+use Rattle.adr_db.specs.Images.{image_kept}
 
 scan_again : (scan : Option (List MirrorKey)) → cond (is_some scan) (Some (keys_polled scan)) None ≡ scan
 scan_again None = refl

@@ -1,5 +1,4 @@
 pub mod Transactions
-pub mod Images
 pub mod Desks
 pub mod Edits
 pub mod Decisions

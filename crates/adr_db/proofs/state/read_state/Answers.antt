@@ -2,7 +2,7 @@ use Rattle.std.proofs.Common.{Some, None, cond, ap, ap₂, List, ◌∙◌, arit
 use Rattle.adr_db.proofs.Common.{state, HasCleanDisk, MirrorKey}
 use Rattle.adr_state.specs.declared.state.State.{State}
 use Rattle.adr_db.specs.declared.meta.Meta.{Meta}
-use Rattle.adr_desk.proofs.image.read_image.Goals as goal
+use Rattle.adr_db.proofs.state.read_state.Goals as goal
 
 pub returns-clause-finds : goal.returns-clause-finds
 returns-clause-finds g c clean kept was =
