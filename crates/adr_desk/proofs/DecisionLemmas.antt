@@ -12,20 +12,17 @@ use Rattle.adr_db.specs.BaseCalls.{Carries, Makes, Refuses, RefusesOn}
 use Rattle.adr_db.specs.Calls.{IsOfStore}
 use Rattle.adr_machine.specs.declared.answer.Answer.{Answer}
 use Rattle.adr_mirror.specs.Missed.{closing}
-use Rattle.adr_mirror.specs.Raises.{HaveRisen}
 use Rattle.adr_portfolio.proofs.Decisions.{refused_so}
 use Rattle.adr_machine.specs.declared.answer.Answer.TheVariants as answer
 use Rattle.adr_state.specs.Serials.{drawn}
 use Rattle.adr_machine.specs.Edits.{draws_number, Decision, counted, answered, of_portfolio, decided, told_by, numbered, edit_of}
 use Rattle.adr_machine.specs.declared.command.Command.{Command}
 use Rattle.adr_db.specs.Kept.{Kept, Keeps, with_meta}
-use Rattle.adr_desk.specs.declared.edit.Edit.TheVariants as edit
-use Rattle.adr_desk.specs.declared.edit.Edit.{Edit}
-use Rattle.adr_desk.specs.Edits.{IsAnswer, IsEdited}
+use Rattle.adr_desk.specs.Steps.{IsEdited}
 use Rattle.adr_desk.specs.Decisions.{IsDecided, CarriesOut}
 
 -- a refusal of one thing is one of what follows from it
-then_refused : {A B : Type 0} (e : Refusal) (first : Result A Refusal) (next : A → Result B Refusal) → IsRefusalOf e first → IsRefusalOf e (first >>= next)
+pub then_refused : {A B : Type 0} (e : Refusal) (first : Result A Refusal) (next : A → Result B Refusal) → IsRefusalOf e first → IsRefusalOf e (first >>= next)
 then_refused OutOfMemory first next h = tt
 then_refused Store first next h = tt
 then_refused e (Ok x) next h = absurd cc
@@ -45,61 +42,59 @@ of_store e r (inr is) = subst (λ (d : Refusal). IsRefusalOf d r) (sym is) tt
 
 module _ {S : Type 0} (g : Ghosts S) (old new : Held S) where
   -- a decision of the portfolio
-  pub portfolio_carries : {A : Type 0} (told : A → Answer) (tell : A → Edit) → ((base after : Base) (x : A) → IsAnswer base (Some (told x)) after (tell x)) → (decide : Portfolio → Result (A × PortfolioChange) Refusal) (meta : Meta) (r : Result A Refusal)
-      → Carries g old new decide r → Refuses g old new (λ kept. decide kept.portfolio) r → CarriesOut g old new (λ base. of_portfolio told (decide base.portfolio)) meta meta (told_by tell r)
-  portfolio_carries told tell agree decide meta (Ok x) carries refuses = record {
+  pub portfolio_carries : {A : Type 0} (told : A → Answer) (decide : Portfolio → Result (A × PortfolioChange) Refusal) (meta : Meta) (r : Result A Refusal)
+      → Carries g old new decide r → Refuses g old new (λ kept. decide kept.portfolio) r → CarriesOut g old new (λ base. of_portfolio told (decide base.portfolio)) meta meta (told_by (λ x. Some (told x)) r)
+  portfolio_carries told decide meta (Ok x) carries refuses = record {
     decides = λ clean beside base was same. let it = carries clean (kept_beside beside base) was in record {
-      decision = answered (told x) (ChangePortfolio it.change);
+      change = ChangePortfolio it.change;
       decided = ap (of_portfolio told) it.decided;
       holds = it.keeps;
       counted = same;
-      right = agree base (changed (ChangePortfolio it.change) base) x;
     };
     refuses = λ clean. tt;
   }
-  portfolio_carries told tell agree decide meta (Err e) carries refuses = record {
+  portfolio_carries told decide meta (Err e) carries refuses = record {
     decides = λ clean. tt;
     refuses = λ clean beside base was same. then_refused e (decide base.portfolio) _ (refuses clean (kept_beside beside base) was);
   }
 
   -- one whose change is decided by itself, and whose answer follows
-  module _ {A : Type 0} (tell : A → Edit) (part : Base → Result BaseChange Refusal) (whole : Base → Result Decision Refusal) (before after : Meta) (IsRight : Base → Base → A → Type 0)
-      (follows : (base : Base) (change : BaseChange) (x : A) → part base ≡ Ok change → IsRight base (changed change base) x → (said : Option Answer) × (whole base ≡ Ok (record { answer = said; change = change })) × IsAnswer base said (changed change base) (tell x))
+  module _ {A : Type 0} (tell : A → Option Answer) (part : Base → Result BaseChange Refusal) (whole : Base → Result Decision Refusal) (before after : Meta) (IsRight : Base → Base → A → Type 0)
+      (follows : (base : Base) (change : BaseChange) (x : A) → part base ≡ Ok change → IsRight base (changed change base) x → whole base ≡ Ok (record { answer = tell x; change = change }))
       (refused : (base : Base) (e : Refusal) → IsRefusalOf e (part base) → IsRefusalOf e (whole base)) where
     base_carries : (r : Result A Refusal) → Makes g old new part before after IsRight r → RefusesOn g old new part before r → CarriesOut g old new whole before after (told_by tell r)
     base_carries (Ok x) makes refuses = record {
-      decides = λ clean beside base was same. let it = makes clean beside base was same in let so = follows base it.change x it.decided it.right in record {
-        decision = record { answer = so.0; change = it.change };
-        decided = so.1;
+      decides = λ clean beside base was same. let it = makes clean beside base was same in record {
+        change = it.change;
+        decided = follows base it.change x it.decided it.right;
         holds = it.holds;
         counted = it.counted;
-        right = so.2;
       };
       refuses = λ clean. tt;
     }
     base_carries (Err e) makes refuses = record { decides = λ clean. tt; refuses = λ clean beside base was same. refused base e (refuses clean beside base was same) }
 
   -- the number of changes is the answer
-  pub counted_carries : (decide : Base → Result BaseChange Refusal) (before after : Meta) (r : Result (List MirrorKey) Refusal) → Makes g old new decide before after (λ base made keys. HaveRisen base.mirror made.mirror keys) r → RefusesOn g old new decide before r
-      → CarriesOut g old new (λ base. decide base >>= λ change. Ok (counted change)) before after (told_by edit.Raised r)
-  counted_carries decide before after =
-      base_carries edit.Raised decide _ before after _ (λ base change keys is right. (None, ap (λ (r : Result BaseChange Refusal). r >>= λ change. Ok (counted change)) is, (refl, right)))
-      (λ base e h. then_refused e (decide base) _ h)
+  pub counted_carries : {A : Type 0} (decide : Base → Result BaseChange Refusal) (before after : Meta) (IsRight : Base → Base → A → Type 0) (r : Result A Refusal) → Makes g old new decide before after IsRight r → RefusesOn g old new decide before r
+      → CarriesOut g old new (λ base. decide base >>= λ change. Ok (counted change)) before after (told_by (λ x. None) r)
+  counted_carries decide before after IsRight =
+      base_carries (λ x. None) decide _ before after IsRight (λ base change x is right. ap (λ (r : Result BaseChange Refusal). r >>= λ change. Ok (counted change)) is) (λ base e h. then_refused e (decide base) _ h)
 
   -- a scan is opened
-  pub begun_carries : (before after : Meta) (r : Result Unit Refusal) → Makes g old new (λ base. Ok scan_begin) before after (λ base made x. Unit {0}) r → IfErr r IsOfStore → CarriesOut g old new (λ base. Ok (answered answer.Done scan_begin)) before after (told_by (λ x. edit.Done) r)
+  pub begun_carries : (before after : Meta) (r : Result Unit Refusal) → Makes g old new (λ base. Ok scan_begin) before after (λ base made x. Unit {0}) r → IfErr r IsOfStore
+      → CarriesOut g old new (λ base. Ok (answered answer.Done scan_begin)) before after (told_by (λ x. Some answer.Done) r)
   begun_carries before after r makes refused =
-      base_carries (λ x. edit.Done) (λ base. Ok scan_begin) _ before after _ (λ base change x is right. (Some answer.Done, ap (λ (r : Result BaseChange Refusal). r >>= λ change. Ok (answered answer.Done change)) is, refl))
+      base_carries (λ x. Some answer.Done) (λ base. Ok scan_begin) _ before after _ (λ base change x is right. ap (λ (r : Result BaseChange Refusal). r >>= λ change. Ok (answered answer.Done change)) is)
       (λ base e h. then_refused e (Ok scan_begin) (λ change. Ok (answered answer.Done change)) h) r makes (λ clean. IfErr-weaker r IsOfStore _ (λ e h beside base was same. of_store e _ h) refused)
 
   -- a scan is closed
   pub ended_carries : (before after : Meta) (r : Result (List MirrorKey) Refusal) → Makes g old new closing before after (λ base made keys. scan_end base ≡ Ok (keys, SetScan None)) r → RefusesOn g old new closing before r
-      → CarriesOut g old new (λ base. scan_end base >>= λ d. Ok (answered (answer.Probes d.0) d.1)) before after (told_by edit.Probes r)
+      → CarriesOut g old new (λ base. scan_end base >>= λ d. Ok (answered (answer.Probes d.0) d.1)) before after (told_by (λ keys. Some (answer.Probes keys)) r)
   ended_carries before after =
-      base_carries edit.Probes closing _ before after _ (λ base change keys is right.
+      base_carries (λ keys. Some (answer.Probes keys)) closing _ before after _ (λ base change keys is right.
       let two : ◌≡◌ {A = Result BaseChange Refusal} (Ok (SetScan None)) (Ok change) = sym (ap (λ (r : Result (List MirrorKey × BaseChange) Refusal). r >>= λ d. Ok d.1) right) ∙ is in
       let same : SetScan None ≡ change = cc two in
-      (Some (answer.Probes keys), ap (λ (r : Result (List MirrorKey × BaseChange) Refusal). r >>= λ d. Ok (answered (answer.Probes d.0) d.1)) right ∙ ap (λ (change : BaseChange). Ok (answered (answer.Probes keys) change)) same, refl))
+      ap (λ (r : Result (List MirrorKey × BaseChange) Refusal). r >>= λ d. Ok (answered (answer.Probes d.0) d.1)) right ∙ ap (λ (change : BaseChange). Ok (answered (answer.Probes keys) change)) same)
       (λ base e h. told_refused e (scan_end base) (λ d. d.1) (λ d. answered (answer.Probes d.0) d.1) h)
 
 -- no change draws a number
@@ -107,14 +102,6 @@ pub serial_stays : (change : BaseChange) (base : Base) → (changed change base)
 serial_stays (JoinMarks marks scan) base = refl
 serial_stays (SetScan scan) base = refl
 serial_stays (ChangePortfolio change) base = refl
-
--- the answer is right whatever the serial is
-pub right_still : (base made : Base) (serial : ℕ) (said : Option Answer) (edit : Edit) → IsAnswer base said made edit → IsAnswer base said (record made { serial = serial }) edit
-right_still base made serial said (edit.Raised keys) h = h
-right_still base made serial said edit.Done h = h
-right_still base made serial said (edit.Probes keys) h = h
-right_still base made serial said (edit.Object object) h = h
-right_still base made serial said (edit.Share share) h = h
 
 -- what was decided, and its number drawn, is the edit
 module _ (limits : Limits) (now : ℕ) (command : Command) (held : State) (n : ℕ) (next : n ≡ held.base.serial + 1) where
@@ -124,26 +111,23 @@ module _ (limits : Limits) (now : ℕ) (command : Command) (held : State) (n : �
   pub decision_refused : (e : Refusal) → IsRefusalOf e (decided limits now n base command) → IsRefusalOf e (edit_of limits now base command)
   decision_refused e h = then_refused e (decided limits now (base.serial + 1) base command) (numbered limits (draws_number command) base) (subst (λ (m : ℕ). IsRefusalOf e (decided limits now m base command)) next h)
 
-  module _ (meta : Meta) (edited : Edit) (s : sql.State) (it : IsDecided (λ base. decided limits now n base command) (beside_of held) base meta edited s) where
+  module _ (meta : Meta) (said : Option Answer) (s : sql.State) (it : IsDecided (λ base. decided limits now n base command) (beside_of held) base meta said s) where
     -- the edit, when it is known what is drawn
-    drawn_is : (r : Result ℕ Refusal) → drawn limits meta.serial (draws_number command) ≡ r → edit_of limits now base command ≡ (r >>= λ serial. Ok (it.decision.answer, record (changed it.decision.change base) { serial = serial }))
+    drawn_is : (r : Result ℕ Refusal) → drawn limits meta.serial (draws_number command) ≡ r → edit_of limits now base command ≡ (r >>= λ serial. Ok (said, record (changed it.change base) { serial = serial }))
     drawn_is r is =
-        let same : base.serial ≡ meta.serial = sym (ap (λ (m : Meta). m.serial) it.counted ∙ serial_stays it.decision.change base) in
+        let same : base.serial ≡ meta.serial = sym (ap (λ (m : Meta). m.serial) it.counted ∙ serial_stays it.change base) in
         ap (λ (r : Result Decision Refusal). r >>= numbered limits (draws_number command) base) (ap (λ (m : ℕ). decided limits now m base command) (sym next) ∙ it.decided)
-        ∙ ap (λ (r : Result ℕ Refusal). r >>= λ serial. Ok (it.decision.answer, record (changed it.decision.change base) { serial = serial })) (ap (λ (serial : ℕ). drawn limits serial (draws_number command)) same ∙ is)
+        ∙ ap (λ (r : Result ℕ Refusal). r >>= λ serial. Ok (said, record (changed it.change base) { serial = serial })) (ap (λ (serial : ℕ). drawn limits serial (draws_number command)) same ∙ is)
 
     pub draw_refused : (e : Refusal) → drawn limits meta.serial (draws_number command) ≡ Err e → IsRefusalOf e (edit_of limits now base command)
     draw_refused e is = refused_so e _ (drawn_is (Err e) is)
 
     pub is_edited : (serial : ℕ) (t : sql.State) → drawn limits meta.serial (draws_number command) ≡ Ok serial → ((kept : Kept) → Keeps kept s → kept.meta ≡ meta_of base → Keeps (with_meta (record meta { serial = serial }) kept) t)
-        → IsEdited (λ base. edit_of limits now base command) held edited t
+        → IsEdited (λ base. edit_of limits now base command) held said t
     is_edited serial t left put =
-        let d = it.decision in
-        let counted : ◌≡◌ {A = Meta} (record meta { serial = serial }) (record (meta_of (changed d.change base)) { serial = serial }) = ap (λ (m : Meta). let after : Meta = record m { serial = serial } in after) it.counted in
+        let counted : ◌≡◌ {A = Meta} (record meta { serial = serial }) (record (meta_of (changed it.change base)) { serial = serial }) = ap (λ (m : Meta). let after : Meta = record m { serial = serial } in after) it.counted in
         record {
-          said = d.answer;
-          after = record (changed d.change base) { serial = serial };
+          after = record (changed it.change base) { serial = serial };
           edited = drawn_is (Ok serial) left;
-          holds = subst (λ (m : Meta). Keeps (kept_beside (record { numbers = m; stamps = held.stamps }) (changed d.change base)) t) counted (put (kept_beside (beside_of held) (changed d.change base)) it.holds refl);
-          right = right_still base (changed d.change base) serial d.answer edited it.right;
+          holds = subst (λ (m : Meta). Keeps (kept_beside (record { numbers = m; stamps = held.stamps }) (changed it.change base)) t) counted (put (kept_beside (beside_of held) (changed it.change base)) it.holds refl);
         }

@@ -1,6 +1,9 @@
 pub mod Kept
 pub mod Transactions
-pub mod Edited
+pub mod Applied
 pub mod Created
-pub mod RunLemmas
 pub mod DecisionLemmas
+pub mod ListedLemmas
+pub mod StampLemmas
+pub mod StepLemmas
+pub mod Soundness

@@ -7,7 +7,6 @@ use Rattle.adr_sql.proofs.Commits.{committed}
 use Rattle.adr_db.specs.Tables.{schema}
 use Rattle.adr_db.specs.Kept.{contents_of}
 use Rattle.adr_db.specs.Bases.{kept_of, HoldsState}
-use Rattle.adr_desk.specs.declared.edit.Edit.{Edit}
 use Rattle.adr_machine.specs.Edits.{told_by}
 use Rattle.adr_desk.specs.Transactions.{Ends}
 
@@ -28,16 +27,16 @@ module _ {S : Type 0} (g : Ghosts S) (old last end : Held S) where
       → Commits g old end IsDone IsLeft r
   ends_whole {T = T} x (Ok y) IsDone IsLeft stays made moves leaves ends =
       let it = committed g old last end {T = T} x (Ok y) IsDone IsLeft stays made moves leaves ends.over ends.ok (λ clean. tt) ends.crash in
-      record { done = it.done; is_open = it.is_open; undone = λ clean is_open. tt; over = it.over; crash = it.crash }
+      record { done = it.done; is_open = it.is_open; undone = λ clean is_open. tt; was_open = it.was_open; over = it.over; crash = it.crash }
   ends_whole {T = T} x (Err e) IsDone IsLeft stays made moves leaves ends =
       let it = committed g old last end {T = T} x (Err ends.err.0) IsDone IsLeft stays made moves leaves ends.over (λ clean. tt) ends.err.2 ends.crash in
-      record { done = λ clean. tt; is_open = λ clean. tt; undone = it.undone; over = it.over; crash = it.crash }
+      record { done = λ clean. tt; is_open = λ clean. tt; undone = it.undone; was_open = it.was_open; over = it.over; crash = it.crash }
 
-pub told_ok : (r : Result Unit Refusal) (edit : Edit) (P : Edit → Type 0) → OnOk r (P edit) → IfOk (told_by (λ u. edit) r) P
-told_ok (Ok u) edit P h = h
-told_ok (Err e) edit P h = tt
+pub told_ok : {A : Type 0} (r : Result Unit Refusal) (x : A) (P : A → Type 0) → OnOk r (P x) → IfOk (told_by (λ u. x) r) P
+told_ok (Ok u) x P h = h
+told_ok (Err e) x P h = tt
 
 module _ {S : Type 0} (g : Ghosts S) (old end : Held S) where
-  pub told_whole : (r : Result Unit Refusal) (edit : Edit) (IsDone : sql.State → Type 0) (IsLeft : Trees → Type 0) → Commits g old end IsDone IsLeft r → Commits g old end IsDone IsLeft (told_by (λ u. edit) r)
-  told_whole (Ok u) edit IsDone IsLeft h = record { done = h.done; is_open = h.is_open; undone = λ clean is_open. tt; over = h.over; crash = h.crash }
-  told_whole (Err e) edit IsDone IsLeft h = record { done = λ clean. tt; is_open = λ clean. tt; undone = h.undone; over = h.over; crash = h.crash }
+  pub told_whole : {A : Type 0} (r : Result Unit Refusal) (x : A) (IsDone : sql.State → Type 0) (IsLeft : Trees → Type 0) → Commits g old end IsDone IsLeft r → Commits g old end IsDone IsLeft (told_by (λ u. x) r)
+  told_whole (Ok u) x IsDone IsLeft h = record { done = h.done; is_open = h.is_open; undone = λ clean is_open. tt; was_open = h.was_open; over = h.over; crash = h.crash }
+  told_whole (Err e) x IsDone IsLeft h = record { done = λ clean. tt; is_open = λ clean. tt; undone = h.undone; was_open = h.was_open; over = h.over; crash = h.crash }

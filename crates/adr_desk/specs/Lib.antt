@@ -1,6 +1,7 @@
 pub mod Transactions
-pub mod Desks
-pub mod Edits
+pub mod Steps
 pub mod Decisions
-pub mod Runs
+pub mod Asks
+pub mod Stamps
+pub mod Desks
 pub mod Laws

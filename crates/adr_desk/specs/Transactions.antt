@@ -19,5 +19,6 @@ module _ {S : Type 0} (g : Ghosts S) (old new : Held S) where
   -- A transaction that was begun and then dropped: where the store is open all is as it was, and a crash may leave what it could before.
   pub record IsDropped : Type 0 where
     pub same : HasCleanDisk (state g new) → IsTrue (state g new).is_open → ((state g new).now ≡ (state g old).now) × ((state g new).committed ≡ (state g old).committed)
+    pub was_open : HasCleanDisk (state g new) → IsTrue (state g new).is_open → IsTrue (state g old).is_open
     pub over : new.in_transaction ≡ false
     pub crash : Survives (state g old) (state g new) (λ _. ⊥)

@@ -119,7 +119,7 @@ exhausted_listed (VenAdd role ven) draws = (3, omega arith, refl)
 exhausted_listed (ResourceAdd role ven resource) draws = (4, omega arith, refl)
 exhausted_listed c draws = absurd (let no : false ≡ true = draws in cc)
 
-forbidden_listed : (c : Command) → is_allowed c ≡ false → Contains (listed c) Forbidden
+pub forbidden_listed : (c : Command) → is_allowed c ≡ false → Contains (listed c) Forbidden
 forbidden_listed (Evidence founds polled) is = absurd (let yes : true ≡ false = is in cc)
 forbidden_listed (Gone kind id) is = absurd (let yes : true ≡ false = is in cc)
 forbidden_listed ScanBegin is = absurd (let yes : true ≡ false = is in cc)
@@ -137,6 +137,9 @@ edit_so limits now base c =
     cond_both (is_allowed c) (edit_of limits now base c) (Err Forbidden) (λ r. Refuses P r)
     (λ allowed. first_then P _ _ (decided_listed limits now (base.serial + 1) base c) (λ d. first_then P _ _ (drawn_so P limits base.serial (draws_number c) (exhausted_listed c)) (λ serial. never P _)))
     (λ other. record { so = forbidden_listed c other })
+
+pub drawn_listed : (limits : Limits) (serial : ℕ) (c : Command) → IfErr (drawn limits serial (draws_number c)) (Contains (listed c))
+drawn_listed limits serial c = (drawn_so _ limits serial (draws_number c) (exhausted_listed c)).so
 
 pub edit_listed : (limits : Limits) (now : ℕ) (base : Base) (c : Command) → IfErr (edit limits now base c) (Contains (listed c))
 edit_listed limits now base c = (edit_so limits now base c).so

@@ -13,7 +13,8 @@ use adr_text::{Moment, Refusal, Table};
 use adr_view::{changes_of, restamped, view_of};
 use std::alloc::{AllocError, Global};
 
-fn answer_or_count(answer: Option<Answer>, count: usize) -> Answer
+/// The answer, or how many keys of the view changed where there is none yet.
+pub fn answer_or_count(answer: Option<Answer>, count: usize) -> Answer
     ensures { result ≡ answer_or_count answer count }
 {
     match answer {

@@ -1,53 +1,23 @@
 //! What a command decides, carried out on the base. After a refusal the base is left anyhow.
-ghost use Rattle.std.specs.Prelude.{◌≡◌, ◌≢◌, Some, None, Ok, Err, IfOk, IfErr};
+ghost use Rattle.std.specs.Prelude.{◌≡◌, ◌≢◌, Ok, Err, IfOk, IfErr};
 ghost use Rattle.adr_text.specs.declared.refusal.Refusal.TheVariants.{Store};
 ghost use Rattle.adr_text.specs.Refusals.{IsRefusalOf};
 ghost use Rattle.adr_machine.specs.declared.answer.Answer.TheVariants as answer;
 ghost use Rattle.adr_state.specs.Evidence.{scan_begin};
-ghost use Rattle.adr_machine.specs.Edits.{ven_answer, resource_answer, told_by, answered, decided, carried_out_on};
+ghost use Rattle.adr_machine.specs.Edits.{answered, decided, carried_out_on};
 
-use crate::answer::{Answer, Object};
+use crate::answer::Answer;
 use crate::command::Command;
 use crate::evidence::{take_deletion, take_evidence};
 use crate::resource::{resource_add, resource_put, resource_remove};
 use crate::scan::{begin_scan, end_scan};
 use crate::share::share_set;
+use crate::told::{counted, of_resource, of_scan, of_share, of_ven};
 use crate::ven::{ven_add, ven_put, ven_remove};
-use adr_objects::{Number, ResourceObject, ShareObject, VenObject};
-use adr_state::{Base, Limits, MirrorKey};
-use adr_text::{Moment, Refusal, Rows};
+use adr_objects::Number;
+use adr_state::{Base, Limits};
+use adr_text::{Moment, Refusal};
 use std::alloc::Global;
-
-fn counted(decided: Result<(), Refusal>) -> Result<Option<Answer>, Refusal>
-    ensures { result ≡ told_by (λ _. None) decided }
-{
-    decided?;
-    Ok(None)
-}
-
-fn of_scan(decided: Result<Rows<MirrorKey>, Refusal>) -> Result<Option<Answer>, Refusal>
-    ensures { result ≡ told_by (λ keys. Some (answer.Probes keys)) decided }
-{
-    Ok(Some(Answer::Probes(decided?)))
-}
-
-fn of_ven(decided: Result<VenObject, Refusal>) -> Result<Option<Answer>, Refusal>
-    ensures { result ≡ told_by (λ ven. Some (ven_answer ven)) decided }
-{
-    Ok(Some(Answer::Object(Object::Ven(decided?))))
-}
-
-fn of_resource(decided: Result<ResourceObject, Refusal>) -> Result<Option<Answer>, Refusal>
-    ensures { result ≡ told_by (λ resource. Some (resource_answer resource)) decided }
-{
-    Ok(Some(Answer::Object(Object::Resource(decided?))))
-}
-
-fn of_share(decided: Result<ShareObject, Refusal>) -> Result<Option<Answer>, Refusal>
-    ensures { result ≡ told_by (λ share. Some (answer.Share share)) decided }
-{
-    Ok(Some(Answer::Share(decided?)))
-}
 
 fn begun(alloc: Global, base: &mut Base) -> Option<Answer>
     ensures { carried_out_on base.old (Ok (answered answer.Done scan_begin)) ≡ Ok (result, base.new) }

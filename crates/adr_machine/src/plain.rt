@@ -10,7 +10,7 @@ use crate::command::Command;
 use crate::commit::next;
 use crate::desk::Desk;
 use crate::query::Query;
-use crate::reply;
+use crate::replies::reply;
 use adr_state::{Settings, State};
 use adr_text::{Moment, Refusal};
 use std::alloc::Global;
@@ -67,7 +67,7 @@ impl Desk for PlainDesk {
         ensures was_sound { Unit {0} → Unit {0} }
         ensures same_settings { self.new.settings ≡ self.old.settings }
     {
-        reply::reply(self.alloc, &self.state, query)
+        reply(self.alloc, &self.state, query)
     }
 
     fn image(&mut self) -> Result<State, Refusal>

@@ -4,7 +4,7 @@ use Rattle.sqlite.specs.Held.{state}
 use Rattle.adr_db.specs.declared.meta.Meta.{Meta}
 use Rattle.adr_db.specs.Kept.{Keeps, with_meta}
 use Rattle.adr_db.proofs.Results.{on_then}
-use Rattle.adr_desk.proofs.edit.put_changed.Goals as goal
+use Rattle.adr_desk.proofs.step.put_changed.Goals as goal
 
 both : (a b : Bool) → true ≡ (a && b) → (a ≡ true) × (true ≡ b)
 both true b h = (refl, h)

@@ -1,5 +1,5 @@
 //! A command on the tables, in one transaction.
-ghost use Rattle.std.specs.Prelude.{◌≡◌, false, IsTrue, IfOk, IfErr, OnOk, OnErr};
+ghost use Rattle.std.specs.Prelude.{◌≡◌, false, IsTrue, IfErr, OnOk, OnErr};
 ghost use Rattle.sqlite.specs.Held.{state};
 ghost use Rattle.sqlite.specs.State.{HasCleanDisk};
 ghost use Rattle.adr_state.specs.declared.state.State.{State};
@@ -8,33 +8,19 @@ ghost use Rattle.adr_db.specs.Kept.{Kept, Keeps, with_meta};
 ghost use Rattle.adr_db.specs.Bases.{HoldsState};
 ghost use Rattle.adr_db.specs.Calls.{IsOfStore};
 ghost use Rattle.adr_machine.specs.Edits.{told_by, edit_of};
-ghost use Rattle.adr_desk.specs.Edits.{edit_by, EditsTables, RefusesEdit, HoldsEdited, LeftEdited};
+ghost use Rattle.adr_machine.specs.Listed.{listed, IsListed};
+ghost use Rattle.adr_desk.specs.Steps.{step_of, step_by, EditsTables, StepsTables, RefusesAs, HoldsStepped, LeftStepped};
 
 use crate::decided::carry_out;
 use crate::frame::{begin, commit};
+use crate::stamps::restamp;
 use adr_db::{Meta, put_meta, read_meta};
-use adr_machine::{Command, Object};
-use adr_objects::ShareObject;
-use adr_state::{Limits, MirrorKey};
-use adr_text::{Moment, Refusal, Rows};
+use adr_events::view;
+use adr_machine::{Answer, Command, answer_or_count};
+use adr_state::Limits;
+use adr_text::{Moment, Refusal};
 use sqlite::{Alter, Connection, Transaction};
 use std::alloc::Global;
-
-/// What an edit of the tables answers.
-#[derive(Drop)]
-pub enum Edit {
-    /// Of evidence and of a deletion: the keys whose mark rose, programs before events, each by the bytes
-    /// of its id.
-    Raised(Rows<MirrorKey>),
-    /// A scan was opened.
-    Done,
-    /// A scan was closed: the live keys that it missed, in the same order.
-    Probes(Rows<MirrorKey>),
-    /// A ven or a resource: as it is after it was added or renamed, or as it was when it went.
-    Object(Object),
-    /// A share as it was set.
-    Share(ShareObject),
-}
 
 // The numbers of the node are put, where they differ from those that are kept.
 fn put_changed<S: Alter>(
@@ -61,15 +47,16 @@ fn numbered<S: Alter>(
     limits: &Limits,
     now: Moment,
     command: &Command,
-) -> Result<Edit, Refusal>
+) -> Result<Option<Answer>, Refusal>
     ensures same_reference { tx.new.conn.ghost_name ≡ tx.old.conn.ghost_name }
     ensures stays { Stays S.Store tx.old.conn.now tx.new.conn.now result }
     ensures makes { EditsTables (λ base. edit_of limits.now now base command.now) (state S.Store tx.old.conn.now) (state S.Store tx.new.conn.now) result }
-    ensures refuses { RefusesEdit (λ base. edit_of limits.now now base command.now) (state S.Store tx.old.conn.now) (state S.Store tx.new.conn.now) result }
+    ensures refuses { RefusesAs (λ held. edit_of limits.now now held.base command.now) (state S.Store tx.old.conn.now) (state S.Store tx.new.conn.now) result }
+    ensures listed { IfErr result (IsListed (Unit {0}) (listed command.now)) }
 {
     let before = read_meta(tx)?;
     let mut meta = before;
-    let edit = carry_out(
+    let said = carry_out(
         alloc,
         tx,
         limits,
@@ -80,55 +67,79 @@ fn numbered<S: Alter>(
     )?;
     meta.serial.draw(limits, command.draws_number())?;
     put_changed(tx, &before, &meta)?;
-    Ok(edit)
+    Ok(said)
 }
 
-/// The command on a lent transaction.
-fn edited<S: Alter>(
+/// The command of one who may give it: its edit, and then the stamps of what is shown. All that is shown is
+/// computed before and after it.
+fn committed<S: Alter>(
     alloc: Global,
     tx: &mut Transaction<'_, S>,
     limits: &Limits,
     now: Moment,
     command: &Command,
-) -> Result<Edit, Refusal>
+) -> Result<Answer, Refusal>
     ensures same_reference { tx.new.conn.ghost_name ≡ tx.old.conn.ghost_name }
     ensures stays { Stays S.Store tx.old.conn.now tx.new.conn.now result }
-    ensures makes { EditsTables (edit_by limits.now now command.now) (state S.Store tx.old.conn.now) (state S.Store tx.new.conn.now) result }
-    ensures refuses { RefusesEdit (edit_by limits.now now command.now) (state S.Store tx.old.conn.now) (state S.Store tx.new.conn.now) result }
+    ensures makes { StepsTables (step_of (λ base. edit_of limits.now now base command.now) now) (state S.Store tx.old.conn.now) (state S.Store tx.new.conn.now) result }
+    ensures refuses { RefusesAs (step_of (λ base. edit_of limits.now now base command.now) now) (state S.Store tx.old.conn.now) (state S.Store tx.new.conn.now) result }
+    ensures listed { IfErr result (IsListed (Unit {0}) (listed command.now)) }
+{
+    let before = view(alloc, tx)?;
+    let said = numbered(alloc, tx, limits, now, command)?;
+    let after = view(alloc, tx)?;
+    let count = restamp(alloc, tx, now, &before, &after)?;
+    Ok(answer_or_count(said, count))
+}
+
+/// The command on a lent transaction.
+fn stepped<S: Alter>(
+    alloc: Global,
+    tx: &mut Transaction<'_, S>,
+    limits: &Limits,
+    now: Moment,
+    command: &Command,
+) -> Result<Answer, Refusal>
+    ensures same_reference { tx.new.conn.ghost_name ≡ tx.old.conn.ghost_name }
+    ensures stays { Stays S.Store tx.old.conn.now tx.new.conn.now result }
+    ensures makes { StepsTables (step_by limits.now now command.now) (state S.Store tx.old.conn.now) (state S.Store tx.new.conn.now) result }
+    ensures refuses { RefusesAs (step_by limits.now now command.now) (state S.Store tx.old.conn.now) (state S.Store tx.new.conn.now) result }
+    ensures listed { IfErr result (IsListed (Unit {0}) (listed command.now)) }
 {
     if !command.is_allowed() {
         return Err(Refusal::Forbidden);
     }
-    numbered(alloc, tx, limits, now, command)
+    committed(alloc, tx, limits, now, command)
 }
 
 // The answer, where the commit went well.
-fn told(ended: Result<(), Refusal>, edit: Edit) -> Result<Edit, Refusal>
-    ensures { result ≡ told_by (λ _. edit) ended }
+fn told(ended: Result<(), Refusal>, answer: Answer) -> Result<Answer, Refusal>
+    ensures { result ≡ told_by (λ _. answer) ended }
 {
     ended?;
-    Ok(edit)
+    Ok(answer)
 }
 
 /// The command in a transaction of its own: all of it is committed, or nothing is left of it.
-pub(crate) fn edit_in<S: Alter>(
+pub(crate) fn apply_in<S: Alter>(
     alloc: Global,
     conn: &mut Connection<S>,
     limits: &Limits,
     now: Moment,
     command: &Command,
-) -> Result<Edit, Refusal>
+) -> Result<Answer, Refusal>
     requires { conn.old.in_transaction ≡ false }
     ensures whole { Commits S.Store conn.old conn.new
-        (λ s. (held : State) → HoldsState held (state S.Store conn.old) → HoldsEdited (edit_by limits.now now command.now) held s)
-        (λ trees. (held : State) → HoldsState held (state S.Store conn.old) → LeftEdited (edit_by limits.now now command.now) held trees)
+        (λ s. (held : State) → HoldsState held (state S.Store conn.old) → HoldsStepped (step_by limits.now now command.now) held s)
+        (λ trees. (held : State) → HoldsState held (state S.Store conn.old) → LeftStepped (step_by limits.now now command.now) held trees)
         result }
-    ensures makes { EditsTables (edit_by limits.now now command.now) (state S.Store conn.old) (state S.Store conn.new) result }
-    ensures refuses { RefusesEdit (edit_by limits.now now command.now) (state S.Store conn.old) (state S.Store conn.new) result }
+    ensures makes { StepsTables (step_by limits.now now command.now) (state S.Store conn.old) (state S.Store conn.new) result }
+    ensures refuses { RefusesAs (step_by limits.now now command.now) (state S.Store conn.old) (state S.Store conn.new) result }
+    ensures listed { IfErr result (IsListed (Unit {0}) (listed command.now)) }
     ensures unchanged { HasCleanDisk (state S.Store conn.new) → IsTrue (state S.Store conn.new).is_open → OnErr result ((state S.Store conn.new).now ≡ (state S.Store conn.old).now) }
 {
     let mut tx = begin(conn);
-    let edit = edited(alloc, &mut tx, limits, now, command)?;
+    let answer = stepped(alloc, &mut tx, limits, now, command)?;
     let ended = commit(tx);
-    told(ended, edit)
+    told(ended, answer)
 }

@@ -18,7 +18,7 @@ use std::alloc::Global;
 
 /// The reply to a query.
 #[tactic(auto, unfolding(crate::specs::Steps::reply))]
-pub(crate) fn reply(alloc: Global, state: &State, query: &Query) -> Result<Answer, Refusal>
+pub fn reply(alloc: Global, state: &State, query: &Query) -> Result<Answer, Refusal>
     ensures ok { IfOk result (λ answer. reply state.now query.now ≡ Ok answer) }
     ensures refused { IfErr result (λ refusal. IsRefusalOf refusal (reply state.now query.now)) }
     ensures no_store { result ≢ Err Store }

@@ -1,0 +1,21 @@
+use Rattle.std.proofs.Common.{◌≡◌, sym, ap, subst, ◌∙◌, arith}
+use Rattle.adr_db.proofs.Common.{state, HasCleanDisk, stays_then}
+use Rattle.adr_db.specs.Kept.{Keeps}
+use Rattle.adr_desk.specs.Stamps.{left_at, left_of}
+use Rattle.adr_desk.proofs.stamps.leave_each.Goals as goal
+
+-- one key more
+pub rows-preserved : goal.rows-preserved
+rows-preserved g c = record {
+  same = c.leave.ensures.same_reference ∙ c.rows.invariant.same;
+  stays = stays_then g.S.Store c.args.tx.now.conn.now c.rows.tx.conn.now c.leave.new.tx.conn.now _ _ c.rows.invariant.stays c.in_ok-leave.ensures.stays;
+  left = λ clean kept was.
+      let early : HasCleanDisk (state g.S.Store c.rows.tx.conn.now) = omega (arith, c.leave.ensures.stays.crash.clean) in
+      let so = c.rows.invariant.left early kept was in
+      (left_at c.args.after.now so.0 c.leave.args.key.now, c.in_ok-leave.ensures.leaves clean (record kept { stamps = so.0 }) so.1, so.2);
+}
+
+pub returns-clause-leaves : goal.returns-clause-leaves
+returns-clause-leaves g c clean kept was =
+    let so = c.rows.invariant.left clean kept was in
+    subst (λ stamps. Keeps (record kept { stamps = stamps }) (state g.S.Store c.rows.tx.conn.now)) so.2 so.1

@@ -1,0 +1,138 @@
+//! A query on the tables, in a transaction that is dropped.
+ghost use Rattle.std.specs.Prelude.{◌≡◌, false, IfErr};
+ghost use Rattle.sqlite.specs.Held.{state};
+ghost use Rattle.adr_sql.specs.Calls.{Stays};
+ghost use Rattle.adr_db.specs.Calls.{Finds, IsOfStore};
+ghost use Rattle.adr_machine.specs.declared.query.Query.TheVariants as query;
+ghost use Rattle.adr_machine.specs.Listed.{listed_for, IsListed};
+ghost use Rattle.adr_machine.specs.Steps.{reply};
+ghost use Rattle.adr_desk.specs.Asks.{asks_portfolio, state_for};
+ghost use Rattle.adr_desk.specs.Steps.{TellsTables, RefusesAs};
+ghost use Rattle.adr_desk.specs.Transactions.{IsDropped};
+
+use crate::frame::begin;
+use adr_db::{read_meta, read_portfolio, read_state};
+use adr_events::page;
+use adr_machine::{Answer, EventFilter, Page, Query, Role, reply};
+use adr_mirror::probes;
+use adr_state::State;
+use adr_text::Refusal;
+use sqlite::{Alter, Connection, Transaction};
+use std::alloc::Global;
+
+/// Whether the reply is that of the vens, resources and shares alone.
+fn asks_portfolio(query: &Query) -> bool
+    ensures { result ≡ asks_portfolio query.now }
+{
+    matches!(
+        query,
+        Query::Vens { .. }
+            | Query::Ven { .. }
+            | Query::Resources { .. }
+            | Query::Resource { .. }
+            | Query::Shares { .. }
+    )
+}
+
+/// What is kept of the state that a query asks for.
+fn state_for<S: Alter>(
+    alloc: Global,
+    tx: &mut Transaction<'_, S>,
+    query: &Query,
+) -> Result<State, Refusal>
+    ensures same_reference { tx.new.conn.ghost_name ≡ tx.old.conn.ghost_name }
+    ensures stays { Stays S.Store tx.old.conn.now tx.new.conn.now result }
+    ensures finds { Finds S.Store tx.old.conn.now tx.new.conn.now (λ kept found. found ≡ state_for query.now kept) result }
+    ensures refused { IfErr result IsOfStore }
+{
+    if !asks_portfolio(query) {
+        return read_state(alloc, tx);
+    }
+    let mut state = State::new(alloc);
+    state.base.portfolio = read_portfolio(alloc, tx)?;
+    Ok(state)
+}
+
+/// The reply to a query, by what it asks for of the state.
+fn replied<S: Alter>(
+    alloc: Global,
+    tx: &mut Transaction<'_, S>,
+    query: &Query,
+) -> Result<Answer, Refusal>
+    ensures same_reference { tx.new.conn.ghost_name ≡ tx.old.conn.ghost_name }
+    ensures stays { Stays S.Store tx.old.conn.now tx.new.conn.now result }
+    ensures tells { TellsTables (λ held. reply held query.now) (state S.Store tx.old.conn.now) (state S.Store tx.new.conn.now) result }
+    ensures refuses { RefusesAs (λ held. reply held query.now) (state S.Store tx.old.conn.now) (state S.Store tx.new.conn.now) result }
+    ensures listed { IfErr result (IsListed (Unit {0}) (listed_for query.now)) }
+{
+    let state = state_for(alloc, tx, query)?;
+    reply(alloc, &state, query)
+}
+
+/// The events that a role sees and the filter wants, or `Forbidden`.
+fn events<S: Alter>(
+    alloc: Global,
+    tx: &mut Transaction<'_, S>,
+    role: &Role,
+    filter: &EventFilter,
+    part: Page,
+) -> Result<Answer, Refusal>
+    ensures same_reference { tx.new.conn.ghost_name ≡ tx.old.conn.ghost_name }
+    ensures stays { Stays S.Store tx.old.conn.now tx.new.conn.now result }
+    ensures tells { TellsTables (λ held. reply held (query.Events role.now filter.now part)) (state S.Store tx.old.conn.now) (state S.Store tx.new.conn.now) result }
+    ensures refuses { RefusesAs (λ held. reply held (query.Events role.now filter.now part)) (state S.Store tx.old.conn.now) (state S.Store tx.new.conn.now) result }
+    ensures listed { IfErr result (IsListed (Unit {0}) (listed_for (query.Events role.now filter.now part))) }
+{
+    Ok(Answer::List(page(alloc, tx, role, filter, part)?))
+}
+
+/// The first keys that an open scan missed, or `NoScan`.
+fn missed<S: Alter>(
+    alloc: Global,
+    tx: &mut Transaction<'_, S>,
+    limit: u32,
+) -> Result<Answer, Refusal>
+    ensures same_reference { tx.new.conn.ghost_name ≡ tx.old.conn.ghost_name }
+    ensures stays { Stays S.Store tx.old.conn.now tx.new.conn.now result }
+    ensures tells { TellsTables (λ held. reply held (query.Probes limit)) (state S.Store tx.old.conn.now) (state S.Store tx.new.conn.now) result }
+    ensures refuses { RefusesAs (λ held. reply held (query.Probes limit)) (state S.Store tx.old.conn.now) (state S.Store tx.new.conn.now) result }
+    ensures listed { IfErr result (IsListed (Unit {0}) (listed_for (query.Probes limit))) }
+{
+    let meta = read_meta(tx)?;
+    Ok(Answer::Probes(probes(alloc, tx, &meta, Some(limit))?))
+}
+
+/// The reply to a query, on a lent transaction.
+fn asked<S: Alter>(
+    alloc: Global,
+    tx: &mut Transaction<'_, S>,
+    query: &Query,
+) -> Result<Answer, Refusal>
+    ensures same_reference { tx.new.conn.ghost_name ≡ tx.old.conn.ghost_name }
+    ensures stays { Stays S.Store tx.old.conn.now tx.new.conn.now result }
+    ensures tells { TellsTables (λ held. reply held query.now) (state S.Store tx.old.conn.now) (state S.Store tx.new.conn.now) result }
+    ensures refuses { RefusesAs (λ held. reply held query.now) (state S.Store tx.old.conn.now) (state S.Store tx.new.conn.now) result }
+    ensures listed { IfErr result (IsListed (Unit {0}) (listed_for query.now)) }
+{
+    match query {
+        Query::Events { role, filter, page } => events(alloc, tx, role, filter, *page),
+        Query::Probes { limit } => missed(alloc, tx, *limit),
+        _ => replied(alloc, tx, query),
+    }
+}
+
+/// The reply to a query. The transaction is dropped and not committed, so a crash leaves what it could before.
+pub(crate) fn ask_in<S: Alter>(
+    alloc: Global,
+    conn: &mut Connection<S>,
+    query: &Query,
+) -> Result<Answer, Refusal>
+    requires { conn.old.in_transaction ≡ false }
+    ensures tells { TellsTables (λ held. reply held query.now) (state S.Store conn.old) (state S.Store conn.new) result }
+    ensures refuses { RefusesAs (λ held. reply held query.now) (state S.Store conn.old) (state S.Store conn.new) result }
+    ensures listed { IfErr result (IsListed (Unit {0}) (listed_for query.now)) }
+    ensures dropped { IsDropped S.Store conn.old conn.new }
+{
+    let mut tx = begin(conn);
+    asked(alloc, &mut tx, query)
+}

@@ -1,0 +1,134 @@
+//! The stamps after a change of what is shown: those that differ are put, and those of keys that went are removed.
+ghost use Rattle.std.specs.Prelude.{◌≡◌, length, OnOk, IfErr};
+ghost use Rattle.std.specs.Option.{option_copied};
+ghost use Rattle.sqlite.specs.Held.{state};
+ghost use Rattle.sqlite.specs.State.{HasCleanDisk};
+ghost use Rattle.adr_sql.specs.Calls.{Stays};
+ghost use Rattle.adr_db.specs.Kept.{Kept, Keeps};
+ghost use Rattle.adr_db.specs.Calls.{LeavesKept, Turns, IsOfStore};
+ghost use Rattle.adr_view.specs.Changes.{changes};
+ghost use Rattle.adr_desk.specs.Stamps.{left_at, left_of, are_those, put_at, put_all, stamped, with_restamped};
+
+use adr_db::{put_stamps, read_stamps, remove_stamps};
+use adr_objects::Stamps;
+use adr_state::ViewKey;
+use adr_text::{Moment, Refusal, Table};
+use adr_view::{View, changes_of, restamped, row_at};
+use sqlite::{Alter, Transaction};
+use std::alloc::Global;
+
+/// The stamps of a key go, where it has none in the map after.
+fn leave<S: Alter>(
+    tx: &mut Transaction<'_, S>,
+    after: &Table<ViewKey, Stamps>,
+    key: &ViewKey,
+) -> Result<(), Refusal>
+    ensures same_reference { tx.new.conn.ghost_name ≡ tx.old.conn.ghost_name }
+    ensures stays { Stays S.Store tx.old.conn.now tx.new.conn.now result }
+    ensures leaves { LeavesKept S.Store tx.old.conn.now tx.new.conn.now (stamped (λ stamps. left_at after.now stamps key.now)) result }
+    ensures refused { IfErr result IsOfStore }
+{
+    if row_at(after, key).is_some() {
+        return Ok(());
+    }
+    remove_stamps(tx, key)
+}
+
+/// The stamps of keys that have none in the map after go.
+fn leave_each<S: Alter>(
+    tx: &mut Transaction<'_, S>,
+    before: &Table<ViewKey, Stamps>,
+    after: &Table<ViewKey, Stamps>,
+) -> Result<(), Refusal>
+    ensures same_reference { tx.new.conn.ghost_name ≡ tx.old.conn.ghost_name }
+    ensures stays { Stays S.Store tx.old.conn.now tx.new.conn.now result }
+    ensures leaves { LeavesKept S.Store tx.old.conn.now tx.new.conn.now (stamped (λ stamps. left_of after.now stamps before.now)) result }
+    ensures refused { IfErr result IsOfStore }
+{
+    'rows: for (key, _) in before.iter() {
+        leave(tx, after, key)?;
+    }
+    Ok(())
+}
+
+/// Whether these are the stamps that were.
+fn are_those(old: Option<&Stamps>, stamps: Stamps) -> bool
+    ensures { result ≡ are_those (option_copied old) stamps }
+{
+    match old {
+        None => false,
+        Some(old) => *old == stamps,
+    }
+}
+
+/// A key gets its stamps, where it had others in the map before, or none.
+fn put<S: Alter>(
+    tx: &mut Transaction<'_, S>,
+    before: &Table<ViewKey, Stamps>,
+    key: &ViewKey,
+    stamps: Stamps,
+) -> Result<(), Refusal>
+    ensures same_reference { tx.new.conn.ghost_name ≡ tx.old.conn.ghost_name }
+    ensures stays { Stays S.Store tx.old.conn.now tx.new.conn.now result }
+    ensures leaves { LeavesKept S.Store tx.old.conn.now tx.new.conn.now (stamped (λ all. put_at before.now all (key.now, stamps))) result }
+    ensures refused { IfErr result IsOfStore }
+{
+    if are_those(row_at(before, key), stamps) {
+        return Ok(());
+    }
+    put_stamps(tx, key, stamps)
+}
+
+/// Each key gets its stamps, where it had others in the map before, or none.
+fn put_each<S: Alter>(
+    tx: &mut Transaction<'_, S>,
+    before: &Table<ViewKey, Stamps>,
+    after: &Table<ViewKey, Stamps>,
+) -> Result<(), Refusal>
+    ensures same_reference { tx.new.conn.ghost_name ≡ tx.old.conn.ghost_name }
+    ensures stays { Stays S.Store tx.old.conn.now tx.new.conn.now result }
+    ensures leaves { LeavesKept S.Store tx.old.conn.now tx.new.conn.now (stamped (λ stamps. put_all before.now stamps after.now)) result }
+    ensures refused { IfErr result IsOfStore }
+{
+    'rows: for (key, stamps) in after.iter() {
+        put(tx, before, key, *stamps)?;
+    }
+    Ok(())
+}
+
+/// The stamps that are kept become those after, of which only what differs is written.
+fn turn<S: Alter>(
+    tx: &mut Transaction<'_, S>,
+    before: &Table<ViewKey, Stamps>,
+    after: &Table<ViewKey, Stamps>,
+) -> Result<(), Refusal>
+    ensures same_reference { tx.new.conn.ghost_name ≡ tx.old.conn.ghost_name }
+    ensures stays { Stays S.Store tx.old.conn.now tx.new.conn.now result }
+    ensures leaves { HasCleanDisk (state S.Store tx.new.conn.now) → OnOk result ((kept : Kept) → Keeps kept (state S.Store tx.old.conn.now) → kept.stamps ≡ before.now → Keeps (record kept { stamps = after.now }) (state S.Store tx.new.conn.now)) }
+    ensures refused { IfErr result IsOfStore }
+{
+    let (_, _) = (before.iter(), after.iter());
+    leave_each(tx, before, after)?;
+    put_each(tx, before, after)
+}
+
+/// The stamps after a change from one view to another, and how many keys changed. A key that appears gets both
+/// stamps now, one that differs the modified stamp, and one that goes loses its own; of the others nothing is
+/// written.
+pub(crate) fn restamp<S: Alter>(
+    alloc: Global,
+    tx: &mut Transaction<'_, S>,
+    now: Moment,
+    before: &View,
+    after: &View,
+) -> Result<usize, Refusal>
+    ensures same_reference { tx.new.conn.ghost_name ≡ tx.old.conn.ghost_name }
+    ensures stays { Stays S.Store tx.old.conn.now tx.new.conn.now result }
+    ensures turns { Turns S.Store tx.old.conn.now tx.new.conn.now (with_restamped before.now after.now now) (λ _ count. count ≡ length (changes before.now after.now)) result }
+    ensures refused { IfErr result IsOfStore }
+{
+    let old = read_stamps(alloc, tx)?;
+    let new = restamped(alloc, &old, before, after, now)?;
+    turn(tx, &old, &new)?;
+    Ok(changes_of(alloc, before, after)?.len())
+}
