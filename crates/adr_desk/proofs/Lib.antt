@@ -6,4 +6,5 @@ pub mod DecisionLemmas
 pub mod ListedLemmas
 pub mod StampLemmas
 pub mod StepLemmas
+pub mod ReplyLemmas
 pub mod Soundness

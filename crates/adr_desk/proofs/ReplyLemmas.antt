@@ -1,0 +1,36 @@
+-- What a query is told by what was read for it.
+use Rattle.std.proofs.Common.{◌≡◌, ℕ, List, Option, Some, None, Result, Ok, Err, refl, ap}
+use Rattle.adr_db.proofs.Common.{Refusal, MirrorKey, Base, NoScan}
+use Rattle.adr_text.specs.Refusals.{◌>>=◌}
+use Rattle.adr_state.specs.declared.state.State.{State}
+use Rattle.adr_db.specs.Bases.{kept_of}
+use Rattle.adr_db.proofs.ReadBack.{image_again}
+use Rattle.adr_machine.specs.declared.answer.Answer.{Answer}
+use Rattle.adr_machine.specs.declared.answer.Answer.TheVariants as answer
+use Rattle.adr_machine.specs.declared.query.Query.{Query}
+use Rattle.adr_machine.specs.declared.query.Query.TheVariants.{Programs, Program, Events, Event, Vens, Ven, Resources, Resource, Shares, Probes}
+use Rattle.adr_machine.specs.Steps.{reply, probes_reply}
+use Rattle.adr_mirror.specs.Missed.{missed}
+use Rattle.adr_desk.specs.Asks.{state_for}
+
+-- the reply by what a query asks for is the reply
+pub reply_for : (query : Query) (held : State) → reply (state_for query (kept_of held)) query ≡ reply held query
+unfolding reply
+reply_for (Programs role page) held = ap (λ (s : State). reply s (Programs role page)) (image_again held)
+reply_for (Program role id) held = ap (λ (s : State). reply s (Program role id)) (image_again held)
+reply_for (Events role filter page) held = ap (λ (s : State). reply s (Events role filter page)) (image_again held)
+reply_for (Event role id) held = ap (λ (s : State). reply s (Event role id)) (image_again held)
+reply_for (Vens role page) held = refl
+reply_for (Ven role id) held = refl
+reply_for (Resources role ven page) held = refl
+reply_for (Resource role ven id) held = refl
+reply_for (Shares role program) held = refl
+reply_for (Probes limit) held = ap (λ (s : State). reply s (Probes limit)) (image_again held)
+
+-- the first keys that an open scan missed are told so
+pub missed_told : (limit : ℕ) (base : Base) → probes_reply limit base base.scan ≡ (missed (Some limit) base >>= λ keys. Ok (answer.Probes keys))
+missed_told limit base = by base.scan refl
+  where
+    by : (scan : Option (List MirrorKey)) → base.scan ≡ scan → probes_reply limit base base.scan ≡ (missed (Some limit) base >>= λ keys. Ok (answer.Probes keys))
+    by None is = rw is refl
+    by (Some polled) is = rw is refl
