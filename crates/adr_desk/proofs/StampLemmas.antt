@@ -3,14 +3,14 @@ use Rattle.std.proofs.Common.{◌≡◌, ◌⊎◌, inl, inr, ⊎_elim, Bool, tr
 use Rattle.std.specs.Prelude.{is_some}
 use Rattle.std.specs.BTreeMap.{insert_entry, is_at}
 use Rattle.std.specs.Map.{keys_of, remove_entry, lookup}
-use Rattle.std.specs.Ordering.{is_eq}
-use Rattle.std_collections.specs.Layout.BTreeMap.{btree_map}
+use Rattle.std.specs.Ordering.{is_eq, ordering_reverse}
+use Rattle.std.specs.declared.cmp.Ordering.{Ordering}
+use Rattle.std.specs.declared.cmp.Ordering.TheVariants.{Less, Equal, Greater}
 use Rattle.std.proofs.lemmas.Bool.{and_parts, cases_Bool, cond_both}
 use Rattle.std.proofs.lemmas.Cmp.{eq_by_cmp_equiv, tied_itself}
 use Rattle.std.proofs.lemmas.Map.{lookup-none, lookup-remove_entry}
-use Rattle.std.proofs.lemmas.Map.Entries.{none_past_head}
+use Rattle.std.proofs.lemmas.Map.Entries.{lookup_tail, none_below_head, none_past_head}
 use Rattle.std.proofs.lemmas.Map.Keys.{IsDistinct-from_sorted}
-use Rattle.std.proofs.lemmas.Map.Lookups.{btree_map_from_get}
 use Rattle.adr_objects.specs.declared.shown.Stamps.{Stamps}
 use Rattle.adr_state.specs.declared.keys.ViewKey.{ViewKey}
 use Rattle.adr_state.specs.Keys.{view_cmp, at}
@@ -39,6 +39,9 @@ at_removed q k es up =
     let laws = eq_by_cmp_equiv view_total in
     lookup-remove_entry laws (is_at (view_cmp k)) (λ x y. laws.congr k x y) q es (IsDistinct-from_sorted view_cmp (keys_of es) up)
 
+past_head : (q : ViewKey) (e : ViewKey × Stamps) (es : Stamped) → InOrder view_cmp (e ∷ es) → is_eq (view_cmp q e.0) ≡ true → at view_cmp q es ≡ None
+past_head q e es up is = lookup-none (is_at (view_cmp q)) es (none_past_head (eq_by_cmp_equiv view_total) q e es (IsDistinct-from_sorted view_cmp (keys_of (e ∷ es)) up) is)
+
 -- ---- what is gone
 
 module _ (after : Stamped) where
@@ -62,10 +65,10 @@ module _ (after : Stamped) where
       one false = at_removed k k stamps up
 
       other : is_eq (view_cmp q k) ≡ false → is_eq (view_cmp k q) ≡ false → (b c : Bool) → at view_cmp q (cond b stamps (remove_entry (is_at (view_cmp k)) stamps)) ≡ cond c (at view_cmp q stamps) (cond (is_eq (view_cmp q k)) None (at view_cmp q stamps))
-      other no back true true = refl
-      other no back true false = rw no refl
-      other no back false true = at_removed q k stamps up ∙ rw back refl
-      other no back false false = at_removed q k stamps up ∙ rw (back, no) refl
+      other apart back true true = refl
+      other apart back true false = rw apart refl
+      other apart back false true = at_removed q k stamps up ∙ rw back refl
+      other apart back false false = at_removed q k stamps up ∙ rw (back, apart) refl
 
   at_left_of : (q : ViewKey) (stamps rows : Stamped) → InOrder view_cmp stamps
       → at view_cmp q (left_of after stamps rows) ≡ cond (is_some (at view_cmp q after)) (at view_cmp q stamps) (cond (is_some (at view_cmp q rows)) None (at view_cmp q stamps))
@@ -121,8 +124,8 @@ module _ (before : Stamped) where
       one false = at-insert_entry view_total e.0 e.0 e.1 stamps ∙ rw (tied e.0) refl
 
       other : is_eq (view_cmp q e.0) ≡ false → (b : Bool) → at view_cmp q (cond b stamps (insert_entry view_cmp stamps e.0 e.1)) ≡ at view_cmp q stamps
-      other no true = refl
-      other no false = at-insert_entry view_total q e.0 e.1 stamps ∙ rw no refl
+      other apart true = refl
+      other apart false = at-insert_entry view_total q e.0 e.1 stamps ∙ rw apart refl
 
   at_put_all : (q : ViewKey) (stamps rows : Stamped) → InOrder view_cmp rows → at view_cmp q (put_all before stamps rows) ≡ put_value (at view_cmp q before) (at view_cmp q rows) (at view_cmp q stamps)
   unfolding Rattle.std.specs.List.Sorted.IsStrictlySortedBy
@@ -131,9 +134,41 @@ module _ (before : Stamped) where
       at_put_all q (put_at before stamps e) rows up.1
       ∙ ap (put_value (at view_cmp q before) (at view_cmp q rows)) (at_put q e stamps)
       ∙ ⊎_elim
-      (λ is. let none : at view_cmp q rows ≡ None = lookup-none (is_at (view_cmp q)) rows (none_past_head (eq_by_cmp_equiv view_total) q e rows (IsDistinct-from_sorted view_cmp (keys_of (e ∷ rows)) up) is) in rw (is, none) refl)
+      (λ is. let none = past_head q e rows up is in rw (is, none) refl)
       (λ no. rw no refl)
       (cases_Bool (is_eq (view_cmp q e.0)))
+
+-- ---- two maps
+
+below_head : (q : ViewKey) (e : ViewKey × Stamps) (es : Stamped) → InOrder view_cmp (e ∷ es) → view_cmp q e.0 ≡ Less → at view_cmp q (e ∷ es) ≡ None
+below_head q e es up is = lookup-none (is_at (view_cmp q)) (e ∷ es) (none_below_head view_total q e es up is)
+
+at_head : (e : ViewKey × Stamps) (es : Stamped) → at view_cmp e.0 (e ∷ es) ≡ Some e.1
+at_head e es = rw (tied e.0) refl
+
+-- maps in order that have the same at each key are one
+same_maps : (es fs : Stamped) → InOrder view_cmp es → InOrder view_cmp fs → ((q : ViewKey) → at view_cmp q es ≡ at view_cmp q fs) → es ≡ fs
+unfolding Rattle.std.specs.List.Sorted.IsStrictlySortedBy
+same_maps [] [] up rises same = refl
+same_maps [] (f ∷ fs) up rises same = absurd (let no : None ≡ Some f.1 = same f.0 ∙ at_head f fs in cc)
+same_maps (e ∷ es) [] up rises same = absurd (let no : None ≡ Some e.1 = sym (same e.0) ∙ at_head e es in cc)
+same_maps (e ∷ es) (f ∷ fs) up rises same = by (λ one. same_maps es fs up.1 rises.1 (tails one)) (view_cmp e.0 f.0) refl
+  where
+    tails : e.0 ≡ f.0 → (q : ViewKey) → at view_cmp q es ≡ at view_cmp q fs
+    tails one q =
+        ⊎_elim
+        (λ is. past_head q e es up is ∙ sym (past_head q f fs rises (subst (λ (k : ViewKey). is_eq (view_cmp q k) ≡ true) one is)))
+        (λ other. sym (lookup_tail (is_at (view_cmp q)) e es other) ∙ same q ∙ lookup_tail (is_at (view_cmp q)) f fs (subst (λ (k : ViewKey). is_eq (view_cmp q k) ≡ false) one other))
+        (cases_Bool (is_eq (view_cmp q e.0)))
+
+    by : (e.0 ≡ f.0 → es ≡ fs) → (o : Ordering) → view_cmp e.0 f.0 ≡ o → e ∷ es ≡ f ∷ fs
+    by rest Less is = absurd (let no : None ≡ Some e.1 = sym (below_head e.0 f fs rises is) ∙ sym (same e.0) ∙ at_head e es in cc)
+    by rest Greater is = absurd (let no : None ≡ Some f.1 = sym (below_head f.0 e es up (view_total.antisymm f.0 e.0 ∙ ap ordering_reverse is)) ∙ same f.0 ∙ at_head f fs in cc)
+    by rest Equal is =
+        let one : e.0 ≡ f.0 = view_exact e.0 f.0 is in
+        let value : Some e.1 ≡ Some f.1 = sym (at_head e es) ∙ same e.0 ∙ subst (λ (k : ViewKey). at view_cmp k (f ∷ fs) ≡ Some f.1) (sym one) (at_head f fs) in
+        let own : e.1 ≡ f.1 = cc value in
+        λ i. (one i, own i) ∷ rest one i
 
 -- ---- both
 
@@ -159,4 +194,4 @@ module _ (before after : Stamped) (up : InOrder view_cmp before) (rises : InOrde
       by old (Some v) = same old v (are_those old v) refl
 
   pub turned : put_all before left after ≡ after
-  turned = btree_map_from_get view_total (btree_map (put_all before left after) (inl tt)) (btree_map after (inl tt)) (put_all_in_order before left after (left_of_in_order after before before up)) rises at_turned view_exact
+  turned = same_maps (put_all before left after) after (put_all_in_order before left after (left_of_in_order after before before up)) rises at_turned
