@@ -9,5 +9,5 @@ mod view;
 mod view_map;
 
 pub use changes::{Change, Operation, changes_of, restamped};
-pub use view::{Content, View, carries, rows_for, view_of};
+pub use view::{Content, View, carries, put_rows, rows_for, view_of};
 pub use view_map::row_at;
