@@ -54,9 +54,13 @@ is_of kind.Program (key.Event event resource) = false
 is_of kind.Event (key.Program id) = false
 is_of kind.Event (key.Event event resource) = true
 
--- what is shown of a kind and in sight
+-- of what is shown, the rows of a kind that are in sight
+abbrev pub rows_seen : Base → List (ViewKey × Content) → Kind → Sight → List (ViewKey × Content)
+rows_seen base shown kind sight = filter (λ r. is_of kind r.0 && sees base sight r.0) shown
+
+-- so of the view of a base
 abbrev pub rows_in_sight : Base → Kind → Sight → List (ViewKey × Content)
-rows_in_sight base kind sight = filter (λ r. is_of kind r.0 && sees base sight r.0) (view base)
+rows_in_sight base kind sight = rows_seen base (view base) kind sight
 
 -- what is shown at a key, as an object
 abbrev pub object_of : ViewKey → Content → Stamps → Option Object
@@ -69,9 +73,13 @@ object_at stamps r = option_and_then (object_of r.0 r.1) (at view_cmp r.0 stamps
 
 -- ---- listings
 
+-- of what is shown, the programs or the events in sight, in its order, each with its stamps
+abbrev pub objects_seen : Base → List (ViewKey × Content) → List (ViewKey × Stamps) → Kind → Sight → List Object
+objects_seen base shown stamps kind sight = filter_map (object_at stamps) (rows_seen base shown kind sight)
+
 -- the programs or the events in sight, in the order of the keys, each with its stamps; on every state that a run reaches none is left out for want of stamps (law `objects_lack_none` of adr_laws)
 abbrev pub objects_in_sight : State → Kind → Sight → List Object
-objects_in_sight s kind sight = filter_map (object_at s.stamps) (rows_in_sight s.base kind sight)
+objects_in_sight s kind sight = objects_seen s.base (view s.base) s.stamps kind sight
 
 abbrev pub programs_reply : State → Role → Page → Result Answer Refusal
 programs_reply s role page = sight_of s.base role >>= λ sight. Ok (answer.List (page_of page (objects_in_sight s kind.Program sight)))

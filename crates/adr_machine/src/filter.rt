@@ -70,8 +70,8 @@ fn is_wanted(filter: &EventFilter, object: &Object) -> bool
     is_of(&filter.programs, &event.shown.program) && has_target(&filter.target, &event.shown)
 }
 
-/// Those that are wanted, in their order.
-pub(crate) fn wanted_of(
+/// The events among the objects that are wanted, in their order.
+pub fn wanted_of(
     alloc: Global,
     filter: &EventFilter,
     objects: Vec<Object>,

@@ -6,12 +6,8 @@ use crate::answer::Object;
 use crate::query::Page;
 use std::alloc::{AllocError, Global};
 
-/// After the first ones, at most so many.
-pub(crate) fn page_of(
-    alloc: Global,
-    page: Page,
-    objects: Vec<Object>,
-) -> Result<Vec<Object>, AllocError>
+/// The page of a listing: after the first ones, at most so many.
+pub fn page_of(alloc: Global, page: Page, objects: Vec<Object>) -> Result<Vec<Object>, AllocError>
     ensures { IfOk result (λ some. some.items ≡ page_of page objects.items) }
 {
     objects

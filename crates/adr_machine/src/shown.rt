@@ -1,14 +1,14 @@
 //! Programs and events, as they are listed.
 ghost use Rattle.std.specs.Prelude.{◌≡◌, IfOk};
 ghost use Rattle.std.specs.Option.{option_copied};
-ghost use Rattle.adr_machine.specs.Shown.{is_of, object_of, object_at, objects_in_sight, object_shown, told};
+ghost use Rattle.adr_machine.specs.Shown.{is_of, object_of, object_at, objects_seen, objects_in_sight, object_shown, told};
 
 use crate::answer::{Answer, Object};
 use crate::sight::{Sight, sees};
 use adr_objects::{EventObject, Kind, ProgramObject, Stamps};
-use adr_state::{State, ViewKey, push_some};
+use adr_state::{Base, State, ViewKey, push_some};
 use adr_text::{Refusal, Table};
-use adr_view::{Content, row_at, view_of};
+use adr_view::{Content, View, row_at, view_of};
 use std::alloc::{AllocError, Global};
 
 /// Whether something of the kind stands at the key.
@@ -59,6 +59,27 @@ fn object_at(
     }
 }
 
+/// Of what is shown, the objects of a kind that are in sight, in the order of the keys, each with its stamps. Of
+/// the base only the resources are looked at, for whose they are.
+pub fn objects_seen(
+    alloc: Global,
+    base: &Base,
+    view: &View,
+    stamps: &Table<ViewKey, Stamps>,
+    kind: Kind,
+    sight: Sight,
+) -> Result<Vec<Object>, AllocError>
+    ensures { IfOk result (λ all. all.items ≡ objects_seen base.now view.now stamps.now kind sight) }
+{
+    let mut all = Vec::new(alloc);
+    for (key, content) in view.iter() {
+        if is_of(kind, key) && sees(base, sight, key) {
+            push_some(&mut all, object_at(stamps, key, content)?)?;
+        }
+    }
+    Ok(all)
+}
+
 /// The objects of a kind that are in sight, in the order of the keys.
 pub(crate) fn objects_in_sight(
     alloc: Global,
@@ -69,13 +90,7 @@ pub(crate) fn objects_in_sight(
     ensures { IfOk result (λ all. all.items ≡ objects_in_sight state.now kind sight) }
 {
     let view = view_of(alloc, &state.base)?;
-    let mut all = Vec::new(alloc);
-    for (key, content) in view.iter() {
-        if is_of(kind, key) && sees(&state.base, sight, key) {
-            push_some(&mut all, object_at(&state.stamps, key, content)?)?;
-        }
-    }
-    Ok(all)
+    objects_seen(alloc, &state.base, &view, &state.stamps, kind, sight)
 }
 
 /// The object that is shown at a key, if there is one.

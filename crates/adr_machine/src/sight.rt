@@ -17,8 +17,9 @@ pub enum Sight {
     Of(Number),
 }
 
-/// What the role sees, or `Forbidden`.
-pub(crate) fn sight_of(base: &Base, role: &Role) -> Result<Sight, Refusal>
+/// What the role sees, or `Forbidden`: the operator all, an enrolled ven what is its own, and another nothing. Of
+/// the base only the vens are looked at.
+pub fn sight_of(base: &Base, role: &Role) -> Result<Sight, Refusal>
     ensures { result ≡ sight_of base.now role.now }
 {
     match role {
