@@ -48,10 +48,11 @@ module _ {S : Type 0} (g : Ghosts S) (old new : Held S) where
   Changes schema change result = HasCleanDisk (state g new) → OnOk result ((all : Contents) → Holds schema all (state g old) → Holds schema (change all) (state g new))
 
   -- A whole transaction, begun and then committed or dropped. After Ok the change is there and committed, and the store is open; after an error the last
-  -- commit stands; and a crash on the way leaves what it could before or the change whole, never a part of it.
+  -- commit stands; a shut store never opens again; and a crash on the way leaves what it could before or the change whole, never a part of it.
   pub record Commits {T E : Type 0} (IsDone : State → Type 0) (IsLeft : Trees → Type 0) (result : Result T E) : Type 0 where
     pub done : HasCleanDisk (state g new) → OnOk result (IsDone (state g new) × ((state g new).committed ≡ (state g new).now))
     pub is_open : HasCleanDisk (state g new) → OnOk result (IsTrue (state g new).is_open)
+    pub was_open : HasCleanDisk (state g new) → IsTrue (state g new).is_open → IsTrue (state g old).is_open
     pub undone : HasCleanDisk (state g new) → IsTrue (state g new).is_open → OnErr result (((state g new).now ≡ (state g old).committed) × ((state g new).committed ≡ (state g old).committed))
     pub over : new.in_transaction ≡ false
     pub crash : Survives (state g old) (state g new) IsLeft
