@@ -47,7 +47,7 @@ pub use Rattle.sqlite_schema.specs.Rules.{Keeps, ParentKey, agree, equal, guards
 pub use Rattle.sqlite_schema.specs.declared.schema.Keys.TheVariants.{Deferred, Enforced, Off}
 pub use Rattle.sqlite_schema.specs.declared.schema.Schema.{Schema}
 pub use Rattle.sqlite_schema.specs.declared.schema.Table.{Table}
-pub use Rattle.sqlite_trees.proofs.ListLemmas.{IsPermutation-filter, IsPermutation-flat_map, IsPermutation-flat_map_each, IsPermutation-same, all-append, all-filter, all-flat_map, all-map, all_both, all_of, all_weaker, ascending-append, ascending-filter, ascending-map, ascending_from_map, ascending_weaker, filter-map, filter_all, filter_none, filter_same, flat_map-map, map-flat_map, map-map}
+pub use Rattle.sqlite_trees.proofs.ListLemmas.{IsPermutation-filter, IsPermutation-flat_map, IsPermutation-flat_map_each, IsPermutation-same, all-append, all-filter, all-flat_map, all-map, all-permutation, all_both, all_of, all_weaker, along_permutation, ascending-append, ascending-filter, ascending-get_or, ascending-map, ascending_from_map, ascending_weaker, filter-map, filter_all, filter_none, filter_same, flat_map-map, map-flat_map, map-map}
 pub use Rattle.sqlite_trees.specs.Tree.{IsAscending, IsTable, Trees, has_rowid, put_row, rowid, without_rowid}
 pub use Rattle.sqlite_trees.specs.View.{is_int}
 pub use Rattle.sqlite_keyed.proofs.ListLemmas.{all_from_test, map_back, none_counted}

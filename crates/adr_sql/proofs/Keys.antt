@@ -30,7 +30,7 @@ told false = refl
 
 -- ---- values
 
-turned_tie : (o : Ordering) → is_eq (ordering_reverse o) ≡ is_eq o
+pub turned_tie : (o : Ordering) → is_eq (ordering_reverse o) ≡ is_eq o
 turned_tie Less = refl
 turned_tie Equal = refl
 turned_tie Greater = refl

@@ -1,6 +1,7 @@
 pub mod Common
 pub mod Keys
 pub mod Rows
+pub mod Stored
 pub mod Places
 pub mod References
 pub mod Values
