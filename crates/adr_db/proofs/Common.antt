@@ -55,6 +55,7 @@ unfoldable pub use Rattle.sqlite_tied.specs.Compute.{everything}
 pub use Rattle.sqlite_value.proofs.OrderLemmas.{value_cmp-Int, value_cmp-Text}
 pub use Rattle.sqlite_value.specs.Order.{Row, column, value_cmp}
 pub use Rattle.sqlite_value.specs.declared.value.Value.TheVariants.{Blob, Int, Null, Real, Text}
+pub use Rattle.sqlite_keyed.proofs.ListLemmas.{map_back}
 pub use Rattle.sqlite_rules.specs.Lists.{Has}
 pub use Rattle.sqlite_sql.specs.Query.{Join, Query, counted, end, inner, matches}
 pub use Rattle.sqlite_sql.specs.Term.{Env, Term, col, eval_all, holds, lit, op1, op2}

@@ -19,5 +19,6 @@ pub mod Unseen
 pub mod Sharing
 pub mod Calls
 pub mod Marks
+pub mod ReadBack
 pub mod Results
 pub mod Unread

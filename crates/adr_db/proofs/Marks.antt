@@ -1,5 +1,5 @@
 -- A mark that is kept reads back.
-use Rattle.std.proofs.Common.{◌≡◌, ℕ, pos, Bool, true, false, cond, nat_le, List, [], ◌∷◌, Some, Result, Ok, Err, refl, sym, ap, ap₂, ◌∙◌}
+use Rattle.std.proofs.Common.{◌≡◌, ℕ, pos, Bool, true, false, cond, nat_le, List, [], ◌∷◌, map, Some, Result, Ok, Err, refl, sym, ap, ap₂, ◌∙◌}
 use Rattle.std.specs.String.{string_bytes}
 use Rattle.std.specs.Prelude.{IfSome}
 use Rattle.adr_db.proofs.Common.{Text, Has, Refusal, BadShape, Mark, Live, Dead, MirrorKey, at, is_eq, mirror_cmp}
@@ -14,7 +14,8 @@ use Rattle.adr_db.specs.Rows.{number, mark_columns, mark_row, columns_row, live_
 use Rattle.adr_db.specs.declared.mirror.MarkColumns.{MarkColumns}
 use Rattle.adr_db.specs.Kept.{IsMark, AreMarks}
 use Rattle.adr_db.specs.Admitted.{ReadsEntry}
-use Rattle.adr_db.proofs.Rows.{key_kept, columns_are}
+use Rattle.adr_db.specs.ReadBack.{live_in, mark_in, entry_in}
+use Rattle.adr_db.proofs.Rows.{key_again, key_kept, columns_are}
 
 row_parts : (columns : MarkColumns) (state moment : ℕ) (text : List ℕ) → columns_row columns ≡ number state ∷ number moment ∷ Text text ∷ [] → (columns.state ≡ state) × (columns.moment ≡ moment) × (string_bytes columns.body ≡ text)
 row_parts columns state moment text h = (cc, cc, cc)
@@ -60,3 +61,13 @@ known_is_mark (e ∷ marks) are key = by (is_eq (mirror_cmp key e.0)) (known_is_
     by : (b : Bool) → IfSome (at mirror_cmp key marks) IsMark → IfSome (cond b (Some e.1) (at mirror_cmp key marks)) IsMark
     by true more = are.0
     by false more = more
+
+-- ---- as the tables are read back
+
+mark_again : (mark : Mark) → IsMark mark → mark_in (mark_columns mark) ≡ mark
+mark_again (Live moment body) valid = ap (live_in moment) (canonical_reads_back body valid)
+mark_again Dead valid = refl
+
+pub marks_again : (marks : List (MirrorKey × Mark)) → AreMarks marks → map entry_in (map mark_row marks) ≡ marks
+marks_again [] are = refl
+marks_again (e ∷ marks) are = ap₂ ◌∷◌ (ap₂ (λ (key : MirrorKey) (mark : Mark). (key, mark)) (key_again e.0) (mark_again e.1 are.0)) (marks_again marks are.1)

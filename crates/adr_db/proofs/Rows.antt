@@ -3,13 +3,13 @@ use Rattle.std.proofs.Common.{◌≡◌, ◌<◌, ◌<ℤ◌, sym, ℕ, pos, ari
 use Rattle.adr_db.proofs.Common.{int_cmp, nat_cmp, ordering_then, MatchOrdering, ranked, Int, Text, Row, column, Mark, Live, Dead, Ven, Resource, Stamps, MirrorKey, ShareKey, ViewKey, Participant, kind_cmp, id_cmp, mirror_cmp, share_cmp, view_cmp, cells, key_order, number_key, text_number_key, number_text_key, number_text_number_key, text_same, then_none}
 use Rattle.std.specs.Cmp.{int_cmp_is}
 use Rattle.std.proofs.lemmas.Int.{ints}
-use Rattle.sqlite_value.specs.declared.value.Value.{Value}
 use Rattle.adr_objects.specs.declared.kind.Kind.{Kind}
 use Rattle.adr_objects.specs.declared.kind.Kind.TheVariants.{Program, Event}
 use Rattle.adr_state.specs.declared.keys.ViewKey.TheVariants as view
 use Rattle.adr_sql.specs.Codecs.{IsCodec}
 use Rattle.adr_db.specs.declared.meta.Meta.{Meta}
 use Rattle.adr_db.specs.Rows.{number, kind_number, meta_row, key_row, mark_columns, mark_row, number_row, ven_columns, resource_columns, share_key_row, share_row, stamps_columns, view_kind, view_id, view_resource, view_key_row, stamp_row, participant_row}
+use Rattle.adr_db.specs.ReadBack.{number_of, text_of, flag_of, kind_of, meta_in, key_in, ven_in, resource_in, share_key_in, view_key_in, stamps_in}
 
 -- ---- keys
 
@@ -118,42 +118,54 @@ stamp_codec = record {
   same = λ j k v e. ap (λ key. stamp_row (key, v)) (view_same j k e);
 }
 
--- ---- a row keeps one value
+-- ---- a row is read back
 
-kind_kept : (a b : Kind) → number (kind_number a) ≡ number (kind_number b) → a ≡ b
-kind_kept Program Program h = refl
-kind_kept Program Event h = absurd (let e : 1 ≡ 2 = number_kept 1 2 h in omega arith)
-kind_kept Event Program h = absurd (let e : 2 ≡ 1 = number_kept 2 1 h in omega arith)
-kind_kept Event Event h = refl
+flag_again : (b : Bool) → flag_of (Int (cond b (pos 1) (pos 0))) ≡ b
+flag_again true = refl
+flag_again false = refl
 
--- the number or the text that a value is
-abbrev number_of : Value → ℕ
-number_of (Int (pos n)) = n
-number_of _ = 0
+kind_again : (kind : Kind) → kind_of (number (kind_number kind)) ≡ kind
+kind_again Program = refl
+kind_again Event = refl
 
-abbrev text_of : Value → List ℕ
-text_of (Text t) = t
-text_of _ = []
+pub meta_again : (meta : Meta) → meta_in (meta_row meta) ≡ meta
+meta_again meta = ap (λ scan. record meta { scan = scan }) (flag_again meta.scan)
 
-pub key_kept : (j k : MirrorKey) → key_row j ≡ key_row k → j ≡ k
-key_kept j k h = λ i. record { kind = kind_kept j.kind k.kind (ap (λ (row : Row). column row 0) h) i; id = text_of (column (h i) 1) }
+pub key_again : (key : MirrorKey) → key_in (key_row key) ≡ key
+key_again key = ap (λ kind. record key { kind = kind }) (kind_again key.kind)
 
-flag_kept : (a b : Bool) → Int (cond a (pos 1) (pos 0)) ≡ Int (cond b (pos 1) (pos 0)) → a ≡ b
-flag_kept true true h = refl
-flag_kept true false h = absurd (let e : 1 ≡ 0 = number_kept 1 0 h in omega arith)
-flag_kept false true h = absurd (let e : 0 ≡ 1 = number_kept 0 1 h in omega arith)
-flag_kept false false h = refl
+pub view_key_again : (key : ViewKey) → view_key_in (view_key_row key) ≡ key
+view_key_again (view.Program id) = refl
+view_key_again (view.Event id resource) = refl
+
+-- ---- so rows that are equal stand for equal things
+
+stands_for_one : {X : Type 0} (row_of : X → Row) (back : Row → X) → ((x : X) → back (row_of x) ≡ x) → (a b : X) → row_of a ≡ row_of b → a ≡ b
+stands_for_one row_of back again a b h = sym (again a) ∙ ap back h ∙ again b
 
 pub meta_kept : (a b : Meta) → meta_row a ≡ meta_row b → a ≡ b
-meta_kept a b h = λ i. record {
-  serial = number_of (column (h i) 2);
-  scan = flag_kept a.scan b.scan (ap (λ (row : Row). column row 3) h) i;
-  made = number_of (column (h i) 4);
-  sent = number_of (column (h i) 5);
-  given_up = number_of (column (h i) 6);
-  dropped = number_of (column (h i) 7);
-  keys = number_of (column (h i) 8);
-}
+meta_kept = stands_for_one meta_row meta_in meta_again
+
+pub key_kept : (j k : MirrorKey) → key_row j ≡ key_row k → j ≡ k
+key_kept = stands_for_one key_row key_in key_again
+
+pub ven_kept : (a b : Ven) → ven_columns a ≡ ven_columns b → a ≡ b
+ven_kept = stands_for_one ven_columns ven_in (λ _. refl)
+
+pub resource_kept : (a b : Resource) → resource_columns a ≡ resource_columns b → a ≡ b
+resource_kept = stands_for_one resource_columns resource_in (λ _. refl)
+
+pub share_key_kept : (j k : ShareKey) → share_key_row j ≡ share_key_row k → j ≡ k
+share_key_kept = stands_for_one share_key_row share_key_in (λ _. refl)
+
+pub view_key_kept : (j k : ViewKey) → view_key_row j ≡ view_key_row k → j ≡ k
+view_key_kept = stands_for_one view_key_row view_key_in view_key_again
+
+pub stamps_kept : (a b : Stamps) → stamps_columns a ≡ stamps_columns b → a ≡ b
+stamps_kept = stands_for_one stamps_columns stamps_in (λ _. refl)
+
+pub participant_kept : (p q : Participant) → participant_row p ≡ participant_row q → p ≡ q
+participant_kept p q h = λ i. record { resource = number_of (column (h i) 0); weight = number_of (column (h i) 1); name = text_of (column (h i) 2); ven_name = text_of (column (h i) 3) }
 
 -- ---- a row as it is read
 
@@ -164,26 +176,3 @@ cells_are key Dead = refl
 pub columns_are : (key : MirrorKey) (mark : Mark) → cells 2 3 (mark_row (key, mark)) ≡ mark_columns mark
 columns_are key (Live moment body) = refl
 columns_are key Dead = refl
-
--- ---- vens, resources and shares as they are read
-
-pub ven_kept : (a b : Ven) → ven_columns a ≡ ven_columns b → a ≡ b
-ven_kept a b h = λ i. record { name = text_of (column (h i) 0); stamps = record { created = number_of (column (h i) 1); modified = number_of (column (h i) 2) } }
-
-pub resource_kept : (a b : Resource) → resource_columns a ≡ resource_columns b → a ≡ b
-resource_kept a b h = λ i. record { ven = number_of (column (h i) 0); name = text_of (column (h i) 1); stamps = record { created = number_of (column (h i) 2); modified = number_of (column (h i) 3) } }
-
-pub share_key_kept : (j k : ShareKey) → share_key_row j ≡ share_key_row k → j ≡ k
-share_key_kept j k h = λ i. record { program = text_of (column (h i) 0); resource = number_of (column (h i) 1) }
-
-pub view_key_kept : (j k : ViewKey) → view_key_row j ≡ view_key_row k → j ≡ k
-view_key_kept (view.Program a) (view.Program b) h = λ i. view.Program (text_of (column (h i) 1))
-view_key_kept (view.Program a) (view.Event b n) h = absurd (let e : 1 ≡ 2 = number_kept 1 2 (ap (λ (row : Row). column row 0) h) in omega arith)
-view_key_kept (view.Event a m) (view.Program b) h = absurd (let e : 2 ≡ 1 = number_kept 2 1 (ap (λ (row : Row). column row 0) h) in omega arith)
-view_key_kept (view.Event a m) (view.Event b n) h = λ i. view.Event (text_of (column (h i) 1)) (number_of (column (h i) 2))
-
-pub stamps_kept : (a b : Stamps) → stamps_columns a ≡ stamps_columns b → a ≡ b
-stamps_kept a b h = λ i. record { created = number_of (column (h i) 0); modified = number_of (column (h i) 1) }
-
-pub participant_kept : (p q : Participant) → participant_row p ≡ participant_row q → p ≡ q
-participant_kept p q h = λ i. record { resource = number_of (column (h i) 0); weight = number_of (column (h i) 1); name = text_of (column (h i) 2); ven_name = text_of (column (h i) 3) }

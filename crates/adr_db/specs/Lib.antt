@@ -3,6 +3,8 @@ pub mod Rows
 pub mod Kept
 pub mod Bases
 pub mod Images
+pub mod ReadBack
+pub mod Laws
 pub mod Sharing
 pub mod Calls
 pub mod Refusals

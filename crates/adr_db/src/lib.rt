@@ -2,6 +2,7 @@
 #![tactic(auto)]
 
 mod cells;
+pub mod laws;
 mod meta;
 mod mirror;
 mod polled;

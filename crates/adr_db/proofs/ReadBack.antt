@@ -1,0 +1,56 @@
+-- A state that the tables hold is what they hold, read back.
+use Rattle.std.proofs.Common.{◌≡◌, List, Option, None, Some, cond, refl, ap, ◌∙◌}
+use Rattle.std.specs.Prelude.{is_some}
+use Rattle.sqlite.specs.Effect.{Database}
+use Rattle.sqlite.specs.State as sql
+use Rattle.adr_db.proofs.Common.{map_back, Stamps, MirrorKey, ViewKey}
+use Rattle.adr_state.specs.declared.state.State.{State}
+use Rattle.adr_sql.proofs.Stored.{contents_again}
+use Rattle.adr_db.specs.Tables.{schema}
+use Rattle.adr_db.specs.Rows.{key_row, ven_row, resource_row, share_row, stamp_row}
+use Rattle.adr_db.specs.Kept.{Kept, Keeps, AreMarks, contents_of}
+use Rattle.adr_db.specs.Bases.{keys_polled, kept_of, HoldsState}
+use Rattle.adr_db.specs.Images.{image_kept}
+use Rattle.adr_db.specs.ReadBack.{key_in, numbered_in, ven_in, resource_in, share_in, stamped_in, kept_from, kept_in, state_in}
+use Rattle.adr_db.proofs.Rows.{meta_again, key_again, view_key_again}
+use Rattle.adr_db.proofs.Marks.{marks_again}
+
+-- ---- what is kept
+
+stamped_again : (e : ViewKey × Stamps) → stamped_in (stamp_row e) ≡ e
+stamped_again e = ap (λ key. (key, e.1)) (view_key_again e.0)
+
+from_rows : (kept : Kept) → AreMarks kept.mirror → kept_from (contents_of kept) ≡ kept
+from_rows kept marks = λ i. record {
+  meta = meta_again kept.meta i;
+  mirror = marks_again kept.mirror marks i;
+  polled = map_back key_row key_in key_again kept.polled i;
+  portfolio = record {
+    vens = map_back ven_row (numbered_in ven_in) (λ _. refl) kept.portfolio.vens i;
+    resources = map_back resource_row (numbered_in resource_in) (λ _. refl) kept.portfolio.resources i;
+    shares = map_back share_row share_in (λ _. refl) kept.portfolio.shares i;
+  };
+  stamps = map_back stamp_row stamped_in stamped_again kept.stamps i;
+}
+
+pub kept_again : (kept : Kept) (s : sql.State) → Keeps kept s → kept_in s.now.trees ≡ kept
+unfolding kept_in
+kept_again kept s was = ap kept_from (contents_again schema.tables s.now.trees (contents_of kept) was.rows.each) ∙ from_rows kept was.marks
+
+-- ---- as a state
+
+scan_again : (scan : Option (List MirrorKey)) → cond (is_some scan) (Some (keys_polled scan)) None ≡ scan
+scan_again None = refl
+scan_again (Some keys) = refl
+
+pub image_again : (held : State) → image_kept (kept_of held) ≡ held
+image_again held = ap (λ (scan : Option (List MirrorKey)). record held { base = record held.base { scan = scan } }) (scan_again held.base.scan)
+
+pub state_again : (held : State) (s : sql.State) → HoldsState held s → state_in s ≡ held
+unfolding state_in
+state_again held s was = ap image_kept (kept_again (kept_of held) s was) ∙ image_again held
+
+-- where nothing was written, nothing else is read back
+pub state_same : (a b : sql.State) → b.now ≡ a.now → state_in b ≡ state_in a
+unfolding state_in
+state_same a b same = ap (λ (now : Database). image_kept (kept_in now.trees)) same

@@ -1,0 +1,129 @@
+-- What the tables hold, read back. What no call writes reads as a default: 0, no text, a program, or deleted.
+use Rattle.std.specs.Prelude.{ℕ, pos, Bool, ◌==◌, if◌then◌else◌, List, [], map, drop, get_or, Result, Ok, Err}
+use Rattle.sqlite.specs.declared.types.Value.{Value}
+use Rattle.sqlite.specs.declared.types.Value.TheVariants.{Int, Text}
+use Rattle.sqlite.specs.Order.{Row, column}
+use Rattle.sqlite.specs.Tree.{Trees}
+use Rattle.sqlite.specs.State as sql
+use Rattle.adr_text.specs.declared.refusal.Refusal.{Refusal}
+use Rattle.adr_objects.specs.declared.body.Body.{Body}
+use Rattle.adr_objects.specs.declared.kind.Kind.{Kind}
+use Rattle.adr_objects.specs.declared.kind.Kind.TheVariants.{Program, Event}
+use Rattle.adr_objects.specs.declared.shown.Stamps.{Stamps}
+use Rattle.adr_objects.specs.ReadBack.{canonical_of}
+use Rattle.adr_state.specs.declared.base.Mark.{Mark}
+use Rattle.adr_state.specs.declared.base.Mark.TheVariants.{Live, Dead}
+use Rattle.adr_state.specs.declared.portfolio.Ven.{Ven}
+use Rattle.adr_state.specs.declared.portfolio.Resource.{Resource}
+use Rattle.adr_state.specs.declared.keys.MirrorKey.{MirrorKey}
+use Rattle.adr_state.specs.declared.keys.ShareKey.{ShareKey}
+use Rattle.adr_state.specs.declared.keys.ViewKey.{ViewKey}
+use Rattle.adr_state.specs.declared.keys.ViewKey.TheVariants as view
+use Rattle.adr_state.specs.declared.state.State.{State}
+use Rattle.adr_sql.specs.Contents.{Contents, rows_of_table}
+use Rattle.adr_sql.specs.Stored.{contents_in}
+use Rattle.adr_db.specs.declared.meta.Meta.{Meta}
+use Rattle.adr_db.specs.Tables.{schema}
+use Rattle.adr_db.specs.Kept.{Kept}
+use Rattle.adr_db.specs.Images.{image_kept}
+
+-- the number and the text that a value is
+abbrev pub number_of : Value → ℕ
+number_of (Int (pos n)) = n
+number_of _ = 0
+
+abbrev pub text_of : Value → List ℕ
+text_of (Text t) = t
+text_of _ = []
+
+-- 1 is yes
+abbrev pub flag_of : Value → Bool
+flag_of v = number_of v == 1
+
+-- 2 is an event
+abbrev pub kind_of : Value → Kind
+kind_of v = if number_of v == 2 then Event else Program
+
+-- ---- a row of each table, and what stands behind a key
+
+-- the numbers of the node
+abbrev pub meta_in : Row → Meta
+meta_in row = record {
+  serial = number_of (column row 2);
+  scan = flag_of (column row 3);
+  made = number_of (column row 4);
+  sent = number_of (column row 5);
+  given_up = number_of (column row 6);
+  dropped = number_of (column row 7);
+  keys = number_of (column row 8);
+}
+
+-- a key of the mirror
+abbrev pub key_in : Row → MirrorKey
+key_in row = record { kind = kind_of (column row 0); id = text_of (column row 1) }
+
+-- a version of that moment, where its canonical text reads
+abbrev pub live_in : ℕ → Result Body Refusal → Mark
+live_in moment (Ok body) = Live moment body
+live_in moment (Err e) = Dead
+
+-- a mark: 1 is a version
+abbrev pub mark_in : Row → Mark
+mark_in columns = if number_of (column columns 0) == 1 then live_in (number_of (column columns 1)) (canonical_of (text_of (column columns 2))) else Dead
+
+-- a key with its mark
+abbrev pub entry_in : Row → MirrorKey × Mark
+entry_in row = (key_in row, mark_in (drop 2 row))
+
+abbrev pub stamps_in : Row → Stamps
+stamps_in columns = record { created = number_of (column columns 0); modified = number_of (column columns 1) }
+
+abbrev pub ven_in : Row → Ven
+ven_in columns = record { name = text_of (column columns 0); stamps = stamps_in (drop 1 columns) }
+
+abbrev pub resource_in : Row → Resource
+resource_in columns = record { ven = number_of (column columns 0); name = text_of (column columns 1); stamps = stamps_in (drop 2 columns) }
+
+-- what stands behind a number, with it
+abbrev pub numbered_in : {V : Type 0} → (Row → V) → Row → ℕ × V
+numbered_in value_in row = (number_of (column row 0), value_in (drop 1 row))
+
+-- a key of the shares
+abbrev pub share_key_in : Row → ShareKey
+share_key_in row = record { program = text_of (column row 0); resource = number_of (column row 1) }
+
+-- a share behind its key
+abbrev pub share_in : Row → ShareKey × ℕ
+share_in row = (share_key_in row, number_of (column row 2))
+
+-- a key of what is shown: 2 is what a resource is shown of an event
+abbrev pub view_key_in : Row → ViewKey
+view_key_in row = if number_of (column row 0) == 2 then view.Event (text_of (column row 1)) (number_of (column row 2)) else view.Program (text_of (column row 1))
+
+-- a key of what is shown with its stamps
+abbrev pub stamped_in : Row → ViewKey × Stamps
+stamped_in row = (view_key_in row, stamps_in (drop 3 row))
+
+-- ---- all tables
+
+-- what is kept, of the rows of the tables in their order
+abbrev pub kept_from : Contents → Kept
+kept_from all = record {
+  meta = meta_in (get_or (rows_of_table all 0) 0 []);
+  mirror = map entry_in (rows_of_table all 1);
+  polled = map key_in (rows_of_table all 2);
+  portfolio = record {
+    vens = map (numbered_in ven_in) (rows_of_table all 3);
+    resources = map (numbered_in resource_in) (rows_of_table all 4);
+    shares = map share_in (rows_of_table all 5);
+  };
+  stamps = map stamped_in (rows_of_table all 6);
+}
+
+-- what trees keep
+unfoldable pub kept_in : Trees → Kept
+kept_in trees = kept_from (contents_in schema.tables trees)
+
+-- what a store holds, as a state
+unfoldable pub state_in : sql.State → State
+state_in s = image_kept (kept_in s.now.trees)
