@@ -1,4 +1,4 @@
-pub mod Kept
+pub mod Empty
 pub mod Transactions
 pub mod Applied
 pub mod Created

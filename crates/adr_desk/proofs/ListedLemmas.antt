@@ -34,9 +34,19 @@ module _ (these : List Refusal) where
   one_of_listed (one ∷ ones) all e (inr h) = one_of_listed ones all.1 e h
 
   -- whatever is told of what went well
-  pub told_listed : {A B : Type 0} (told : A → B) (P : Refusal → Type 0) (r : Result A Refusal) → ((e : Refusal) → P e → Listed e) → IfErr r P → IfErr (told_by told r) Listed
-  told_listed told P (Ok x) weaker h = tt
-  told_listed told P (Err e) weaker h = weaker e h
+  module _ {A B : Type 0} (told : A → B) where
+    by_result : (P : Refusal → Type 0) → ((e : Refusal) → P e → Listed e) → (r : Result A Refusal) → IfErr r P → IfErr (told_by told r) Listed
+    by_result P weaker (Ok x) h = tt
+    by_result P weaker (Err e) h = weaker e h
+
+    pub told_store : (r : Result A Refusal) → IfErr r IsOfStore → IfErr (told_by told r) Listed
+    told_store = by_result IsOfStore store_listed
+
+    pub told_either : (own : Refusal) → Contains these own → (r : Result A Refusal) → IfErr r (λ e. IsOfStore e ⊎ (e ≡ own)) → IfErr (told_by told r) Listed
+    told_either own has = by_result (λ e. IsOfStore e ⊎ (e ≡ own)) (either_listed own has)
+
+    pub told_one_of : (ones : List Refusal) → AllByRecursion (Contains these) ones → (r : Result A Refusal) → IfErr r (IsOneOf ones) → IfErr (told_by told r) Listed
+    told_one_of ones all = by_result (IsOneOf ones) (one_of_listed ones all)
 
   -- without a store, less may be refused
   pub storeless_listed : {A : Type 0} (r : Result A Refusal) → IfErr r (IsListed ⊥ these) → IfErr r Listed

@@ -1,5 +1,5 @@
 -- One map of stamps becomes another where what is gone goes, and what differs is put.
-use Rattle.std.proofs.Common.{◌≡◌, ◌⊎◌, inl, inr, ⊎_elim, Bool, true, false, cond, ◌&&◌, ◌==◌, eqb-true, List, [], ◌∷◌, Option, Some, None, refl, sym, ap, subst, ◌∙◌}
+use Rattle.std.proofs.Common.{◌≡◌, ◌⊎◌, inl, inr, ⊎_elim, Bool, true, false, cond, ◌&&◌, ◌==◌, eqb-true, List, [], ◌∷◌, Option, Some, None, Result, Ok, Err, OnOk, refl, sym, ap, subst, ◌∙◌}
 use Rattle.std.specs.Prelude.{is_some}
 use Rattle.std.specs.BTreeMap.{insert_entry, is_at}
 use Rattle.std.specs.Map.{keys_of, remove_entry, lookup}
@@ -18,7 +18,9 @@ use Rattle.adr_state.proofs.LawLemmas.{at-insert_entry, equal_from_is}
 use Rattle.adr_view.proofs.KeyLemmas.{view_exact}
 use Rattle.adr_view.proofs.OrderLemmas.{InOrder, in_order_put, in_order_removed}
 use Rattle.adr_view.proofs.ShownLemmas.{view_total}
-use Rattle.adr_desk.specs.Stamps.{left_at, left_of, are_those, put_at, put_all}
+use Rattle.sqlite.specs.State.{State}
+use Rattle.adr_db.specs.Kept.{Kept, Keeps}
+use Rattle.adr_desk.specs.Stamps.{left_at, left_of, are_those, put_at, put_all, stamped}
 
 abbrev Stamped : Type 0
 Stamped = List (ViewKey × Stamps)
@@ -195,3 +197,11 @@ module _ (before after : Stamped) (up : InOrder view_cmp before) (rises : InOrde
 
   pub turned : put_all before left after ≡ after
   turned = same_maps (put_all before left after) after (put_all_in_order before left after (left_of_in_order after before before up)) rises at_turned
+
+-- tables that turned the stamps that they kept from the one map to the other keep the other
+pub held_in_order : {T E : Type 0} (old new : State) (before after : Stamped) (r : Result T E) → InOrder view_cmp before → OnOk r (InOrder view_cmp after)
+    → OnOk r ((kept : Kept) → Keeps kept old → Keeps (stamped (λ stamps. put_all before (left_of after stamps before) after) kept) new)
+    → OnOk r ((kept : Kept) → Keeps kept old → kept.stamps ≡ before → Keeps (record kept { stamps = after }) new)
+held_in_order old new before after (Ok x) up rises leaves = λ kept was same.
+    subst (λ (stamps : Stamped). Keeps (record kept { stamps = stamps }) new) (ap (λ (s : Stamped). put_all before (left_of after s before) after) same ∙ turned before after up rises) (leaves kept was)
+held_in_order old new before after (Err e) up rises leaves = tt

@@ -26,4 +26,4 @@ state_of g desk = state_in (shown g desk)
 pub record IsSound {S : Type 0} (g : Ghosts S) (desk : SqlDesk S g) : Type 0 where
   pub clean : HasCleanDisk (shown g desk)
   pub is_open : IsTrue (shown g desk).is_open
-  pub holds : HoldsState (state_of g desk) (shown g desk)
+  pub holds : ∥ HoldsState (state_of g desk) (shown g desk) ∥₁

@@ -1,5 +1,5 @@
 //! What a command decides, carried out on the tables, on a lent transaction.
-ghost use Rattle.std.specs.Prelude.{IfErr};
+ghost use Rattle.std.specs.Prelude.{◌≡◌, IfErr};
 ghost use Rattle.adr_sql.specs.Calls.{Stays};
 ghost use Rattle.adr_machine.specs.Edits.{decided};
 ghost use Rattle.adr_machine.specs.Listed.{listed, IsListed};

@@ -1,17 +1,16 @@
 //! The desk.
-ghost use Rattle.std.specs.Prelude.{◌≡◌, false, [], Ok, IsTrue, IfOk, IfErr, OnOk, OnErr};
-ghost use Rattle.sqlite.specs.Held.{state};
-ghost use Rattle.sqlite.specs.State.{HasCleanDisk, Survives};
+ghost use Rattle.std.specs.Prelude.{◌≡◌, false, [], Ok, IfOk, IfErr, OnOk, OnErr};
+ghost use Rattle.sqlite.specs.State.{Survives};
 ghost use Rattle.sqlite.specs.Tree.{Trees};
 ghost use Rattle.sqlite.specs.Steps.{over_memory};
 ghost use Rattle.adr_text.specs.Refusals.{IsRefusalOf};
 ghost use Rattle.adr_state.specs.declared.state.State.{State};
 ghost use Rattle.adr_state.specs.States.{empty};
-ghost use Rattle.adr_db.specs.Bases.{HoldsState, AreLeftWith};
+ghost use Rattle.adr_db.specs.Bases.{HoldsState};
 ghost use Rattle.adr_db.specs.Calls.{IsOfStore};
-ghost use Rattle.adr_db.specs.ReadBack.{state_in};
 ghost use Rattle.adr_machine.specs.Listed.{listed, listed_for, IsListed};
 ghost use Rattle.adr_machine.specs.Steps.{step, reply, image_of};
+ghost use Rattle.adr_desk.specs.Holding.{HoldsItsOwn};
 ghost use Rattle.adr_desk.specs.Steps.{step_by, LeftStepped};
 
 use crate::ask::ask_in;
@@ -32,7 +31,7 @@ pub struct SqlDesk<S: Alter> {
     conn: Connection<S>,
     alloc: Global,
     ghost idle: { conn.in_transaction ≡ false },
-    ghost holds: { HasCleanDisk (state S.Store conn) → IsTrue (state S.Store conn).is_open → HoldsState (state_in (state S.Store conn)) (state S.Store conn) },
+    ghost holds: { ∥ HoldsItsOwn S.Store conn ∥₁ },
 }
 
 /// A desk in memory, which is always sound (`laws::memory_is_sound`).
@@ -79,7 +78,7 @@ impl<S: Alter> Desk for SqlDesk<S> {
         ensures was_sound { IsSound S.Store self.new → IsSound S.Store self.old }
         ensures same_settings { settings_of self.new ≡ settings_of self.old }
         ensures crash { Survives (shown S.Store self.old) (shown S.Store self.new) (λ trees. (held : State) → HoldsState held (shown S.Store self.old) → LeftStepped (step_by (settings_of self.old).limits now command.now) held trees) }
-        ensures stands { OnOk result (IsSound S.Store self.new → (trees : Trees) → (shown S.Store self.new).may_leave trees → AreLeftWith (state_of S.Store self.new) trees) }
+        ensures stands { OnOk result (IsSound S.Store self.new → (trees : Trees) → (shown S.Store self.new).may_leave trees → trees ≡ (shown S.Store self.new).now.trees) }
     {
         apply_in(
             self.alloc,

@@ -1,8 +1,11 @@
 //! The stamps after a change of what is shown: those that differ are put, and those of keys that went are removed.
 ghost use Rattle.std.specs.Prelude.{◌≡◌, length, OnOk, IfErr};
+ghost use Rattle.std.specs.List.Sorted.{IsStrictlySortedBy};
+ghost use Rattle.std.specs.Map.{keys_of};
 ghost use Rattle.std.specs.Option.{option_copied};
 ghost use Rattle.sqlite.specs.Held.{state};
 ghost use Rattle.sqlite.specs.State.{HasCleanDisk};
+ghost use Rattle.adr_state.specs.Keys.{view_cmp};
 ghost use Rattle.adr_sql.specs.Calls.{Stays};
 ghost use Rattle.adr_db.specs.Kept.{Kept, Keeps};
 ghost use Rattle.adr_db.specs.Calls.{LeavesKept, Turns, IsOfStore};
@@ -43,6 +46,7 @@ fn leave_each<S: Alter>(
     ensures same_reference { tx.new.conn.ghost_name ≡ tx.old.conn.ghost_name }
     ensures stays { Stays S.Store tx.old.conn.now tx.new.conn.now result }
     ensures leaves { LeavesKept S.Store tx.old.conn.now tx.new.conn.now (stamped (λ stamps. left_of after.now stamps before.now)) result }
+    ensures in_order { OnOk result (IsStrictlySortedBy view_cmp (keys_of before.now)) }
     ensures refused { IfErr result IsOfStore }
 {
     'rows: for (key, _) in before.iter() {
@@ -52,12 +56,12 @@ fn leave_each<S: Alter>(
 }
 
 /// Whether these are the stamps that were.
-fn are_those(old: Option<&Stamps>, stamps: Stamps) -> bool
-    ensures { result ≡ are_those (option_copied old) stamps }
+fn are_those(old: Option<&Stamps>, stamps: &Stamps) -> bool
+    ensures { result ≡ are_those (option_copied old.entry) stamps.now }
 {
     match old {
         None => false,
-        Some(old) => *old == stamps,
+        Some(old) => *old == *stamps,
     }
 }
 
@@ -66,17 +70,17 @@ fn put<S: Alter>(
     tx: &mut Transaction<'_, S>,
     before: &Table<ViewKey, Stamps>,
     key: &ViewKey,
-    stamps: Stamps,
+    stamps: &Stamps,
 ) -> Result<(), Refusal>
     ensures same_reference { tx.new.conn.ghost_name ≡ tx.old.conn.ghost_name }
     ensures stays { Stays S.Store tx.old.conn.now tx.new.conn.now result }
-    ensures leaves { LeavesKept S.Store tx.old.conn.now tx.new.conn.now (stamped (λ all. put_at before.now all (key.now, stamps))) result }
+    ensures leaves { LeavesKept S.Store tx.old.conn.now tx.new.conn.now (stamped (λ all. put_at before.now all (key.now, stamps.now))) result }
     ensures refused { IfErr result IsOfStore }
 {
     if are_those(row_at(before, key), stamps) {
         return Ok(());
     }
-    put_stamps(tx, key, stamps)
+    put_stamps(tx, key, *stamps)
 }
 
 /// Each key gets its stamps, where it had others in the map before, or none.
@@ -88,10 +92,11 @@ fn put_each<S: Alter>(
     ensures same_reference { tx.new.conn.ghost_name ≡ tx.old.conn.ghost_name }
     ensures stays { Stays S.Store tx.old.conn.now tx.new.conn.now result }
     ensures leaves { LeavesKept S.Store tx.old.conn.now tx.new.conn.now (stamped (λ stamps. put_all before.now stamps after.now)) result }
+    ensures in_order { OnOk result (IsStrictlySortedBy view_cmp (keys_of after.now)) }
     ensures refused { IfErr result IsOfStore }
 {
     'rows: for (key, stamps) in after.iter() {
-        put(tx, before, key, *stamps)?;
+        put(tx, before, key, stamps)?;
     }
     Ok(())
 }
@@ -107,7 +112,6 @@ fn turn<S: Alter>(
     ensures leaves { HasCleanDisk (state S.Store tx.new.conn.now) → OnOk result ((kept : Kept) → Keeps kept (state S.Store tx.old.conn.now) → kept.stamps ≡ before.now → Keeps (record kept { stamps = after.now }) (state S.Store tx.new.conn.now)) }
     ensures refused { IfErr result IsOfStore }
 {
-    let (_, _) = (before.iter(), after.iter());
     leave_each(tx, before, after)?;
     put_each(tx, before, after)
 }

@@ -1,15 +1,16 @@
 //! What is shown of one upstream event.
 ghost use Rattle.std.specs.Prelude.{◌≡◌, IfOk, IfErr};
 ghost use Rattle.adr_sql.specs.Calls.{Stays};
-ghost use Rattle.adr_view.specs.Views.{rows_for, event_rows, event_key, rows_known};
+ghost use Rattle.adr_view.specs.Views.{rows_for, event_rows, event_key};
 ghost use Rattle.adr_db.specs.Calls.{IsOfStore};
 ghost use Rattle.adr_db.specs.BaseCalls.{FindsOn};
 ghost use Rattle.adr_events.specs.Shown.{IsShown};
 
+use crate::mark::rows_known;
 use adr_db::read_known;
-use adr_objects::{Body, EventBody, Kind};
+use adr_objects::{EventBody, Kind};
 use adr_portfolio::named_participants;
-use adr_state::{Mark, MirrorKey, Participant, ViewKey};
+use adr_state::{MirrorKey, Participant, ViewKey};
 use adr_text::{ObjectId, Refusal, Rows};
 use adr_view::{Content, carries, rows_for};
 use sqlite::{Alter, Transaction};
@@ -41,8 +42,8 @@ fn rows_of(
     Ok(rows_for(alloc, id, event, ps)?)
 }
 
-// What is shown of an event whose body was read.
-fn event_rows<S: Alter>(
+/// What is shown of an event whose body was read.
+pub(crate) fn event_rows<S: Alter>(
     alloc: Global,
     tx: &mut Transaction<'_, S>,
     id: &ObjectId,
@@ -60,24 +61,6 @@ fn event_rows<S: Alter>(
     rows_of(alloc, id, event, ps.as_slice())
 }
 
-// What is shown of an event of which this is known.
-fn rows_known<S: Alter>(
-    alloc: Global,
-    tx: &mut Transaction<'_, S>,
-    id: &ObjectId,
-    known: &Option<Mark>,
-) -> Result<Rows<(ViewKey, Content)>, Refusal>
-    ensures same_reference { tx.new.conn.ghost_name ≡ tx.old.conn.ghost_name }
-    ensures stays { Stays S.Store tx.old.conn.now tx.new.conn.now result }
-    ensures finds { FindsOn S.Store tx.old.conn.now tx.new.conn.now (λ base rows. rows ≡ rows_known base (event_key id.now) known.now) result }
-    ensures refused { IfErr result IsOfStore }
-{
-    match known {
-        Some(Mark::Live(_, Body::Event(event))) => event_rows(alloc, tx, id, event),
-        _ => Ok(Rows::new(alloc)),
-    }
-}
-
 /// What is shown of an upstream event: for each of its participants, in the order of their numbers, its key
 /// with its content; nothing where the event is not live, has no event body that was read, carries no
 /// setpoint, or has no participant. It costs a look-up of a resource and a ven for each share in the event's
@@ -92,6 +75,7 @@ pub fn shown<S: Alter>(
     ensures finds { FindsOn S.Store tx.old.conn.now tx.new.conn.now (IsShown event.now) result }
     ensures refused { IfErr result IsOfStore }
 {
-    let known = read_known(alloc, tx, &event_key(event)?)?;
-    rows_known(alloc, tx, event, &known)
+    let key = event_key(event)?;
+    let known = read_known(alloc, tx, &key)?;
+    rows_known(alloc, tx, &key, &known)
 }

@@ -10,13 +10,13 @@ use Rattle.adr_desk.proofs.ask.events.Goals as goal
 
 pub returns-clause-tells : goal.returns-clause-tells
 unfolding reply
-returns-clause-tells g c clean held was = subst (λ s. events_reply s c.args.role.now c.args.filter.now c.args.part ≡ Ok (answer.List c.in_ok-page.field-0.0)) (image_again held) (c.in_ok-page.ensures.finds clean (kept_of held) was).0
+returns-clause-tells g c clean held was = subst (λ s. events_reply s c.args.role.now c.args.filter.now c.args.part ≡ Ok (answer.List c.in_ok-page.field-0)) (image_again held) (c.in_ok-page.ensures.finds clean (kept_of held) was).0
 
 pub returns-in_err-page-clause-refuses : goal.returns-in_err-page-clause-refuses
 unfolding reply
 returns-in_err-page-clause-refuses g c clean =
     let e = c.in_err-page.field-0.0 in
-    handed_on _ c.from_residual-in_err-page.result e c.from_residual-in_err-page.ensures.1 (λ held was. subst (λ s. IsRefusalOf e (events_reply s c.args.role.now c.args.filter.now c.args.part)) (image_again held) (c.in_err-page.ensures.refuses clean (kept_of held) was))
+    handed_on _ c.from_residual.result e c.from_residual.ensures.1 (λ held was. subst (λ s. IsRefusalOf e (events_reply s c.args.role.now c.args.filter.now c.args.part)) (image_again held) (c.in_err-page.ensures.refuses clean (kept_of held) was))
 
 pub returns-in_err-page-clause-listed : goal.returns-in_err-page-clause-listed
-returns-in_err-page-clause-listed g c = handed_on _ c.from_residual-in_err-page.result c.in_err-page.field-0.0 c.from_residual-in_err-page.ensures.1 c.in_err-page.ensures.listed
+returns-in_err-page-clause-listed g c = handed_on _ c.from_residual.result c.in_err-page.field-0.0 c.from_residual.ensures.1 c.in_err-page.ensures.listed

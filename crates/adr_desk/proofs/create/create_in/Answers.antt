@@ -4,7 +4,7 @@ use Rattle.adr_state.specs.States.{empty}
 use Rattle.adr_db.specs.Kept.{Keeps, nothing_kept}
 use Rattle.adr_db.specs.Bases.{AreLeftWith}
 use Rattle.adr_desk.proofs.Created.{created_whole}
-use Rattle.adr_desk.proofs.Edited.{moved}
+use Rattle.adr_desk.proofs.Applied.{moved}
 use Rattle.adr_desk.proofs.create.create_in.Goals as goal
 
 -- the connection after the commit is the one that the function leaves

@@ -1,11 +1,11 @@
-use Rattle.std.proofs.Common.{refl, arith}
+use Rattle.std.proofs.Common.{List, [], ◌∷◌, Some, None, refl, arith}
 use Rattle.adr_db.proofs.Common.{ven_add, ven_put, ven_remove, resource_add, resource_put, resource_remove, evidence, gone, Forbidden, LimitReached, NoScan}
-use Rattle.adr_text.specs.declared.refusal.Refusal.TheVariants.{NotFound, Conflict, BadShare}
+use Rattle.adr_text.specs.declared.refusal.Refusal.TheVariants.{NotFound, Conflict, BadShare, Exhausted}
 use Rattle.adr_state.specs.Shares.{share_set}
 use Rattle.adr_machine.specs.declared.answer.Answer.TheVariants as answer
 use Rattle.adr_machine.specs.Edits.{ven_answer, resource_answer}
 use Rattle.adr_desk.proofs.DecisionLemmas.{portfolio_carries, counted_carries, begun_carries, ended_carries}
-use Rattle.adr_desk.proofs.ListedLemmas.{store_listed, either_listed, one_of_listed, told_listed}
+use Rattle.adr_desk.proofs.ListedLemmas.{told_store, told_either, told_one_of}
 use Rattle.adr_desk.proofs.decided.carry_out.Goals as goal
 
 pub returns-in-VenAdd-clause-carries : goal.returns-in-VenAdd-clause-carries
@@ -14,7 +14,7 @@ returns-in-VenAdd-clause-carries g c =
 
 pub returns-in-VenAdd-clause-listed : goal.returns-in-VenAdd-clause-listed
 returns-in-VenAdd-clause-listed g c =
-    rw (c.in-VenAdd.is, c.of_ven.ensures) (told_listed _ _ _ c.ven_add.result (one_of_listed _ _ ((1, omega arith, refl), (2, omega arith, refl), tt)) c.ven_add.ensures.refused)
+    rw (c.in-VenAdd.is, c.of_ven.ensures) (told_one_of (Forbidden ∷ Conflict ∷ LimitReached ∷ Exhausted ∷ []) (λ ven. Some (ven_answer ven)) (Conflict ∷ LimitReached ∷ []) ((1, omega arith, refl), ((2, omega arith, refl), tt)) c.ven_add.result c.ven_add.ensures.refused)
 
 pub returns-in-VenPut-clause-carries : goal.returns-in-VenPut-clause-carries
 returns-in-VenPut-clause-carries g c =
@@ -22,7 +22,7 @@ returns-in-VenPut-clause-carries g c =
 
 pub returns-in-VenPut-clause-listed : goal.returns-in-VenPut-clause-listed
 returns-in-VenPut-clause-listed g c =
-    rw (c.in-VenPut.is, c.of_ven-in-VenPut.ensures) (told_listed _ _ _ c.ven_put.result (one_of_listed _ _ ((1, omega arith, refl), (2, omega arith, refl), tt)) c.ven_put.ensures.refused)
+    rw (c.in-VenPut.is, c.of_ven-in-VenPut.ensures) (told_one_of (Forbidden ∷ NotFound ∷ Conflict ∷ []) (λ ven. Some (ven_answer ven)) (NotFound ∷ Conflict ∷ []) ((1, omega arith, refl), ((2, omega arith, refl), tt)) c.ven_put.result c.ven_put.ensures.refused)
 
 pub returns-in-VenRemove-clause-carries : goal.returns-in-VenRemove-clause-carries
 returns-in-VenRemove-clause-carries g c =
@@ -30,7 +30,7 @@ returns-in-VenRemove-clause-carries g c =
 
 pub returns-in-VenRemove-clause-listed : goal.returns-in-VenRemove-clause-listed
 returns-in-VenRemove-clause-listed g c =
-    rw (c.in-VenRemove.is, c.of_ven-in-VenRemove.ensures) (told_listed _ _ _ c.ven_remove.result (one_of_listed _ _ ((1, omega arith, refl), tt)) c.ven_remove.ensures.refused)
+    rw (c.in-VenRemove.is, c.of_ven-in-VenRemove.ensures) (told_one_of (Forbidden ∷ NotFound ∷ []) (λ ven. Some (ven_answer ven)) (NotFound ∷ []) ((1, omega arith, refl), tt) c.ven_remove.result c.ven_remove.ensures.refused)
 
 pub returns-in-ResourceAdd-clause-carries : goal.returns-in-ResourceAdd-clause-carries
 returns-in-ResourceAdd-clause-carries g c =
@@ -38,7 +38,7 @@ returns-in-ResourceAdd-clause-carries g c =
 
 pub returns-in-ResourceAdd-clause-listed : goal.returns-in-ResourceAdd-clause-listed
 returns-in-ResourceAdd-clause-listed g c =
-    rw (c.in-ResourceAdd.is, c.of_resource.ensures) (told_listed _ _ _ c.resource_add.result (one_of_listed _ _ ((1, omega arith, refl), (2, omega arith, refl), (3, omega arith, refl), tt)) c.resource_add.ensures.refused)
+    rw (c.in-ResourceAdd.is, c.of_resource.ensures) (told_one_of (Forbidden ∷ NotFound ∷ Conflict ∷ LimitReached ∷ Exhausted ∷ []) (λ r. Some (resource_answer r)) (NotFound ∷ Conflict ∷ LimitReached ∷ []) ((1, omega arith, refl), ((2, omega arith, refl), ((3, omega arith, refl), tt))) c.resource_add.result c.resource_add.ensures.refused)
 
 pub returns-in-ResourcePut-clause-carries : goal.returns-in-ResourcePut-clause-carries
 returns-in-ResourcePut-clause-carries g c =
@@ -46,7 +46,7 @@ returns-in-ResourcePut-clause-carries g c =
 
 pub returns-in-ResourcePut-clause-listed : goal.returns-in-ResourcePut-clause-listed
 returns-in-ResourcePut-clause-listed g c =
-    rw (c.in-ResourcePut.is, c.of_resource-in-ResourcePut.ensures) (told_listed _ _ _ c.resource_put.result (one_of_listed _ _ ((1, omega arith, refl), (2, omega arith, refl), tt)) c.resource_put.ensures.refused)
+    rw (c.in-ResourcePut.is, c.of_resource-in-ResourcePut.ensures) (told_one_of (Forbidden ∷ NotFound ∷ Conflict ∷ []) (λ r. Some (resource_answer r)) (NotFound ∷ Conflict ∷ []) ((1, omega arith, refl), ((2, omega arith, refl), tt)) c.resource_put.result c.resource_put.ensures.refused)
 
 pub returns-in-ResourceRemove-clause-carries : goal.returns-in-ResourceRemove-clause-carries
 returns-in-ResourceRemove-clause-carries g c =
@@ -54,7 +54,7 @@ returns-in-ResourceRemove-clause-carries g c =
 
 pub returns-in-ResourceRemove-clause-listed : goal.returns-in-ResourceRemove-clause-listed
 returns-in-ResourceRemove-clause-listed g c =
-    rw (c.in-ResourceRemove.is, c.of_resource-in-ResourceRemove.ensures) (told_listed _ _ _ c.resource_remove.result (one_of_listed _ _ ((1, omega arith, refl), tt)) c.resource_remove.ensures.refused)
+    rw (c.in-ResourceRemove.is, c.of_resource-in-ResourceRemove.ensures) (told_one_of (Forbidden ∷ NotFound ∷ []) (λ r. Some (resource_answer r)) (NotFound ∷ []) ((1, omega arith, refl), tt) c.resource_remove.result c.resource_remove.ensures.refused)
 
 pub returns-in-ShareSet-clause-carries : goal.returns-in-ShareSet-clause-carries
 returns-in-ShareSet-clause-carries g c =
@@ -62,32 +62,32 @@ returns-in-ShareSet-clause-carries g c =
 
 pub returns-in-ShareSet-clause-listed : goal.returns-in-ShareSet-clause-listed
 returns-in-ShareSet-clause-listed g c =
-    rw (c.in-ShareSet.is, c.of_share.ensures) (told_listed _ _ _ c.share_set.result (one_of_listed _ _ ((1, omega arith, refl), (2, omega arith, refl), (3, omega arith, refl), tt)) c.share_set.ensures.refused)
+    rw (c.in-ShareSet.is, c.of_share.ensures) (told_one_of (Forbidden ∷ NotFound ∷ BadShare ∷ LimitReached ∷ []) (λ s. Some (answer.Share s)) (NotFound ∷ BadShare ∷ LimitReached ∷ []) ((1, omega arith, refl), ((2, omega arith, refl), ((3, omega arith, refl), tt))) c.share_set.result c.share_set.ensures.refused)
 
 pub returns-in-Evidence-clause-carries : goal.returns-in-Evidence-clause-carries
 returns-in-Evidence-clause-carries g c =
     rw (c.in-Evidence.is, c.counted.ensures) (counted_carries g.S.Store c.args.tx.now.conn.now c.put_evidence.new.tx.conn.now (evidence c.args.limits.now c.in-Evidence.found c.in-Evidence.polled) c.args.meta.now c.put_evidence.new.meta _ c.put_evidence.result (rw c.as_slice.ensures at c.put_evidence.ensures.makes) (rw c.as_slice.ensures at c.put_evidence.ensures.refuses))
 
 pub returns-in-Evidence-clause-listed : goal.returns-in-Evidence-clause-listed
-returns-in-Evidence-clause-listed g c = rw (c.in-Evidence.is, c.counted.ensures) (told_listed _ _ _ c.put_evidence.result (either_listed _ LimitReached (0, omega arith, refl)) c.put_evidence.ensures.refused)
+returns-in-Evidence-clause-listed g c = rw (c.in-Evidence.is, c.counted.ensures) (told_either (LimitReached ∷ []) (λ _. None) LimitReached (0, omega arith, refl) c.put_evidence.result c.put_evidence.ensures.refused)
 
 pub returns-in-Gone-clause-carries : goal.returns-in-Gone-clause-carries
 returns-in-Gone-clause-carries g c =
     rw (c.in-Gone.is, c.counted-in-Gone.ensures) (counted_carries g.S.Store c.args.tx.now.conn.now c.gone.new.tx.conn.now (gone c.args.limits.now (record { kind = c.in-Gone.kind; id = c.in-Gone.id })) c.args.meta.now c.gone.new.meta _ c.gone.result c.gone.ensures.makes c.gone.ensures.refuses)
 
 pub returns-in-Gone-clause-listed : goal.returns-in-Gone-clause-listed
-returns-in-Gone-clause-listed g c = rw (c.in-Gone.is, c.counted-in-Gone.ensures) (told_listed _ _ _ c.gone.result (either_listed _ LimitReached (0, omega arith, refl)) c.gone.ensures.refused)
+returns-in-Gone-clause-listed g c = rw (c.in-Gone.is, c.counted-in-Gone.ensures) (told_either (LimitReached ∷ []) (λ _. None) LimitReached (0, omega arith, refl) c.gone.result c.gone.ensures.refused)
 
 pub returns-in-ScanBegin-clause-carries : goal.returns-in-ScanBegin-clause-carries
 returns-in-ScanBegin-clause-carries g c =
     rw (c.in-ScanBegin.is, c.done.ensures) (begun_carries g.S.Store c.args.tx.now.conn.now c.scan_begin.new.tx.conn.now c.args.meta.now c.scan_begin.new.meta c.scan_begin.result c.scan_begin.ensures.makes c.scan_begin.ensures.refused)
 
 pub returns-in-ScanBegin-clause-listed : goal.returns-in-ScanBegin-clause-listed
-returns-in-ScanBegin-clause-listed g c = rw (c.in-ScanBegin.is, c.done.ensures) (told_listed _ _ _ c.scan_begin.result (store_listed _) c.scan_begin.ensures.refused)
+returns-in-ScanBegin-clause-listed g c = rw (c.in-ScanBegin.is, c.done.ensures) (told_store [] (λ _. Some answer.Done) c.scan_begin.result c.scan_begin.ensures.refused)
 
 pub returns-in-ScanEnd-clause-carries : goal.returns-in-ScanEnd-clause-carries
 returns-in-ScanEnd-clause-carries g c =
     rw (c.in-ScanEnd.is, c.of_scan.ensures) (ended_carries g.S.Store c.args.tx.now.conn.now c.scan_end.new.tx.conn.now c.args.meta.now c.scan_end.new.meta c.scan_end.result c.scan_end.ensures.makes c.scan_end.ensures.refuses)
 
 pub returns-in-ScanEnd-clause-listed : goal.returns-in-ScanEnd-clause-listed
-returns-in-ScanEnd-clause-listed g c = rw (c.in-ScanEnd.is, c.of_scan.ensures) (told_listed _ _ _ c.scan_end.result (either_listed _ NoScan (0, omega arith, refl)) c.scan_end.ensures.refused)
+returns-in-ScanEnd-clause-listed g c = rw (c.in-ScanEnd.is, c.of_scan.ensures) (told_either (NoScan ∷ []) (λ keys. Some (answer.Probes keys)) NoScan (0, omega arith, refl) c.scan_end.result c.scan_end.ensures.refused)

@@ -1,6 +1,9 @@
-use Rattle.std.proofs.Common.{◌≡◌, sym, ap, subst, ◌∙◌, arith}
-use Rattle.adr_db.proofs.Common.{state, HasCleanDisk, stays_then}
+use Rattle.std.proofs.Common.{◌≡◌, List, [], sym, ap, subst, ◌∙◌, arith}
+use Rattle.adr_db.proofs.Common.{state, HasCleanDisk, stays_then, Stamps, ViewKey}
+use Rattle.std.specs.List.Sorted.{IsStrictlySortedBy}
+use Rattle.std.specs.Map.{keys_of}
 use Rattle.adr_db.specs.Kept.{Keeps}
+use Rattle.adr_state.proofs.KeyLemmas.{view_order}
 use Rattle.adr_desk.specs.Stamps.{put_at, put_all}
 use Rattle.adr_desk.proofs.stamps.put_each.Goals as goal
 
@@ -12,10 +15,14 @@ rows-preserved g c = record {
   put = λ clean kept was.
       let early : HasCleanDisk (state g.S.Store c.rows.tx.conn.now) = omega (arith, c.put.ensures.stays.crash.clean) in
       let so = c.rows.invariant.put early kept was in
-      (put_at c.args.before.now so.0 (c.put.args.key.now, c.put.args.stamps), c.in_ok-put.ensures.leaves clean (record kept { stamps = so.0 }) so.1, so.2);
+      (put_at c.args.before.now so.0 (c.in-Some.key.now, c.in-Some.stamps.now), c.in_ok-put.ensures.leaves clean (record kept { stamps = so.0 }) so.1, ap (put_all c.args.before.now so.0) (sym c.in-Some.ensures.steps) ∙ so.2);
 }
 
 pub returns-clause-leaves : goal.returns-clause-leaves
 returns-clause-leaves g c clean kept was =
     let so = c.rows.invariant.put clean kept was in
-    subst (λ stamps. Keeps (record kept { stamps = stamps }) (state g.S.Store c.rows.tx.conn.now)) so.2 so.1
+    let over : so.0 ≡ put_all c.args.before.now kept.stamps c.args.after.now = sym (ap (put_all c.args.before.now so.0) c.in-None.ensures.steps.0) ∙ so.2 in
+    subst (λ (stamps : List (ViewKey × Stamps)). Keeps (record kept { stamps = stamps }) (state g.S.Store c.rows.tx.conn.now)) over so.1
+
+pub returns-clause-in_order : goal.returns-clause-in_order
+returns-clause-in_order g c = subst (λ cmp. IsStrictlySortedBy cmp (keys_of c.args.after.now)) view_order c.iter-key-items.ensures.sorted

@@ -5,7 +5,7 @@ use Rattle.adr_db.specs.Bases.{HoldsState}
 use Rattle.adr_machine.specs.Listed.{listed}
 use Rattle.adr_desk.specs.Steps.{step_by, StepsTables, HoldsStepped, LeftStepped}
 use Rattle.adr_desk.proofs.Applied.{moved, applied_whole, applied_makes}
-use Rattle.adr_desk.proofs.ListedLemmas.{store_listed, told_listed}
+use Rattle.adr_desk.proofs.ListedLemmas.{told_store}
 use Rattle.adr_desk.proofs.step.apply_in.Goals as goal
 
 -- the connection after the commit is the one that the function leaves
@@ -24,4 +24,4 @@ returns-clause-makes g c =
     c.begin-tx.ensures.begun c.in_ok-answer.ensures.makes c.commit-ended.ensures.ends c.told.ensures)
 
 pub returns-clause-listed : goal.returns-clause-listed
-returns-clause-listed g c = rw c.told.ensures (told_listed (listed c.args.command.now) _ _ c.commit-ended.result (store_listed _) c.commit-ended.ensures.refused)
+returns-clause-listed g c = rw c.told.ensures (told_store (listed c.args.command.now) (λ u. c.in_ok-answer.answer) c.commit-ended.result c.commit-ended.ensures.refused)

@@ -27,4 +27,4 @@ returns-clause-makes g c clean held was =
     let later = with_base made.after held in
     let seen = c.in_ok-after.ensures.finds third (beside_of later) made.after made.holds in
     let turned = c.in_ok-count.ensures.turns clean (kept_of later) seen.1 in
-    is_stepped (λ base. edit_of c.args.limits.now c.args.now base c.args.command.now) c.args.now held c.in_ok-said.said made.after _ c.in_ok-before.before c.in_ok-after.after c.in_ok-count.count made.edited shown.0 seen.0 turned.0 turned.1
+    rw c.answer_or_count.ensures (is_stepped (λ base. edit_of c.args.limits.now c.args.now base c.args.command.now) c.args.now held c.in_ok-said.said made.after _ c.in_ok-before.before c.in_ok-after.after c.in_ok-count.count made.edited shown.0 seen.0 turned.0 turned.1)

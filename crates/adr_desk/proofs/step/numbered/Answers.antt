@@ -37,7 +37,7 @@ returns-clause-makes g c clean held was =
     (rw c.draws_number.ensures at c.in_ok-draw.ensures.ok) (λ kept keeps is. c.in_ok-put_changed.ensures.leaves clean kept keeps (is ∙ sym found.0))
 
 pub returns-in_err-before-clause-listed : goal.returns-in_err-before-clause-listed
-returns-in_err-before-clause-listed g c = handed_on _ c.from_residual-in_err-before.result c.in_err-before.field-0.0 c.from_residual-in_err-before.ensures.1 (store_listed _ _ c.in_err-before.ensures.refused)
+returns-in_err-before-clause-listed g c = handed_on _ c.from_residual.result c.in_err-before.field-0.0 c.from_residual.ensures.1 (store_listed _ _ c.in_err-before.ensures.refused)
 
 pub returns-in_err-said-clause-listed : goal.returns-in_err-said-clause-listed
 returns-in_err-said-clause-listed g c = handed_on _ c.from_residual-in_err-said.result c.in_err-said.field-0.0 c.from_residual-in_err-said.ensures.1 c.in_err-said.ensures.listed
@@ -46,7 +46,7 @@ pub returns-in_err-draw-clause-listed : goal.returns-in_err-draw-clause-listed
 returns-in_err-draw-clause-listed g c =
     let e = c.in_err-draw.field-0.0 in
     handed_on (Listed (listed c.args.command.now)) c.from_residual-in_err-draw.result e c.from_residual-in_err-draw.ensures.1
-    (contained_listed _ e (rw c.in_err-draw.ensures.err at (rw (← c.draws_number.ensures) at drawn_listed c.args.limits.now c.carry_out.new.meta.serial c.args.command.now)))
+    (contained_listed _ e (rw c.in_err-draw.ensures.err at (rw (← c.draws_number.ensures) at (drawn_listed c.args.limits.now c.carry_out.new.meta.serial c.args.command.now))))
 
 pub returns-in_err-put_changed-clause-listed : goal.returns-in_err-put_changed-clause-listed
 returns-in_err-put_changed-clause-listed g c = handed_on _ c.from_residual-in_err-put_changed.result c.in_err-put_changed.field-0.0 c.from_residual-in_err-put_changed.ensures.1 (store_listed _ _ c.in_err-put_changed.ensures.refused)
