@@ -3,7 +3,7 @@ use Rattle.adr_db.proofs.Common.{HasCleanDisk, state}
 use Rattle.adr_db.proofs.Results.{handed_on}
 use Rattle.adr_portfolio.proofs.Decisions.{refused_so}
 use Rattle.adr_db.specs.Images.{image_kept}
-use Rattle.adr_events.proofs.ListingLemmas.{page_replied, page_refused, sight_forbidden, forbidden_listed}
+use Rattle.adr_events.proofs.ListingLemmas.{page_replied, page_refused, sight_listed}
 use Rattle.adr_events.proofs.listing.page.Goals as goal
 
 -- a role that sees nothing is refused
@@ -17,7 +17,7 @@ returns-in_err-sight-clause-refuses g c clean =
 pub returns-in_err-sight-clause-listed : goal.returns-in_err-sight-clause-listed
 returns-in_err-sight-clause-listed g c =
     let e = c.in_err-sight.field-0.0 in
-    handed_on _ c.from_residual-in_err-sight.result e c.from_residual-in_err-sight.ensures.1 (forbidden_listed e (sight_forbidden c.in_ok-base.base c.args.role.now e c.in_err-sight.ensures))
+    handed_on _ c.from_residual-in_err-sight.result e c.from_residual-in_err-sight.ensures.1 (sight_listed c.in_ok-base.base c.args.role.now e c.in_err-sight.ensures)
 
 pub returns-clause-finds : goal.returns-clause-finds
 returns-clause-finds g c clean kept was =
