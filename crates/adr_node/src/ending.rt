@@ -1,24 +1,56 @@
 //! How the program ends: what it says on standard error, and its exit status.
 ghost use Rattle.std.specs.Prelude.{◌≡◌, option_map};
 ghost use Rattle.std.specs.Process.{exit_status};
-ghost use Rattle.adr_node.specs.Endings.{fault_line, line_of, status_of};
+ghost use Rattle.adr_node.specs.declared.ending.NodeFault.TheVariants.{Script};
+ghost use Rattle.adr_node.specs.Endings.{fault_of, fault_line, line_of, status_of};
 
 use adr_script::ScriptFault;
+use adr_text::Refusal;
 use std::process::ExitCode;
 
-/// The lines printed of a script that ran to its end, nothing where the arguments are of another form, or
-/// why the script ended early.
-pub type Ran = Result<Option<u64>, ScriptFault>;
+/// Why the program ended early.
+#[derive(Clone, Copy)]
+pub enum NodeFault {
+    /// The script ended early, or memory ran out before its first line.
+    Script(ScriptFault),
+    /// The store refused to be opened, so no line was taken.
+    Store,
+}
 
-fn fault_line(fault: ScriptFault) -> &'static str
+impl From<ScriptFault> for NodeFault {
+    ghost from_gives = { λ fault e. e ≡ Script fault };
+
+    fn from(fault: ScriptFault) -> NodeFault {
+        NodeFault::Script(fault)
+    }
+}
+
+// Of a desk that could not be opened, which only want of memory and the store refuse.
+impl From<Refusal> for NodeFault {
+    ghost from_gives = { λ refusal e. e ≡ fault_of refusal };
+
+    fn from(refusal: Refusal) -> NodeFault {
+        match refusal {
+            Refusal::OutOfMemory => NodeFault::Script(ScriptFault::OutOfMemory),
+            _ => NodeFault::Store,
+        }
+    }
+}
+
+/// The lines printed of a script that ran to its end, nothing where the arguments are of another form, or
+/// why the program ended early.
+pub type Ran = Result<Option<u64>, NodeFault>;
+
+fn fault_line(fault: NodeFault) -> &'static str
     ensures { result.now ≡ fault_line fault }
 {
     match fault {
-        ScriptFault::Read => "adr_node: read fault",
-        ScriptFault::Write => "adr_node: write fault",
-        ScriptFault::LineTooLong => "adr_node: line too long",
-        ScriptFault::ScriptTooLong => "adr_node: script too long",
-        ScriptFault::OutOfMemory => "adr_node: out of memory",
+        NodeFault::Script(ScriptFault::Read) => "adr_node: read fault",
+        NodeFault::Script(ScriptFault::Write) => "adr_node: write fault",
+        NodeFault::Script(ScriptFault::LineTooLong) => "adr_node: line too long",
+        NodeFault::Script(ScriptFault::ScriptTooLong) => "adr_node: script too long",
+        NodeFault::Script(ScriptFault::OutOfMemory) => "adr_node: out of memory",
+        NodeFault::Store => "adr_node: store refused",
     }
 }
 
