@@ -5,6 +5,8 @@
 #[cfg(test)]
 mod counted;
 #[cfg(test)]
+mod desks;
+#[cfg(test)]
 mod machine;
 #[cfg(test)]
 mod objects;

@@ -6,21 +6,25 @@ use adr_text::{Moment, Name, ObjectId, Refusal};
 use std::alloc::Global;
 use std::test::Fail;
 
-fn ten() -> Result<Moment, Refusal> {
+pub fn ten() -> Result<Moment, Refusal> {
     Moment::read("2024-07-01T10:00:00Z")
 }
 
-fn ven(alloc: Global, text: &str) -> Result<Command, Refusal> {
+pub fn ven(alloc: Global, text: &str) -> Result<Command, Refusal> {
     Ok(Command::VenAdd {
         role: Role::Operator,
         ven: read_ven(alloc, text.as_bytes())?,
     })
 }
 
-pub fn desk(alloc: Global) -> Result<PlainDesk, Refusal> {
+pub fn settings_of(alloc: Global) -> Result<Settings, Refusal> {
     let client = Name::new(alloc, "aggregator")?;
     let limits = Limits::largest();
-    Ok(PlainDesk::new(alloc, Settings { client, limits }))
+    Ok(Settings { client, limits })
+}
+
+pub fn desk(alloc: Global) -> Result<PlainDesk, Refusal> {
+    Ok(PlainDesk::new(alloc, settings_of(alloc)?))
 }
 
 fn push_ven(alloc: Global, steps: &mut Vec<(Moment, Command)>, text: &str) -> Result<(), Refusal> {
@@ -39,7 +43,7 @@ fn steps(alloc: Global) -> Result<Vec<(Moment, Command)>, Refusal> {
 }
 
 // The number of the ven that an answer is, or that of its refusal.
-fn answered_number(answer: &Result<Answer, Refusal>) -> u64 {
+pub fn answered_number(answer: &Result<Answer, Refusal>) -> u64 {
     match answer {
         Ok(Answer::Object(Object::Ven(ven))) => ven.number.get(),
         Ok(_) => 99,
@@ -117,7 +121,7 @@ fn copy(alloc: Global) -> Result<State, Refusal> {
 }
 
 // How many vens there are, and the serial.
-fn sizes(state: &State) -> (usize, u64) {
+pub fn sizes(state: &State) -> (usize, u64) {
     (state.base.portfolio.vens.len(), state.base.serial.get())
 }
 
