@@ -1,5 +1,5 @@
 //! Runs the worked rows: each row file of the folder that it is given, or where it runs, is a script with the lines that it has to print, and is
-//! run on every desk that there is. A row file is `NAME.row`, of these lines:
+//! run on every desk that there is, and on both side by side. A row file is `NAME.row`, of these lines:
 //!
 //! - `# TEXT` and an empty line say nothing;
 //! - `row NAME` names the row;
@@ -20,6 +20,7 @@
 //! commands is told as a whole to the plain desk and to the tables.
 #![tactic(auto)]
 
+mod answers;
 mod participants;
 mod play;
 mod portfolio;
@@ -33,11 +34,12 @@ mod whole_run;
 
 use crate::participants::run_participants;
 use crate::play::play;
-use crate::report::{report, report_twin};
+use crate::report::{report, report_both};
 use crate::row::{Row, read_row};
 use crate::texts::{read_texts, run_texts};
 use crate::twin::Twin;
 use crate::whole_run::run_whole;
+use adr_desk::MemoryDesk;
 use adr_machine::PlainDesk;
 use adr_state::{Limits, Settings};
 use adr_text::Name;
@@ -101,19 +103,28 @@ fn run_plain<R: Print + AllocGlobal>(rt: &R, row: &Row) -> Result<bool> {
     report(rt, "plain", row, &played)
 }
 
-/// Runs a row with the tables beside the plain desk, and compares what they hold after each command.
+/// Runs a row on the desk over tables alone.
 fn run_tables<R: Print + AllocGlobal>(rt: &R, row: &Row) -> Result<bool> {
+    let alloc = rt.alloc();
+    let mut desk = MemoryDesk::open_memory(alloc, settings(alloc, row)?)?;
+    let played = play(alloc, &mut desk, row);
+    report(rt, "tables", row, &played)
+}
+
+/// Runs a row on both desks side by side, and compares what they answer and hold after each call.
+fn run_both<R: Print + AllocGlobal>(rt: &R, row: &Row) -> Result<bool> {
     let alloc = rt.alloc();
     let mut desk = Twin::new(alloc, settings(alloc, row)?, settings(alloc, row)?)?;
     let played = play(alloc, &mut desk, row);
-    report_twin(rt, row, &played, desk.apart)
+    report_both(rt, row, &played, desk.apart)
 }
 
 /// Runs a row on each desk, prints how it went, and answers whether it passed on all.
 fn run_row<R: Print + AllocGlobal>(rt: &R, row: &Row) -> Result<bool> {
     let plain = run_plain(rt, row)?;
     let tables = run_tables(rt, row)?;
-    Ok(plain && tables)
+    let both = run_both(rt, row)?;
+    Ok(plain && tables && both)
 }
 
 fn bytes_of<R: Files + AllocGlobal>(rt: &R, folder: &str, name: &str) -> Result<Vec<u8>> {

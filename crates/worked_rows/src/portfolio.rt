@@ -1,5 +1,4 @@
-//! Whether two bases hold the same vens, resources and shares, and two answers the same object.
-use adr_machine::Object;
+//! Whether two bases hold the same vens, resources and shares.
 use adr_objects::Number;
 use adr_state::{Base, Resource, Resources, ShareKey, Ven, Weight};
 use adr_text::Table;
@@ -47,13 +46,4 @@ pub fn is_same_portfolio(base: &Base, other: &Base) -> bool {
         && are_same_vens(&base.portfolio.vens, &other.portfolio.vens)
         && are_same_resources(&base.portfolio.resources, &other.portfolio.resources)
         && are_same_shares(&base.portfolio.shares, &other.portfolio.shares)
-}
-
-/// Whether both are the same ven or the same resource.
-pub fn is_same_object(object: &Object, other: &Object) -> bool {
-    match (object, other) {
-        (Object::Ven(ven), Object::Ven(other)) => ven == other,
-        (Object::Resource(resource), Object::Resource(other)) => resource == other,
-        _ => false,
-    }
 }

@@ -29,13 +29,15 @@ pub fn report<R: Print>(rt: &R, desk: &str, row: &Row, played: &Played) -> Resul
     Ok(false)
 }
 
-/// Prints how a row went with the tables beside the plain desk, and answers whether it passed.
-pub fn report_twin<R: Print>(rt: &R, row: &Row, played: &Played, apart: u64) -> Result<bool> {
+/// Prints how a row went on both desks side by side, and answers whether it passed.
+pub fn report_both<R: Print>(rt: &R, row: &Row, played: &Played, apart: u64) -> Result<bool> {
     let name = &row.name;
     if played.passed(row) && apart == 0 {
-        println!(rt; "row {name} tables passed")?;
+        println!(rt; "row {name} both passed")?;
         return Ok(true);
     }
-    println!(rt; "row {name} tables failed, {apart} commands left something else")?;
+    println!(rt;
+        "row {name} both failed, {apart} calls were answered otherwise or left something else"
+    )?;
     Ok(false)
 }

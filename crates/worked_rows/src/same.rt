@@ -1,8 +1,8 @@
-//! Whether two images hold the same base.
+//! Whether two images hold the same state.
 use crate::portfolio::is_same_portfolio;
-use adr_desk::MemoryDesk;
-use adr_objects::{Body, canonical};
-use adr_state::{Image, Mark, MirrorKey, Polled};
+use adr_machine::Desk;
+use adr_objects::{Body, Stamps, canonical};
+use adr_state::{Base, Image, Mark, MirrorKey, Polled, ViewKey};
 use adr_text::{Refusal, Table};
 use std::alloc::{AllocError, Global};
 
@@ -60,14 +60,26 @@ fn is_same_scan(scan: &Option<Polled>, other: &Option<Polled>) -> bool {
 }
 
 /// Whether both hold the same mirror, the same scan, the same vens, resources and shares, and the same serial.
-pub fn is_same(alloc: Global, image: &Image, other: &Image) -> Result<bool, AllocError> {
-    let mirror = is_same_mirror(alloc, &image.base.mirror, &other.base.mirror)?;
-    let scan = is_same_scan(&image.base.scan, &other.base.scan);
-    Ok(mirror && scan && is_same_portfolio(&image.base, &other.base))
+fn is_same_base(alloc: Global, base: &Base, other: &Base) -> Result<bool, AllocError> {
+    let mirror = is_same_mirror(alloc, &base.mirror, &other.mirror)?;
+    Ok(mirror && is_same_scan(&base.scan, &other.scan) && is_same_portfolio(base, other))
 }
 
-/// Whether the tables hold the same base as an image.
-pub fn hold(alloc: Global, tables: &mut MemoryDesk, image: &Image) -> Result<bool, Refusal> {
-    let other = tables.image()?;
+fn are_same_stamps(stamps: &Table<ViewKey, Stamps>, others: &Table<ViewKey, Stamps>) -> bool {
+    stamps.len() == others.len()
+        && stamps
+            .iter()
+            .all(|(key, stamps)| others.get(key) == Some(stamps))
+}
+
+/// Whether both hold the same base and the same stamps of what is shown.
+fn is_same(alloc: Global, image: &Image, other: &Image) -> Result<bool, AllocError> {
+    let base = is_same_base(alloc, &image.base, &other.base)?;
+    Ok(base && are_same_stamps(&image.stamps, &other.stamps))
+}
+
+/// Whether a desk holds the state of an image.
+pub fn holds<D: Desk>(alloc: Global, desk: &mut D, image: &Image) -> Result<bool, Refusal> {
+    let other = desk.image()?;
     Ok(is_same(alloc, image, &other)?)
 }

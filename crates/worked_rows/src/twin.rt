@@ -1,9 +1,9 @@
-//! A plain desk, and a desk over SQL that is told the same commands.
+//! A plain desk, and a desk over tables that is told and asked the same.
 ghost use Rattle.std.specs.Prelude.{◌≡◌};
 
-use crate::portfolio::is_same_object;
-use crate::same::hold;
-use adr_desk::{Edit, MemoryDesk};
+use crate::answers::is_same_answer;
+use crate::same::holds;
+use adr_desk::MemoryDesk;
 use adr_machine::{Answer, Command, Desk, PlainDesk, Query};
 use adr_state::{Image, Settings, State};
 use adr_text::{Moment, Refusal};
@@ -15,7 +15,7 @@ pub struct Twin {
     alloc: Global,
     plain: PlainDesk,
     tables: MemoryDesk,
-    /// How many commands left another base in the tables, or were answered otherwise.
+    /// How many calls the tables answered otherwise, or held another state after.
     pub apart: u64,
 }
 
@@ -31,61 +31,45 @@ impl Twin {
     }
 }
 
-/// Whether the tables answered as the machine does; of evidence they answer the keys, and not their number.
-fn agrees(said: &Result<Answer, Refusal>, edit: &Result<Edit, Refusal>) -> bool {
-    match (said, edit) {
-        (Ok(Answer::Changes(_)), Ok(Edit::Raised(_))) => true,
-        (Ok(Answer::Done), Ok(Edit::Done)) => true,
-        (Ok(Answer::Probes(keys)), Ok(Edit::Probes(others))) => {
-            keys.as_slice() == others.as_slice()
-        }
-        (Ok(Answer::Object(object)), Ok(Edit::Object(other))) => { is_same_object(object, other) }
-        (Ok(Answer::Share(share)), Ok(Edit::Share(other))) => share == other,
-        (Err(refusal), Err(other)) => refusal == other,
-        _ => false,
-    }
-}
-
 // What is owned stands in functions of its own, since each owned value makes those behind it dearer to check.
-fn answers_alike(
-    tables: &mut MemoryDesk,
+
+/// Whether a desk answers a command so.
+fn applies_so<D: Desk>(
+    desk: &mut D,
     now: Moment,
     command: &Command,
     said: &Result<Answer, Refusal>,
 ) -> bool {
-    agrees(said, &tables.edit(now, command))
+    is_same_answer(said, &desk.apply(now, command))
 }
 
-/// Tells the tables the command, and answers whether they hold the same then.
-fn follow(
-    alloc: Global,
-    tables: &mut MemoryDesk,
-    now: Moment,
-    command: &Command,
-    said: &Result<Answer, Refusal>,
-    image: &Image,
-) -> Result<bool, Refusal> {
-    if !answers_alike(tables, now, command, said) {
-        return Ok(false);
+/// Whether a desk answers a query so.
+fn asks_so<D: Desk>(desk: &mut D, query: &Query, said: &Result<Answer, Refusal>) -> bool {
+    is_same_answer(said, &desk.ask(query))
+}
+
+/// Whether a desk holds the state that another one told.
+fn holds_so<D: Desk>(alloc: Global, desk: &mut D, said: &Result<Image, Refusal>) -> bool {
+    match said {
+        Ok(image) => holds(alloc, desk, image) == Ok(true),
+        Err(_) => false,
     }
-    hold(alloc, tables, image)
 }
 
-/// Whether the tables answer as the plain desk did, and hold what it holds. The plain desk stays as it is.
-fn has_followed(
-    alloc: Global,
-    plain: &mut PlainDesk,
-    tables: &mut MemoryDesk,
-    now: Moment,
-    command: &Command,
-    said: &Result<Answer, Refusal>,
-) -> bool
+/// Whether the tables hold what the plain desk holds, which stays as it is.
+fn hold_the_same(alloc: Global, plain: &mut PlainDesk, tables: &mut MemoryDesk) -> bool
     ensures state { ⟦<PlainDesk as Desk>⟧.state plain.new ≡ ⟦<PlainDesk as Desk>⟧.state plain.old }
     ensures settings { ⟦<PlainDesk as Desk>⟧.settings plain.new ≡ ⟦<PlainDesk as Desk>⟧.settings plain.old }
 {
-    match plain.image() {
-        Ok(image) => follow(alloc, tables, now, command, said, &image) == Ok(true),
-        Err(_) => false,
+    holds_so(alloc, tables, &plain.image())
+}
+
+/// How many calls went apart, after one more call.
+fn counted(apart: u64, alike: bool) -> u64 {
+    if alike {
+        apart
+    } else {
+        apart.saturating_add(1)
     }
 }
 
@@ -96,31 +80,33 @@ impl Desk for Twin {
 
     ghost is_sound = { λ twin. ⟦<PlainDesk as Desk>⟧.is_sound twin.plain };
 
-    // The tables are told, and never asked: what they refuse is counted, and not answered.
+    // The plain desk answers: what the tables answer is compared, and not answered.
     ghost may_refuse = { ⟦<PlainDesk as Desk>⟧.may_refuse };
 
     fn apply(&mut self, now: Moment, command: &Command) -> Result<Answer, Refusal> {
         let said = self.plain.apply(now, command);
         let alloc = self.alloc;
-        if !has_followed(
-            alloc,
-            &mut self.plain,
-            &mut self.tables,
-            now,
-            command,
-            &said,
-        ) {
-            self.apart = self.apart.saturating_add(1);
-        }
+        let alike = applies_so(&mut self.tables, now, command, &said);
+        let same = hold_the_same(alloc, &mut self.plain, &mut self.tables);
+        self.apart = counted(self.apart, alike && same);
         said
     }
 
     fn ask(&mut self, query: &Query) -> Result<Answer, Refusal> {
-        self.plain.ask(query)
+        let said = self.plain.ask(query);
+        let alloc = self.alloc;
+        let alike = asks_so(&mut self.tables, query, &said);
+        let same = hold_the_same(alloc, &mut self.plain, &mut self.tables);
+        self.apart = counted(self.apart, alike && same);
+        said
     }
 
     fn image(&mut self) -> Result<State, Refusal> {
-        self.plain.image()
+        let said = self.plain.image();
+        let alloc = self.alloc;
+        let same = holds_so(alloc, &mut self.tables, &said);
+        self.apart = counted(self.apart, same);
+        said
     }
 
     fn settings(&self) -> &Settings {

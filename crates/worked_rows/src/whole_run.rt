@@ -1,18 +1,22 @@
 //! A list of commands, told as a whole to the plain desk and to the tables.
-use crate::same::hold;
-use adr_desk::{Edit, MemoryDesk, edit_each};
+use crate::answers::are_same_answers;
+use crate::same::holds;
+use adr_desk::MemoryDesk;
 use adr_machine::{Answer, Command, Desk, PlainDesk, Role, run};
-use adr_objects::Kind;
+use adr_objects::{Kind, ShareIn};
 use adr_schema::{read_page, read_resource, read_ven};
-use adr_state::{Settings, State};
+use adr_state::Settings;
 use adr_text::{Moment, ObjectId, Refusal};
 use std::alloc::Global;
 
-const PAGE: &[u8] =
+const PROGRAMS: &[u8] =
     br#"[{"id":"p1","programName":"peak","modificationDateTime":"2026-01-01T08:00:00Z"},{"id":"p2","programName":"night","modificationDateTime":"2026-01-01T08:00:00Z"}]"#;
 
-fn page(alloc: Global) -> Result<Command, Refusal> {
-    let (found, _) = read_page(alloc, Kind::Program, PAGE)?;
+const EVENTS: &[u8] =
+    br#"[{"id":"e1","programID":"p2","modificationDateTime":"2026-01-01T08:00:00Z","intervals":[{"id":0,"payloads":[{"type":"DISPATCH_SETPOINT","values":[7]}]}]}]"#;
+
+fn page(alloc: Global, kind: Kind, text: &[u8]) -> Result<Command, Refusal> {
+    let (found, _) = read_page(alloc, kind, text)?;
     Ok(Command::Evidence {
         found,
         polled: true,
@@ -41,9 +45,18 @@ fn resource(alloc: Global) -> Result<Command, Refusal> {
     })
 }
 
+fn share(alloc: Global) -> Result<Command, Refusal> {
+    Ok(Command::ShareSet {
+        role: Role::Operator,
+        program: ObjectId::new(alloc, "p2")?,
+        resource: ObjectId::new(alloc, "r2")?,
+        share: ShareIn { share: 5 },
+    })
+}
+
 fn told(
     alloc: Global,
-    commands: [Result<Command, Refusal>; 7],
+    commands: [Result<Command, Refusal>; 9],
 ) -> Result<Vec<(Moment, Command)>, Refusal> {
     let now = Moment::read("2026-01-02T09:00:00Z")?;
     let mut steps = Vec::new(alloc);
@@ -53,44 +66,55 @@ fn told(
     Ok(steps)
 }
 
-/// A scan with one page and a deletion, a ven, and the same ven again, which is refused.
+/// A scan with two pages and a deletion; a ven, and the same ven again, which is refused; and a resource with a share, to
+/// which an event is shown then.
 fn steps(alloc: Global) -> Result<Vec<(Moment, Command)>, Refusal> {
     told(
         alloc,
         [
             Ok(Command::ScanBegin),
-            page(alloc),
+            page(alloc, Kind::Program, PROGRAMS),
+            page(alloc, Kind::Event, EVENTS),
             gone(alloc),
             Ok(Command::ScanEnd),
             ven(alloc),
             ven(alloc),
             resource(alloc),
+            share(alloc),
         ],
     )
 }
 
+/// How many of the commands have to be accepted.
+const ACCEPTED: usize = 8;
+
 /// How many of the answers are Ok.
-fn accepted<T>(answers: &[Result<T, Refusal>]) -> usize {
+fn accepted(answers: &[Result<Answer, Refusal>]) -> usize {
     answers.iter().filter(|answer| answer.is_ok()).count()
 }
 
 // The values of a call stand in functions of their own, since each owned one makes those behind it dearer to check.
-fn told_plain(
+
+/// Whether a desk answers the list so.
+fn answers_so<D: Desk>(
     alloc: Global,
-    plain: &mut PlainDesk,
+    desk: &mut D,
     steps: &[(Moment, Command)],
-) -> Result<usize, Refusal> {
-    let answers: Vec<Result<Answer, Refusal>> = run(alloc, plain, steps)?;
-    Ok(accepted(&answers))
+    answers: &[Result<Answer, Refusal>],
+) -> Result<bool, Refusal> {
+    let others = run(alloc, desk, steps)?;
+    Ok(are_same_answers(answers, &others))
 }
 
-fn told_tables(
+/// Whether both answer the list the same, and accept as much of it as they have to.
+fn answer_alike(
     alloc: Global,
+    plain: &mut PlainDesk,
     tables: &mut MemoryDesk,
     steps: &[(Moment, Command)],
-) -> Result<usize, Refusal> {
-    let edits: Vec<Result<Edit, Refusal>> = edit_each(alloc, tables, steps)?;
-    Ok(accepted(&edits))
+) -> Result<bool, Refusal> {
+    let answers = run(alloc, plain, steps)?;
+    Ok(accepted(&answers) == ACCEPTED && answers_so(alloc, tables, steps, &answers)?)
 }
 
 fn hold_the_same(
@@ -99,7 +123,7 @@ fn hold_the_same(
     tables: &mut MemoryDesk,
 ) -> Result<bool, Refusal> {
     let image = plain.image()?;
-    hold(alloc, tables, &image)
+    holds(alloc, tables, &image)
 }
 
 fn take_the_same(
@@ -108,10 +132,7 @@ fn take_the_same(
     tables: &mut MemoryDesk,
     steps: &[(Moment, Command)],
 ) -> Result<bool, Refusal> {
-    if told_plain(alloc, plain, steps)? != 6 || told_tables(alloc, tables, steps)? != 6 {
-        return Ok(false);
-    }
-    hold_the_same(alloc, plain, tables)
+    Ok(answer_alike(alloc, plain, tables, steps)? && hold_the_same(alloc, plain, tables)?)
 }
 
 fn tables_are_like(
