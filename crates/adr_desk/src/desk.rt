@@ -38,13 +38,14 @@ pub struct SqlDesk<S: Alter> {
 pub type MemoryDesk = SqlDesk<MemStore>;
 
 impl SqlDesk<MemStore> {
-    ghost use Rattle.adr_desk.specs.Desks.{settings_of, state_of, IsSound};
+    ghost use Rattle.adr_desk.specs.Desks.{shown, settings_of, state_of, IsSound};
 
     /// A desk in memory, with the state at first, or want of memory or the store's refusal.
     pub fn open_memory(alloc: Global, settings: Settings) -> Result<MemoryDesk, Refusal>
         ensures state { IfOk result (λ desk. state_of over_memory desk ≡ empty) }
         ensures settings { IfOk result (λ desk. settings_of desk ≡ settings) }
         ensures sound { IfOk result (λ desk. IsSound over_memory desk) }
+        ensures committed { IfOk result (λ desk. (shown over_memory desk).committed ≡ (shown over_memory desk).now) }
         ensures refused { IfErr result IsOfStore }
     {
         let mut conn = Connection::open_in_memory(alloc)?;
@@ -78,6 +79,7 @@ impl<S: Alter> Desk for SqlDesk<S> {
         ensures was_sound { IsSound S.Store self.new → IsSound S.Store self.old }
         ensures same_settings { settings_of self.new ≡ settings_of self.old }
         ensures crash { Survives (shown S.Store self.old) (shown S.Store self.new) (λ trees. (held : State) → HoldsState held (shown S.Store self.old) → LeftStepped (step_by (settings_of self.old).limits now command.now) held trees) }
+        ensures committed { OnOk result (IsSound S.Store self.new → (shown S.Store self.new).committed ≡ (shown S.Store self.new).now) }
         ensures stands { OnOk result (IsSound S.Store self.new → (trees : Trees) → (shown S.Store self.new).may_leave trees → trees ≡ (shown S.Store self.new).now.trees) }
     {
         apply_in(

@@ -21,3 +21,6 @@ pub returns-clause-sound : goal.returns-clause-sound
 returns-clause-sound c =
     let made : HoldsState empty (state over_memory c.create_in.new.conn) = (c.in_ok-create_in.ensures.whole.done (memory_is_clean c.create_in.new.conn)).0 (holds_none (state over_memory c.in_ok-conn.conn) c.in_ok-conn.ensures.empty) in
     record { clean = memory_is_clean c.create_in.new.conn; is_open = refl; holds = ∣ (holds_again empty (state over_memory c.create_in.new.conn) made) ∣₁ }
+
+pub returns-clause-committed : goal.returns-clause-committed
+returns-clause-committed c = (c.in_ok-create_in.ensures.whole.done (memory_is_clean c.create_in.new.conn)).1
