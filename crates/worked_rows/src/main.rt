@@ -16,7 +16,7 @@
 //! - `> TEXT` is a text;
 //! - `< ANSWER` is what the reader makes of the text before.
 //!
-//! The participants of events are read from tables of its own, since no line of a script asks for them yet; and a list of
+//! Who takes part in an event is read from tables of its own, by number and weight, since no line of a script asks for that alone; and a list of
 //! commands is told as a whole to the plain desk and to the tables.
 #![tactic(auto)]
 
