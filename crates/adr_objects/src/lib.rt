@@ -9,6 +9,7 @@ mod name_set;
 mod number;
 mod read_body;
 mod read_fields;
+mod report;
 mod setpoint;
 mod shown;
 mod site;
@@ -22,6 +23,10 @@ pub use kind::Kind;
 pub use name_set::NameSet;
 pub use number::Number;
 pub use read_body::read_canonical;
+pub use report::{
+    ReportBody, ReportHead, ReportName, ReportObject, Rollup, RollupInterval, RollupObject, Usage,
+    UsageInterval,
+};
 pub use setpoint::{Priority, Setpoint};
 pub use shown::{
     EventObject, ProgramObject, ResourceObject, ShareObject, ShownEvent, ShownInterval, Stamps,

@@ -1,4 +1,4 @@
--- The vens, their resources and the shares, and the kinds of change that a command may make of them.
+-- The vens, their resources, the shares and the reports, and the kinds of change that a command may make of them.
 use Rattle.std.specs.Prelude.{ℕ, Bool, false, not, ◌==◌, List, [], filter, Result, Ok}
 use Rattle.std.specs.Map.{remove_entry}
 use Rattle.std.specs.Option.{option_map_or}
@@ -9,11 +9,12 @@ use Rattle.adr_text.specs.declared.refusal.Refusal.{Refusal}
 use Rattle.adr_state.specs.declared.portfolio.Portfolio.{Portfolio}
 use Rattle.adr_state.specs.declared.portfolio.Ven.{Ven}
 use Rattle.adr_state.specs.declared.portfolio.Resource.{Resource}
+use Rattle.adr_state.specs.declared.portfolio.Report.{Report}
 use Rattle.adr_state.specs.declared.keys.ShareKey.{ShareKey}
 use Rattle.adr_state.specs.Keys.{share_cmp, at}
 
 abbrev pub nobody : Portfolio
-nobody = record { vens = []; resources = []; shares = [] }
+nobody = record { vens = []; resources = []; shares = []; reports = [] }
 
 -- ---- with one more, or another at its key: each in its place in the order
 
@@ -26,29 +27,41 @@ with_resource n resource p = record p { resources = insert_entry nat_cmp p.resou
 abbrev pub with_share : ShareKey → ℕ → Portfolio → Portfolio
 with_share key weight p = record p { shares = insert_entry share_cmp p.shares key weight }
 
+abbrev pub with_report : ℕ → Report → Portfolio → Portfolio
+with_report n report p = record p { reports = insert_entry nat_cmp p.reports n report }
+
 -- ---- without one
 
 -- whether a resource is there and belongs to a ven
 abbrev pub is_of_ven : ℕ → List (ℕ × Resource) → ℕ → Bool
 is_of_ven ven resources resource = option_map_or (λ r. r.ven == ven) (at nat_cmp resource resources) false
 
--- without a ven: its resources go, and their shares
+-- the resource that a report is on
+abbrev pub reported_on : ℕ × Report → ℕ
+reported_on r = r.1.body.head.resource
+
+-- without a ven: its resources go, their shares, and the reports on them
 abbrev pub without_ven : ℕ → Portfolio → Portfolio
 without_ven n p = record p {
   vens = remove_entry (is_at (nat_cmp n)) p.vens;
   resources = filter (λ r. not (r.1.ven == n)) p.resources;
   shares = filter (λ s. not (is_of_ven n p.resources s.0.resource)) p.shares;
+  reports = filter (λ r. not (is_of_ven n p.resources (reported_on r))) p.reports;
 }
 
--- without a resource: its shares go
+-- without a resource: its shares go, and the reports on it
 abbrev pub without_resource : ℕ → Portfolio → Portfolio
 without_resource n p = record p {
   resources = remove_entry (is_at (nat_cmp n)) p.resources;
   shares = filter (λ s. not (s.0.resource == n)) p.shares;
+  reports = filter (λ r. not (reported_on r == n)) p.reports;
 }
 
 abbrev pub without_share : ShareKey → Portfolio → Portfolio
 without_share key p = record p { shares = remove_entry (is_at (share_cmp key)) p.shares }
+
+abbrev pub without_report : ℕ → Portfolio → Portfolio
+without_report n p = record p { reports = remove_entry (is_at (nat_cmp n)) p.reports }
 
 -- ---- the kinds of change
 
@@ -60,6 +73,8 @@ pub data PortfolioChange : Type 0 where
   DropResource : ℕ → PortfolioChange
   PutShare : ShareKey → ℕ → PortfolioChange
   DropShare : ShareKey → PortfolioChange
+  PutReport : ℕ → Report → PortfolioChange
+  DropReport : ℕ → PortfolioChange
 
 abbrev pub portfolio_after : PortfolioChange → Portfolio → Portfolio
 portfolio_after (PutVen n ven) p = with_ven n ven p
@@ -68,6 +83,8 @@ portfolio_after (PutResource n resource) p = with_resource n resource p
 portfolio_after (DropResource n) p = without_resource n p
 portfolio_after (PutShare key weight) p = with_share key weight p
 portfolio_after (DropShare key) p = without_share key p
+portfolio_after (PutReport n report) p = with_report n report p
+portfolio_after (DropReport n) p = without_report n p
 
 -- a decision is an answer and a change: the answer, and the portfolio after the change
 abbrev pub carried_out : {A : Type 0} → Portfolio → Result (A × PortfolioChange) Refusal → Result (A × Portfolio) Refusal

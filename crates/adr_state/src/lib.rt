@@ -1,5 +1,5 @@
-//! What the node keeps, as plain maps: the mirror of the utility's objects, vens, resources and shares;
-//! and what is decided of it.
+//! What the node keeps, as plain maps: the mirror of the utility's objects, vens, resources, shares and
+//! reports; and what is decided of it.
 #![tactic(auto)]
 
 mod base;
@@ -27,7 +27,7 @@ pub use mirror::{join, key_of, mark_of, raise};
 pub use names::{Named, check_free, check_new, is_taken, is_taken_by_another};
 pub use participants::{Participant, is_for, participants_of};
 pub use polled::{Polled, poll, probes};
-pub use portfolio::{Portfolio, Resource, Resources, Ven, Weight};
+pub use portfolio::{Portfolio, Report, Resource, Resources, Ven, Weight};
 pub use serial::Serial;
 pub use stamping::{fresh, modified_at};
 pub use state::{Image, State};

@@ -1,4 +1,4 @@
-//! The vens that are enrolled, their resources, and the shares of those in programs.
+//! The vens that are enrolled, their resources, the shares of those in programs, and the reports on them.
 ghost use Rattle.std.specs.Prelude.{◌≡◌, ◌≤◌, ◌<◌, ◌==◌, not, [], length, filter, IsSome, IsTrue, OnOk, OnErr};
 ghost use Rattle.std.specs.Ordering.{nat_cmp};
 ghost use Rattle.std.specs.Option.{option_copied};
@@ -9,7 +9,7 @@ ghost use Rattle.adr_state.specs.Keys.{at};
 ghost use Rattle.adr_state.specs.Portfolios.{nobody, is_of_ven, without_ven, without_resource};
 
 use crate::keys::ShareKey;
-use adr_objects::{Number, ResourceName, Stamps};
+use adr_objects::{Number, ReportBody, ResourceName, Stamps};
 use adr_text::{Name, Table};
 use std::alloc::{AllocError, Global};
 use std::collections::btree_map::Iter;
@@ -160,12 +160,21 @@ impl Resources {
     }
 }
 
-/// Who takes part in events.
+/// A report on a resource, with its revision: the number that was drawn as it was posted, or as it was
+/// last replaced.
+#[derive(Clone, Drop)]
+pub struct Report {
+    pub revision: Number,
+    pub body: ReportBody,
+}
+
+/// Who takes part in events, and what they report of them.
 #[derive(Clone, Drop)]
 pub struct Portfolio {
     pub vens: Table<Number, Ven>,
     pub resources: Resources,
     pub shares: Table<ShareKey, Weight>,
+    pub reports: Table<Number, Report>,
 }
 
 /// Whether the resource is there and belongs to the ven.
@@ -192,6 +201,20 @@ fn remove_shares_of(shares: &mut Table<ShareKey, Weight>, resource: Number)
     shares.retain(|key, _| key.resource != resource)
 }
 
+/// Removes the reports on the ven's resources.
+fn remove_reports_of_ven(reports: &mut Table<Number, Report>, resources: &Resources, ven: Number)
+    ensures { reports.new ≡ filter (λ r. not (is_of_ven ven resources.now r.1.body.head.resource)) reports.old }
+{
+    reports.retain(|_, report| !is_of_ven(ven, resources, report.body.head.resource))
+}
+
+/// Removes the reports on the resource.
+fn remove_reports_of(reports: &mut Table<Number, Report>, resource: Number)
+    ensures { reports.new ≡ filter (λ r. not (r.1.body.head.resource == resource)) reports.old }
+{
+    reports.retain(|_, report| report.body.head.resource != resource)
+}
+
 impl Portfolio {
     /// Nobody yet.
     pub fn new(alloc: Global) -> Portfolio
@@ -201,22 +224,25 @@ impl Portfolio {
             vens: Table::new(alloc),
             resources: Resources::new(alloc),
             shares: Table::new(alloc),
+            reports: Table::new(alloc),
         }
     }
 
-    /// Removes the ven, its resources, and their shares.
+    /// Removes the ven, its resources, their shares and the reports on them.
     pub fn remove_ven(&mut self, ven: Number)
         ensures { self.new ≡ without_ven ven self.old }
     {
+        remove_reports_of_ven(&mut self.reports, &self.resources, ven);
         remove_shares_of_ven(&mut self.shares, &self.resources, ven);
         self.resources.remove_of(ven);
         self.vens.remove(&ven);
     }
 
-    /// Removes the resource and its shares.
+    /// Removes the resource, its shares and the reports on it.
     pub fn remove_resource(&mut self, resource: Number)
         ensures { self.new ≡ without_resource resource self.old }
     {
+        remove_reports_of(&mut self.reports, resource);
         remove_shares_of(&mut self.shares, resource);
         self.resources.remove(resource);
     }
