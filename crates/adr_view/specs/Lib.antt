@@ -1,3 +1,4 @@
 pub mod Views
+pub mod Rollups
 pub mod Changes
 pub mod Laws
