@@ -16,8 +16,9 @@
 //! - `> TEXT` is a text;
 //! - `< ANSWER` is what the reader makes of the text before.
 //!
-//! Who takes part in an event is read from tables of its own, by number and weight, since no line of a script asks for that alone; and a list of
-//! commands is told as a whole to the plain desk and to the tables.
+//! The commands of each row are then told as a list to a plain desk and to tables, which have to answer them alike and hold what the row led to.
+//!
+//! Who takes part in an event is read from tables of its own, by number and weight, since no line of a script asks for that alone.
 #![tactic(auto)]
 
 mod answers;
@@ -34,13 +35,13 @@ mod whole_run;
 
 use crate::participants::run_participants;
 use crate::play::play;
-use crate::report::{report, report_both};
+use crate::report::{report, report_both, report_list};
 use crate::row::{Row, read_row};
 use crate::texts::{read_texts, run_texts};
 use crate::twin::Twin;
-use crate::whole_run::run_whole;
+use crate::whole_run::take_alike;
 use adr_desk::MemoryDesk;
-use adr_machine::PlainDesk;
+use adr_machine::{Desk, PlainDesk};
 use adr_state::{Limits, Settings};
 use adr_text::Name;
 use anyhow::{Context, Result};
@@ -111,12 +112,29 @@ fn run_tables<R: Print + AllocGlobal>(rt: &R, row: &Row) -> Result<bool> {
     report(rt, "tables", row, &played)
 }
 
-/// Runs a row on both desks side by side, and compares what they answer and hold after each call.
+/// Whether the commands of a row, told as a list, lead each desk to where the row led.
+fn is_list_alike(alloc: Global, row: &Row, desk: &mut Twin) -> Result<bool> {
+    let image = desk.image()?;
+    let alike = take_alike(
+        alloc,
+        settings(alloc, row)?,
+        settings(alloc, row)?,
+        desk.told.as_slice(),
+        &image,
+    )?;
+    Ok(alike && !desk.lost)
+}
+
+/// Runs a row on both desks side by side, and compares what they answer and hold after each call; then tells each of two more its
+/// commands as a list.
 fn run_both<R: Print + AllocGlobal>(rt: &R, row: &Row) -> Result<bool> {
     let alloc = rt.alloc();
     let mut desk = Twin::new(alloc, settings(alloc, row)?, settings(alloc, row)?)?;
     let played = play(alloc, &mut desk, row);
-    report_both(rt, row, &played, desk.apart)
+    let both = report_both(rt, row, &played, desk.apart)?;
+    let alike = is_list_alike(alloc, row, &mut desk)?;
+    let list = report_list(rt, row, alike)?;
+    Ok(both && list)
 }
 
 /// Runs a row on each desk, prints how it went, and answers whether it passed on all.
@@ -166,20 +184,12 @@ fn run_texts_of<R: Files + Print + AllocGlobal + Clone + Drop>(
     Ok(passed)
 }
 
-fn run_commands<R: Print + AllocGlobal>(rt: &R) -> Result<bool> {
-    let alloc = rt.alloc();
-    let settings = settings_of(alloc, Limits::largest())?;
-    let again = settings_of(alloc, Limits::largest())?;
-    run_whole(rt, settings, again)
-}
-
 fn run_all<R: Env + Files + Print + AllocGlobal + Clone + Drop>(rt: &R) -> Result<bool> {
     let folder = folder(rt)?;
     let rows = run_rows(rt, folder.as_str())?;
     let texts = run_texts_of(rt, folder.as_str())?;
     let participants = run_participants(rt)?;
-    let commands = run_commands(rt)?;
-    Ok(rows && texts && participants && commands)
+    Ok(rows && texts && participants)
 }
 
 fn main(rt: HostRuntime) -> Result<ExitCode> {

@@ -41,3 +41,14 @@ pub fn report_both<R: Print>(rt: &R, row: &Row, played: &Played, apart: u64) -> 
     )?;
     Ok(false)
 }
+
+/// Prints how the commands of a row went, told as a list, and answers whether they passed.
+pub fn report_list<R: Print>(rt: &R, row: &Row, alike: bool) -> Result<bool> {
+    let name = &row.name;
+    if alike {
+        println!(rt; "row {name} list passed")?;
+        return Ok(true);
+    }
+    println!(rt; "row {name} list failed")?;
+    Ok(false)
+}

@@ -7,7 +7,7 @@ use adr_desk::MemoryDesk;
 use adr_machine::{Answer, Command, Desk, PlainDesk, Query};
 use adr_state::{Image, Settings, State};
 use adr_text::{Moment, Refusal};
-use std::alloc::Global;
+use std::alloc::{AllocError, Global};
 
 /// A plain desk that answers, and the tables beside it.
 #[derive(Drop)]
@@ -17,6 +17,10 @@ pub struct Twin {
     tables: MemoryDesk,
     /// How many calls the tables answered otherwise, or held another state after.
     pub apart: u64,
+    /// The commands that it was told, each at its moment.
+    pub told: Vec<(Moment, Command)>,
+    /// Whether memory ran out over one of them.
+    pub lost: bool,
 }
 
 impl Twin {
@@ -27,6 +31,8 @@ impl Twin {
             plain: PlainDesk::new(alloc, settings),
             tables: MemoryDesk::open_memory(alloc, again)?,
             apart: 0,
+            told: Vec::new(alloc),
+            lost: false,
         })
     }
 }
@@ -73,6 +79,16 @@ fn counted(apart: u64, alike: bool) -> u64 {
     }
 }
 
+/// Puts a command behind those that were told.
+fn note(
+    told: &mut Vec<(Moment, Command)>,
+    now: Moment,
+    command: &Command,
+) -> Result<(), AllocError> {
+    told.push((now, command.clone()?))?;
+    Ok(())
+}
+
 impl Desk for Twin {
     ghost state = { λ twin. ⟦<PlainDesk as Desk>⟧.state twin.plain };
 
@@ -89,6 +105,7 @@ impl Desk for Twin {
         let alike = applies_so(&mut self.tables, now, command, &said);
         let same = hold_the_same(alloc, &mut self.plain, &mut self.tables);
         self.apart = counted(self.apart, alike && same);
+        self.lost = note(&mut self.told, now, command).is_err() || self.lost;
         said
     }
 
