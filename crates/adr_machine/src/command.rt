@@ -7,7 +7,7 @@ use adr_objects::{Found, Kind, ResourceIn, ShareIn, VenIn};
 use adr_text::{ObjectId, Rows};
 
 /// A command. Each is one step, at a moment.
-#[derive(Drop)]
+#[derive(Clone, Drop)]
 pub enum Command {
     /// Versions of upstream objects were found, in a page that was polled or in a notification.
     /// Refused where keys would pass their limit.

@@ -6,3 +6,4 @@ pub mod KeyLemmas
 pub mod ViewLemmas
 pub mod ShownLemmas
 pub mod LawLemmas
+pub mod LatestLemmas

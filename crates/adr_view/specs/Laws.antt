@@ -1,5 +1,6 @@
 -- Laws of what is shown, whatever the definitions are given.
-use Rattle.std.specs.Prelude.{◌≡◌, ℕ, ℤ, Bool, false, List, filter, Some, IsSomeAnd}
+use Rattle.std.specs.Prelude.{◌≡◌, ◌≤◌, ℕ, ℤ, Bool, false, List, filter, None, Some, IfSome, IsSomeAnd}
+use Rattle.std.specs.List.{All, Contains}
 use Rattle.std.specs.Bool.{Decides}
 use Rattle.std.specs.List.Sorted.{IsStrictlySortedBy}
 use Rattle.std.specs.Map.{keys_of}
@@ -13,6 +14,8 @@ use Rattle.adr_state.specs.declared.keys.ViewKey.TheVariants as key
 use Rattle.adr_state.specs.Keys.{id_cmp, mirror_cmp}
 use Rattle.adr_view.specs.declared.view.Content.{Content}
 use Rattle.adr_view.specs.Changes.{is_same_content}
+use Rattle.adr_state.specs.declared.portfolio.Report.{Report}
+use Rattle.adr_view.specs.Rollups.{value_in, latest_of}
 use Rattle.adr_view.specs.Views.{split_interval, shown_of, view}
 
 -- two contents count as the same exactly where they are equal
@@ -36,3 +39,17 @@ is_key_of id (key.Event other resource) = is_eq (id_cmp id other)
 -- where rows stand in order, what is shown of an event is all that the view has at keys of it, in the order in which it stands there
 abbrev pub ShownIsOfTheView : Type 0
 ShownIsOfTheView = (base : Base) (id : List ℕ) → StandsInOrder base → filter (λ r. is_key_of id r.0) (view base) ≡ shown_of base id
+
+-- ---- the latest value
+
+-- a value, behind its revision, is one that a report among these has for an interval, and none of them that has one has a greater revision
+pub record IsOfGreatestRevision (id : ℤ) (reports : List Report) (best : ℕ × ℤ) : Type 0 where
+  pub report : Report
+  pub is_there : Contains reports report
+  pub has_it : value_in id report ≡ Some best
+  pub none_is_greater : All (λ r. IfSome (value_in id r) (λ v. v.0 ≤ best.0)) reports
+
+-- the latest value is that of the report of greatest revision among those that have one, and there is none only where none of them has one
+pub record LatestIsOfGreatestRevision : Type 0 where
+  pub of_some : (id : ℤ) (reports : List Report) (best : ℕ × ℤ) → latest_of id reports ≡ Some best → IsOfGreatestRevision id reports best
+  pub of_none : (id : ℤ) (reports : List Report) → latest_of id reports ≡ None → All (λ r. value_in id r ≡ None) reports

@@ -1,5 +1,5 @@
 //! Laws of what is shown.
-ghost use Rattle.adr_view.specs.Laws.{SameContentsAreEqual, PartsSumUp, ShownIsOfTheView};
+ghost use Rattle.adr_view.specs.Laws.{SameContentsAreEqual, PartsSumUp, ShownIsOfTheView, LatestIsOfGreatestRevision};
 
 /// Two contents count as the same exactly where they are equal, so no change is missed or made up.
 pub fn same_contents_are_equal()
@@ -14,4 +14,9 @@ pub fn parts_sum_up()
 /// What is shown of an event is all that the view has at keys of it, where rows stand in order.
 pub fn shown_is_of_the_view()
     ensures { ShownIsOfTheView }
+{}
+
+/// The latest value is that of the report of greatest revision among those that have one.
+pub fn latest_is_of_greatest_revision()
+    ensures { LatestIsOfGreatestRevision }
 {}
