@@ -1,5 +1,5 @@
 -- What a command decides fits the base, and what a step makes of it: the one walk over the commands. The laws walk over the kinds of change.
-use Rattle.std.proofs.Common.{◌≡◌, ℕ, ◌≤◌, ◌+◌, Bool, true, false, cond, ◌==◌, List, [], ◌∷◌, Option, Some, None, Result, Ok, Err, IfOk, refl, ap, subst, arith}
+use Rattle.std.proofs.Common.{◌≡◌, ℕ, ◌≤◌, ◌+◌, Bool, true, false, cond, ◌==◌, ◌⊎◌, List, [], ◌∷◌, Option, Some, None, Result, Ok, Err, IfOk, refl, ap, subst, arith}
 use Rattle.std.specs.Prelude.{nat_lt, nat_le, is_some, IsSome, IfSome, option_map, option_and_then}
 use Rattle.std.specs.Option.{option_map_or}
 use Rattle.adr_laws.proofs.Common.{nat_cmp, unsigned_Decides, cond_both, Refusal, Base, at, ven_name, resource_name, is_taken, is_taken_by_another, is_full, BaseChange, JoinMarks, ChangePortfolio, changed, Command, Settings, State, step_at}
@@ -17,7 +17,7 @@ use Rattle.adr_state.specs.Digits.{number_in}
 use Rattle.adr_state.specs.Mirror.{evidence_of, joined}
 use Rattle.adr_state.specs.Weights.{most_weight}
 use Rattle.adr_state.specs.Stamping.{fresh, modified_at}
-use Rattle.adr_state.specs.Portfolios.{PortfolioChange, PutVen, PutResource, PutShare, DropShare}
+use Rattle.adr_state.specs.Portfolios.{PortfolioChange, PutVen, PutResource, PutShare, DropShare, PutReport}
 use Rattle.adr_state.specs.Evidence.{adds_beyond, joining, scan_with, open_scan, scan_end}
 use Rattle.adr_state.specs.Vens.{ven_with_id, ven_at, putting_ven}
 use Rattle.adr_state.specs.Resources.{resource_with_id, resource_at, is_under, resource_under, putting_resource}
@@ -27,7 +27,7 @@ use Rattle.adr_machine.specs.declared.command.Command.TheVariants.{Evidence, Gon
 use Rattle.adr_state.specs.Serials.{drawn}
 use Rattle.adr_machine.specs.Edits.{Decision, is_allowed, counted, of_portfolio, draws_number, decided, numbered, edit_of, edit}
 use Rattle.adr_machine.specs.Steps.{committed}
-use Rattle.adr_laws.specs.Laws.{HasVen, HasResource, evidence_in, HasWeight}
+use Rattle.adr_laws.specs.Laws.{HasVen, HasResource, evidence_in, HasWeight, HasReported}
 use Rattle.adr_laws.proofs.EditLemmas.{tested, first_then, found_then, new_then, free_then, whatever}
 use Rattle.adr_laws.proofs.NameLemmas.{Free, free_new, free_again}
 use Rattle.adr_laws.proofs.NumberLemmas.{IsNumber, serial_then}
@@ -38,6 +38,8 @@ abbrev pub FitsPortfolio : ℕ → Bool → Portfolio → PortfolioChange → Ty
 FitsPortfolio next draws p (PutVen n ven) = IsNumber next draws p.vens n × Free ven_name n ven.name p.vens
 FitsPortfolio next draws p (PutResource n resource) = IsNumber next draws p.resources n × Free resource_name n resource.name p.resources × HasVen p.vens (n, resource)
 FitsPortfolio next draws p (PutShare key weight) = HasResource p.resources (key, weight) × HasWeight (key, weight)
+FitsPortfolio next true p (PutReport n report) = (report.revision ≡ next) × ((n ≡ next) ⊎ IsSome (at nat_cmp n p.reports)) × HasReported p.resources (n, report)
+FitsPortfolio next false p (PutReport n report) = ⊥
 FitsPortfolio next draws p _ = Unit {0}
 
 abbrev pub FitsBase : ℕ → Bool → Base → BaseChange → Type 0

@@ -5,8 +5,8 @@ use Rattle.std.specs.Str.{bytes_eq}
 use Rattle.std.proofs.lemmas.List.Recursion.{or_at}
 use Rattle.std.proofs.lemmas.Slice.Eq.{bytes_eq-Decides}
 
--- no other row than that of the number has the name
-abbrev pub Free : {V : Type 0} → (V → List ℕ) → ℕ → List ℕ → List (ℕ × V) → Type 0
+-- no other row than that of the number has the name, or whatever names a row
+abbrev pub Free : {V X : Type 0} → (V → X) → ℕ → X → List (ℕ × V) → Type 0
 Free {V} name k x rows = (b : ℕ × V) → Contains rows b → x ≡ name b.1 → k ≡ b.0
 
 -- what is there fails a test that none passes

@@ -1,7 +1,7 @@
--- The numbers and the names of vens and of resources: each row has its own after a put, and where only some are left.
-use Rattle.std.proofs.Common.{◌≡◌, ℕ, ◌+◌, ◌≤◌, Bool, true, false, List, [], ◌∷◌, ◌++◌, ◌⊎◌, inl, inr, Less, sym, ap, subst, ◌∙◌, arith}
+-- The numbers and the names of vens, of resources and of reports: each row has its own after a put, and where only some are left.
+use Rattle.std.proofs.Common.{◌≡◌, ℕ, suc, ◌+◌, ◌≤◌, Bool, true, false, List, [], ◌∷◌, ◌++◌, ◌⊎◌, inl, inr, sym, ap, subst, ◌∙◌, arith}
 use Rattle.std.specs.Prelude.{◌≢◌, IsSome}
-use Rattle.adr_laws.proofs.Common.{All, AllPairs, Contains, IsStrictlySortedBy, nat_cmp, keys_of, insert_entry, unsigned_Decides, unsigned_tied, nat_cmp_total, ranked, All-head, All-tail, All-weaker, All-append, All-map, All-contains, All-contains_itself, sorted_tail, IsDistinct-from_sorted, exact_unsigned, All-after_first, at}
+use Rattle.adr_laws.proofs.Common.{All, AllPairs, Contains, nat_cmp, keys_of, insert_entry, unsigned_Decides, unsigned_tied, nat_cmp_total, All-head, All-tail, All-append, All-map, All-contains, All-contains_itself, IsDistinct-from_sorted, exact_unsigned, at}
 use Rattle.std.proofs.lemmas.Bool.Decides.{Decides-at}
 use Rattle.std.proofs.lemmas.List.Kept.{AllPairs-cons}
 use Rattle.std.proofs.lemmas.Map.Made.{AllPairs-from_IsDistinct}
@@ -31,18 +31,18 @@ pub record IsDrawn (first : ℕ) (had : List ℕ) (serial n : ℕ) : Type 0 wher
   pub up_to_the_serial : n ≤ serial
   pub was_there : n ≤ first → Contains had n
 
-still_drawn : {first serial next n : ℕ} {had : List ℕ} → serial ≤ next → IsDrawn first had serial n → IsDrawn first had next n
+pub still_drawn : {first serial next n : ℕ} {had : List ℕ} → serial ≤ next → IsDrawn first had serial n → IsDrawn first had next n
 still_drawn passed h = record { at_least_one = h.at_least_one; up_to_the_serial = omega (arith, h.up_to_the_serial); was_there = h.was_there }
 
 -- ---- rows of one kind
 
--- they stand in the order of their numbers, which were drawn, and no two have one name
-pub record HaveOwn {V : Type 0} (name : V → List ℕ) (first : ℕ) (had : List ℕ) (serial : ℕ) (rows : List (ℕ × V)) : Type 0 where
+-- they stand in the order of their numbers, which were drawn, and no two have one name, or whatever names a row
+pub record HaveOwn {V X : Type 0} (name : V → X) (first : ℕ) (had : List ℕ) (serial : ℕ) (rows : List (ℕ × V)) : Type 0 where
   pub in_order : InOrder nat_cmp rows
   pub drawn : (r : ℕ × V) → Contains rows r → IsDrawn first had serial r.0
   pub differ : (a b : ℕ × V) → Contains rows a → Contains rows b → name a.1 ≡ name b.1 → a.0 ≡ b.0
 
-module _ {V : Type 0} {name : V → List ℕ} {first : ℕ} {had : List ℕ} {serial : ℕ} {rows : List (ℕ × V)} (h : HaveOwn name first had serial rows) where
+module _ {V X : Type 0} {name : V → X} {first : ℕ} {had : List ℕ} {serial : ℕ} {rows : List (ℕ × V)} (h : HaveOwn name first had serial rows) where
   -- some of them, when more numbers were drawn
   pub some_own : {next : ℕ} (left : List (ℕ × V)) → serial ≤ next → InOrder nat_cmp left → ((r : ℕ × V) → Contains left r → Contains rows r) → HaveOwn name first had next left
   some_own left passed ordered from = record {
@@ -52,7 +52,7 @@ module _ {V : Type 0} {name : V → List ℕ} {first : ℕ} {had : List ℕ} {se
   }
 
   -- since the rows themselves
-  own_from_here : HaveOwn name serial (keys_of rows) serial rows
+  pub own_from_here : HaveOwn name serial (keys_of rows) serial rows
   own_from_here = record {
     in_order = h.in_order;
     drawn = λ r there.
@@ -61,28 +61,33 @@ module _ {V : Type 0} {name : V → List ℕ} {first : ℕ} {had : List ℕ} {se
     differ = h.differ;
   }
 
-  module _ (rose : first ≤ serial) (n : ℕ) (v : V) where
-    number_drawn : (draws : Bool) → IsNumber (serial + 1) draws rows n → IsDrawn first had (serial_then serial draws) n
-    number_drawn true next = record { at_least_one = omega arith; up_to_the_serial = omega arith; was_there = λ early. absurd (omega arith) }
-    number_drawn false found = let row = row_found n rows found in h.drawn (n, row.0) row.1
-
+  module _ (n : ℕ) (v : V) where
     names_differ : Free name n (name v) rows → (a b : ℕ × V) → Contains rows a ⊎ (a ≡ (n, v)) → Contains rows b ⊎ (b ≡ (n, v)) → name a.1 ≡ name b.1 → a.0 ≡ b.0
     names_differ free a b (inl x) (inl y) same = h.differ a b x y same
     names_differ free a b (inl x) (inr y) same = sym (ap (λ r. r.0) y ∙ free a x (sym (same ∙ ap (λ r. name r.1) y)))
     names_differ free a b (inr x) (inl y) same = ap (λ r. r.0) x ∙ free b y (sym (ap (λ r. name r.1) x) ∙ same)
     names_differ free a b (inr x) (inr y) same = ap (λ r. r.0) (x ∙ sym y)
 
-    put_own : (draws : Bool) → IsNumber (serial + 1) draws rows n → Free name n (name v) rows → HaveOwn name first had (serial_then serial draws) (insert_entry nat_cmp rows n v)
-    put_own draws number free =
+    -- one of a number that is drawn by then is put
+    pub put_drawn : {next : ℕ} → serial ≤ next → IsDrawn first had next n → Free name n (name v) rows → HaveOwn name first had next (insert_entry nat_cmp rows n v)
+    put_drawn {next} passed number free =
         let from = from_put exact_unsigned n v rows in
         record {
           in_order = in_order_put nat_cmp_total n v rows h.in_order;
           drawn = λ r there. elim (from r there) [
-            | inl old ↦ still_drawn (rises serial draws) (h.drawn r old)
-            | inr new ↦ subst (λ (x : ℕ × V). IsDrawn first had (serial_then serial draws) x.0) (sym new) (number_drawn draws number)
+            | inl old ↦ still_drawn passed (h.drawn r old)
+            | inr new ↦ subst (λ (x : ℕ × V). IsDrawn first had next x.0) (sym new) number
           ];
           differ = λ a b one other. names_differ free a b (from a one) (from b other);
         }
+
+  module _ (rose : first ≤ serial) (n : ℕ) (v : V) where
+    pub number_drawn : (draws : Bool) → IsNumber (serial + 1) draws rows n → IsDrawn first had (serial_then serial draws) n
+    number_drawn true next = record { at_least_one = omega arith; up_to_the_serial = omega arith; was_there = λ early. absurd (omega arith) }
+    number_drawn false found = let row = row_found n rows found in h.drawn (n, row.0) row.1
+
+    put_own : (draws : Bool) → IsNumber (serial + 1) draws rows n → Free name n (name v) rows → HaveOwn name first had (serial_then serial draws) (insert_entry nat_cmp rows n v)
+    put_own draws number free = put_drawn n v (rises serial draws) (number_drawn draws number) free
 
 -- ---- rows of two kinds
 
@@ -135,17 +140,29 @@ module _ {V W : Type 0} {name_v : V → List ℕ} {name_w : W → List ℕ} {fir
 pub each_number : {V : Type 0} (P : ℕ → Type 0) (rows : List (ℕ × V)) → ((r : ℕ × V) → Contains rows r → P r.0) → All P (keys_of rows)
 each_number P rows h = All-map P (λ r. r.0) rows (each_there (λ r. P r.0) rows h)
 
-pairs_differ : (ms ns : List ℕ) → IsStrictlySortedBy nat_cmp ms → IsStrictlySortedBy nat_cmp ns → All (λ m. All (λ n. m ≢ n) ns) ms → AllPairs (λ m n. m ≢ n) (ms ++ ns)
-pairs_differ [] ns one other apart = AllPairs-from_IsDistinct (λ m n. Decides-at _ _ (unsigned_tied m n) (unsigned_Decides m n)) ns (IsDistinct-from_sorted nat_cmp ns other)
-pairs_differ (m ∷ ms) ns one other apart =
+-- the numbers of rows in order
+pub rows_differ : {V : Type 0} (rows : List (ℕ × V)) → InOrder nat_cmp rows → AllPairs (λ m n. m ≢ n) (keys_of rows)
+rows_differ rows ordered = AllPairs-from_IsDistinct (λ m n. Decides-at _ _ (unsigned_tied m n) (unsigned_Decides m n)) (keys_of rows) (IsDistinct-from_sorted nat_cmp (keys_of rows) ordered)
+
+-- the first of them is none of those behind it, and of those no two are one
+behind : (m : ℕ) (ms : List ℕ) → AllPairs (λ m n. m ≢ n) (m ∷ ms) → All (λ n. m ≢ n) ms
+behind m ms apart k d lt = apart 0 (suc k) d (omega arith) (omega (arith, lt))
+
+those_behind : (m : ℕ) (ms : List ℕ) → AllPairs (λ m n. m ≢ n) (m ∷ ms) → AllPairs (λ m n. m ≢ n) ms
+those_behind m ms apart i j d less lt = apart (suc i) (suc j) d (omega (arith, less)) (omega (arith, lt))
+
+-- of two lists in each of which no two are one, where none of the one is of the other
+pub pairs_apart : (ms ns : List ℕ) → AllPairs (λ m n. m ≢ n) ms → AllPairs (λ m n. m ≢ n) ns → All (λ m. All (λ n. m ≢ n) ns) ms → AllPairs (λ m n. m ≢ n) (ms ++ ns)
+pairs_apart [] ns one other apart = other
+pairs_apart (m ∷ ms) ns one other apart =
     AllPairs-cons (λ m n. m ≢ n) m (ms ++ ns)
-    (All-append (λ n. m ≢ n) ms ns (All-weaker (λ n. nat_cmp m n ≡ Less) (λ n. m ≢ n) (λ n less same. omega (arith, ranked m n Less (sym less))) ms (All-after_first nat_cmp m ms one)) (All-head (λ m. All (λ n. m ≢ n) ns) m ms apart))
-    (pairs_differ ms ns (sorted_tail nat_cmp m ms one) other (All-tail (λ m. All (λ n. m ≢ n) ns) m ms apart))
+    (All-append (λ n. m ≢ n) ms ns (behind m ms one) (All-head (λ m. All (λ n. m ≢ n) ns) m ms apart))
+    (pairs_apart ms ns (those_behind m ms one) other (All-tail (λ m. All (λ n. m ≢ n) ns) m ms apart))
 
 module _ {V W : Type 0} {name_v : V → List ℕ} {name_w : W → List ℕ} {first : ℕ} {had_v had_w : List ℕ} {serial : ℕ} {vs : List (ℕ × V)} {ws : List (ℕ × W)} (h : BothOwn name_v name_w first had_v had_w serial vs ws) where
   -- no two rows of either kind have one number
   pub numbers_differ : AllPairs (λ m n. m ≢ n) (keys_of vs ++ keys_of ws)
-  numbers_differ = pairs_differ (keys_of vs) (keys_of ws) h.ones.in_order h.others.in_order (each_number (λ m. All (λ n. m ≢ n) (keys_of ws)) vs (λ v one. each_number (λ n. v.0 ≢ n) ws (λ w other. h.apart v w one other)))
+  numbers_differ = pairs_apart (keys_of vs) (keys_of ws) (rows_differ vs h.ones.in_order) (rows_differ ws h.others.in_order) (each_number (λ m. All (λ n. m ≢ n) (keys_of ws)) vs (λ v one. each_number (λ n. v.0 ≢ n) ws (λ w other. h.apart v w one other)))
 
   -- what holds of each number that was drawn
   pub each_drawn : (P : ℕ → Type 0) → ((n : ℕ) (had : List ℕ) → IsDrawn first had serial n → P n) → All P (keys_of vs ++ keys_of ws)

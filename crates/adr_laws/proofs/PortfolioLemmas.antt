@@ -1,21 +1,23 @@
--- After every step each resource has its ven, each share its resource and a weight, no two vens have one name, and no two resources; and each has a number of its own, that is drawn once.
-use Rattle.std.proofs.Common.{◌≡◌, ℕ, ◌+◌, ◌≤◌, Bool, true, false, not, ◌==◌, List, Option, Some, None, inl, inr, sym, subst, arith, refl}
+-- After every step each resource has its ven, each share its resource and a weight, each report its resource, no two vens have one name, and no two resources; and each ven, resource and report has a number of its own, that is drawn once.
+use Rattle.std.proofs.Common.{◌≡◌, ℕ, ◌+◌, ◌≤◌, Bool, true, false, not, ◌==◌, List, ◌++◌, filter, Option, Some, None, inl, inr, sym, subst, arith, refl}
 use Rattle.std.specs.Prelude.{IsSome}
-use Rattle.adr_laws.proofs.Common.{All, Contains, nat_cmp, keys_of, is_at, nat_cmp_total, eq_by_cmp_equiv, IsDistinct-from_sorted, exact_unsigned, Base, Settings, State, share_cmp, at, empty, ven_name, resource_name, BaseChange, JoinMarks, SetScan, ChangePortfolio, changed, Command, state_after, step_at}
+use Rattle.adr_laws.proofs.Common.{All, All-append, Contains, nat_cmp, keys_of, is_at, nat_cmp_total, eq_by_cmp_equiv, IsDistinct-from_sorted, exact_unsigned, Base, Settings, State, share_cmp, at, empty, ven_name, resource_name, BaseChange, JoinMarks, SetScan, ChangePortfolio, changed, Command, state_after, step_at}
 use Rattle.std.specs.Option.{option_map_or}
 use Rattle.std.proofs.lemmas.Map.Entries.{option_filter, lookup-filter-values}
 use Rattle.adr_state.specs.declared.portfolio.Portfolio.{Portfolio}
 use Rattle.adr_state.specs.declared.portfolio.Resource.{Resource}
 use Rattle.adr_state.specs.declared.keys.ShareKey.{ShareKey}
-use Rattle.adr_state.specs.Portfolios.{is_of_ven, PortfolioChange, PutVen, DropVen, PutResource, DropResource, PutShare, DropShare, portfolio_after}
+use Rattle.adr_state.specs.declared.portfolio.Report.{Report}
+use Rattle.adr_state.specs.Portfolios.{is_of_ven, reported_on, PortfolioChange, PutVen, DropVen, PutResource, DropResource, PutShare, DropShare, PutReport, DropReport, portfolio_after}
 use Rattle.adr_machine.specs.Edits.{draws_number}
 use Rattle.adr_laws.specs.Standing.{state_of}
-use Rattle.adr_laws.specs.Laws.{HasVen, HasResource, HasWeight, NamesDiffer, PortfolioIsWhole, RowsStandInOrder, AreDrawnOnce, NumbersAreOwn, NumbersAreDrawnOnce}
+use Rattle.adr_laws.specs.Laws.{HasVen, HasResource, HasWeight, HasReported, NamesDiffer, PortfolioIsWhole, RowsStandInOrder, AreDrawnOnce, NumbersAreOwn, RevisionsAreOwn, NumbersAreDrawnOnce}
 use Rattle.adr_laws.proofs.Decisions.{FitsPortfolio, FitsBase, after_step}
 use Rattle.adr_laws.proofs.MirrorLemmas.{mirror_in_order}
-use Rattle.adr_laws.proofs.NumberLemmas.{serial_then, rises, HaveOwn, BothOwn, none_own, turned, some_both, put_both, both_from_here, each_number, numbers_differ, each_drawn}
+use Rattle.adr_laws.proofs.NumberLemmas.{serial_then, rises, HaveOwn, BothOwn, none_own, turned, some_both, put_both, both_from_here, each_number, each_drawn}
+use Rattle.adr_laws.proofs.ReportLemmas.{HaveReports, is_one, one_put, no_reports, some_reports, later_reports, reports_from_here, put_reports, reports_differ}
 use Rattle.adr_view.proofs.KeyLemmas.{share_exact}
-use Rattle.adr_view.proofs.OrderLemmas.{in_order_removed, in_order_filtered}
+use Rattle.adr_view.proofs.OrderLemmas.{InOrder, in_order_removed, in_order_filtered}
 use Rattle.adr_view.proofs.RowLemmas.{each_there, from_put, from_removal, from_filter, found_after_put, found_after_removal}
 use Rattle.adr_laws.proofs.RunLemmas.{run_keeps, state_of-append}
 
@@ -24,36 +26,49 @@ of_another : (n : ℕ) (o : Option Resource) → IsSome o → not (option_map_or
 of_another n None found other = found
 of_another n (Some r) found other = rw other refl
 
+-- so a number that is found among the resources is found among those of other vens, where it is of none of the ven's
+still_found : (n m : ℕ) (resources : List (ℕ × Resource)) → InOrder nat_cmp resources → IsSome (at nat_cmp m resources) → not (is_of_ven n resources m) ≡ true → IsSome (at nat_cmp m (filter (λ r. not (r.1.ven == n)) resources))
+still_found n m resources sorted found other =
+    subst IsSome (sym (lookup-filter-values (eq_by_cmp_equiv nat_cmp_total) (λ r. not (r.ven == n)) m resources (IsDistinct-from_sorted nat_cmp (keys_of resources) sorted))) (of_another n (at nat_cmp m resources) found other)
+
 -- each resource has its ven, and each share its resource and a weight
 abbrev Stands : Portfolio → Type 0
 Stands p = ((r : ℕ × Resource) → Contains p.resources r → HasVen p.vens r) × ((s : ShareKey × ℕ) → Contains p.shares s → HasResource p.resources s) × ((s : ShareKey × ℕ) → Contains p.shares s → HasWeight s)
 
 module _ (first : Base) where
-  -- the portfolio stands, and its vens and resources have their own since the first, when the serial is that
+  -- the portfolio stands, and its vens, resources and reports have their own since the first, when the serial is that
   abbrev AreWhole : ℕ → Portfolio → Type 0
-  AreWhole serial p = BothOwn ven_name resource_name first.serial (keys_of first.portfolio.vens) (keys_of first.portfolio.resources) serial p.vens p.resources × Stands p
+  AreWhole serial p =
+      BothOwn ven_name resource_name first.serial (keys_of first.portfolio.vens) (keys_of first.portfolio.resources) serial p.vens p.resources
+      × Stands p × HaveReports first.serial (keys_of first.portfolio.reports) serial p.vens p.resources p.reports
 
   abbrev Whole : Base → Type 0
   Whole base = AreWhole base.serial base.portfolio
 
   -- more numbers were drawn
   later : (serial next : ℕ) (p : Portfolio) → serial ≤ next → AreWhole serial p → AreWhole next p
-  later serial next p passed h = (some_both h.0 p.vens p.resources passed h.0.ones.in_order (λ v there. there) h.0.others.in_order (λ r there. there), h.1)
+  later serial next p passed h = (some_both h.0 p.vens p.resources passed h.0.ones.in_order (λ v there. there) h.0.others.in_order (λ r there. there), h.1, later_reports h.2 passed)
 
   change_whole : (serial : ℕ) (draws : Bool) (p : Portfolio) (change : PortfolioChange) → FitsPortfolio (serial + 1) draws p change → AreWhole serial p → AreWhole (serial_then serial draws) (portfolio_after change p)
-  change_whole serial draws p (PutVen n ven) fits h = (put_both h.0 draws n ven fits.0 fits.1, (λ r there. found_after_put r.1.ven p.vens n ven (h.1.0 r there), h.1.1, h.1.2))
+  change_whole serial draws p (PutVen n ven) fits h = (
+    put_both h.0 draws n ven fits.0 fits.1,
+    (λ r there. found_after_put r.1.ven p.vens n ven (h.1.0 r there), h.1.1, h.1.2),
+    some_reports h.2 _ p.resources p.reports (rises serial draws) h.2.own.in_order (λ r there. there) (one_put serial draws n ven p.vens fits.0) (is_one serial p.resources) h.2.on_others,
+  )
   change_whole serial draws p (DropVen n) fits h =
       let left = from_filter (λ (r : ℕ × Resource). not (r.1.ven == n)) p.resources in
       let kept = from_filter (λ (s : ShareKey × ℕ). not (is_of_ven n p.resources s.0.resource)) p.shares in
+      let told = from_filter (λ (r : ℕ × Report). not (is_of_ven n p.resources (reported_on r))) p.reports in
       let sorted = h.0.others.in_order in (
         some_both h.0 _ _ (rises serial draws) (in_order_removed nat_cmp (is_at (nat_cmp n)) p.vens h.0.ones.in_order) (from_removal (is_at (nat_cmp n)) p.vens) (in_order_filtered nat_cmp (λ r. not (r.1.ven == n)) p.resources sorted) (λ r there. (left r there).0),
         (
           λ r there. found_after_removal r.1.ven p.vens n h.0.ones.in_order (left r there).1 (h.1.0 r (left r there).0),
-          λ s there.
-              subst IsSome (sym (lookup-filter-values (eq_by_cmp_equiv nat_cmp_total) (λ r. not (r.ven == n)) s.0.resource p.resources (IsDistinct-from_sorted nat_cmp (keys_of p.resources) sorted)))
-              (of_another n (at nat_cmp s.0.resource p.resources) (h.1.1 s (kept s there).0) (kept s there).1),
+          λ s there. still_found n s.0.resource p.resources sorted (h.1.1 s (kept s there).0) (kept s there).1,
           λ s there. h.1.2 s (kept s there).0,
         ),
+        some_reports h.2 _ _ _ (rises serial draws) (in_order_filtered nat_cmp (λ r. not (is_of_ven n p.resources (reported_on r))) p.reports h.2.own.in_order) (λ r there. (told r there).0)
+            (λ v there. is_one serial p.vens v (from_removal (is_at (nat_cmp n)) p.vens v there)) (λ r there. is_one serial p.resources r (left r there).0)
+            (λ r there. still_found n (reported_on r) p.resources sorted (h.2.on_others r (told r there).0) (told r there).1),
       )
   change_whole serial draws p (PutResource n resource) fits h = (
     turned (put_both (turned h.0) draws n resource fits.0 fits.1),
@@ -62,15 +77,21 @@ module _ (first : Base) where
       λ s there. found_after_put s.0.resource p.resources n resource (h.1.1 s there),
       h.1.2,
     ),
+    some_reports h.2 p.vens _ p.reports (rises serial draws) h.2.own.in_order (λ r there. there) (is_one serial p.vens) (one_put serial draws n resource p.resources fits.0)
+        (λ r there. found_after_put (reported_on r) p.resources n resource (h.2.on_others r there)),
   )
   change_whole serial draws p (DropResource n) fits h =
-      let kept = from_filter (λ (s : ShareKey × ℕ). not (s.0.resource == n)) p.shares in (
+      let kept = from_filter (λ (s : ShareKey × ℕ). not (s.0.resource == n)) p.shares in
+      let told = from_filter (λ (r : ℕ × Report). not (reported_on r == n)) p.reports in (
         some_both h.0 _ _ (rises serial draws) h.0.ones.in_order (λ v there. there) (in_order_removed nat_cmp (is_at (nat_cmp n)) p.resources h.0.others.in_order) (from_removal (is_at (nat_cmp n)) p.resources),
         (
           λ r there. h.1.0 r (from_removal (is_at (nat_cmp n)) p.resources r there),
           λ s there. found_after_removal s.0.resource p.resources n h.0.others.in_order (kept s there).1 (h.1.1 s (kept s there).0),
           λ s there. h.1.2 s (kept s there).0,
         ),
+        some_reports h.2 p.vens _ _ (rises serial draws) (in_order_filtered nat_cmp (λ r. not (reported_on r == n)) p.reports h.2.own.in_order) (λ r there. (told r there).0)
+            (is_one serial p.vens) (λ r there. is_one serial p.resources r (from_removal (is_at (nat_cmp n)) p.resources r there))
+            (λ r there. found_after_removal (reported_on r) p.resources n h.0.others.in_order (told r there).1 (h.2.on_others r (told r there).0)),
       )
   change_whole serial draws p (PutShare key weight) fits h =
       let same = later serial (serial_then serial draws) p (rises serial draws) h in
@@ -81,11 +102,26 @@ module _ (first : Base) where
           λ s there. elim (either s there) [ inl old ↦ h.1.1 s old | inr new ↦ subst (HasResource p.resources) (sym new) fits.0 ],
           λ s there. elim (either s there) [ inl old ↦ h.1.2 s old | inr new ↦ subst HasWeight (sym new) fits.1 ],
         ),
+        same.2,
       )
   change_whole serial draws p (DropShare key) fits h =
       let same = later serial (serial_then serial draws) p (rises serial draws) h in
       let left = from_removal (is_at (share_cmp key)) p.shares in
-      (same.0, (h.1.0, λ s there. h.1.1 s (left s there), λ s there. h.1.2 s (left s there)))
+      (same.0, (h.1.0, λ s there. h.1.1 s (left s there), λ s there. h.1.2 s (left s there)), same.2)
+  change_whole serial false p (PutReport n report) fits h = absurd fits
+  change_whole serial true p (PutReport n report) fits h =
+      let same = later serial (serial + 1) p (rises serial true) h in (
+        same.0,
+        h.1,
+        put_reports h.2 h.0.rose n report fits.0 fits.1 (λ v there. (h.0.ones.drawn v there).up_to_the_serial) (λ r there. (h.0.others.drawn r there).up_to_the_serial) fits.2,
+      )
+  change_whole serial draws p (DropReport n) fits h =
+      let same = later serial (serial_then serial draws) p (rises serial draws) h in
+      let left = from_removal (is_at (nat_cmp n)) p.reports in (
+        same.0,
+        h.1,
+        some_reports h.2 p.vens p.resources _ (rises serial draws) (in_order_removed nat_cmp (is_at (nat_cmp n)) p.reports h.2.own.in_order) left (is_one serial p.vens) (is_one serial p.resources) (λ r there. h.2.on_others r (left r there)),
+      )
 
   base_whole : (draws : Bool) (base : Base) (change : BaseChange) → FitsBase (base.serial + 1) draws base change → Whole base → AreWhole (serial_then base.serial draws) (changed change base).portfolio
   base_whole draws base (JoinMarks marks scan) fits h = later base.serial (serial_then base.serial draws) base.portfolio (rises base.serial draws) h
@@ -102,10 +138,10 @@ after settings cs = state_of (step_at settings) empty cs
 
 -- nothing is there at first
 whole_after : (settings : Settings) (cs : List (ℕ × Command)) → Whole empty.base (after settings cs).base
-whole_after settings cs = run_whole empty.base settings empty cs (none_own, (λ r none. absurd (omega (arith, none.1)), λ s none. absurd (omega (arith, none.1)), λ s none. absurd (omega (arith, none.1))))
+whole_after settings cs = run_whole empty.base settings empty cs (none_own, (λ r none. absurd (omega (arith, none.1)), λ s none. absurd (omega (arith, none.1)), λ s none. absurd (omega (arith, none.1))), no_reports)
 
 -- no two rows of those of one kind have one name
-all_differ : {V : Type 0} {name : V → List ℕ} {first : ℕ} {had : List ℕ} {serial : ℕ} (rows : List (ℕ × V)) → HaveOwn name first had serial rows → NamesDiffer name rows
+all_differ : {V X : Type 0} {name : V → X} {first : ℕ} {had : List ℕ} {serial : ℕ} (rows : List (ℕ × V)) → HaveOwn name first had serial rows → NamesDiffer name rows
 all_differ {name = name} rows own = each_there (λ a. All (λ b. name a.1 ≡ name b.1 → a.0 ≡ b.0) rows) rows (λ a one. each_there (λ b. name a.1 ≡ name b.1 → a.0 ≡ b.0) rows (λ b other. own.differ a b one other))
 
 pub portfolio_whole : PortfolioIsWhole
@@ -116,6 +152,7 @@ portfolio_whole settings cs =
       resources_have_vens = each_there (HasVen base.portfolio.vens) base.portfolio.resources h.1.0;
       shares_have_resources = each_there (HasResource base.portfolio.resources) base.portfolio.shares h.1.1;
       shares_have_weights = each_there HasWeight base.portfolio.shares h.1.2;
+      reports_have_resources = each_there (HasReported base.portfolio.resources) base.portfolio.reports h.2.on_others;
       ven_names_differ = all_differ base.portfolio.vens h.0.ones;
       resource_names_differ = all_differ base.portfolio.resources h.0.others;
     }
@@ -126,11 +163,22 @@ rows_in_order settings cs = record { upstream_keys = mirror_in_order settings cs
 pub numbers_own : NumbersAreOwn
 numbers_own settings cs =
     let base : Base = (after settings cs).base in
+    let both : List ℕ = keys_of base.portfolio.vens ++ keys_of base.portfolio.resources in
     let h : Whole empty.base base = whole_after settings cs in
     record {
-      at_least_one = each_drawn h.0 (λ n. 1 ≤ n) (λ n had drawn. drawn.at_least_one);
-      up_to_the_serial = each_drawn h.0 (λ n. n ≤ base.serial) (λ n had drawn. drawn.up_to_the_serial);
-      no_two_are_one = numbers_differ h.0;
+      at_least_one = All-append (λ n. 1 ≤ n) both (keys_of base.portfolio.reports) (each_drawn h.0 (λ n. 1 ≤ n) (λ n had drawn. drawn.at_least_one)) (each_number (λ n. 1 ≤ n) base.portfolio.reports (λ r there. (h.2.own.drawn r there).at_least_one));
+      up_to_the_serial = All-append (λ n. n ≤ base.serial) both (keys_of base.portfolio.reports) (each_drawn h.0 (λ n. n ≤ base.serial) (λ n had drawn. drawn.up_to_the_serial)) (each_number (λ n. n ≤ base.serial) base.portfolio.reports (λ r there. (h.2.own.drawn r there).up_to_the_serial));
+      no_two_are_one = reports_differ h.0 h.2;
+    }
+
+pub revisions_own : RevisionsAreOwn
+revisions_own settings cs =
+    let base : Base = (after settings cs).base in
+    let h : Whole empty.base base = whole_after settings cs in
+    record {
+      from_their_number = each_there (λ r. r.0 ≤ r.1.revision) base.portfolio.reports (λ r there. (h.2.revised r there).0);
+      up_to_the_serial = each_there (λ r. r.1.revision ≤ base.serial) base.portfolio.reports (λ r there. (h.2.revised r there).1);
+      no_two_are_one = all_differ base.portfolio.reports h.2.own;
     }
 
 pub numbers_drawn_once : NumbersAreDrawnOnce
@@ -138,9 +186,10 @@ numbers_drawn_once settings cs more =
     let s : State = after settings cs in
     let t : State = state_of (step_at settings) s more in
     let first : Whole empty.base s.base = whole_after settings cs in
-    let h : Whole s.base t.base = run_whole s.base settings s more (both_from_here first.0, first.1) in
+    let h : Whole s.base t.base = run_whole s.base settings s more (both_from_here first.0, first.1, reports_from_here first.2) in
     subst (λ (t : State). AreDrawnOnce s.base t.base) (sym (state_of-append (step_at settings) empty cs more)) (record {
       serial_never_falls = h.0.rose;
       vens_were_there = each_number (λ n. n ≤ s.base.serial → Contains (keys_of s.base.portfolio.vens) n) t.base.portfolio.vens (λ r there. (h.0.ones.drawn r there).was_there);
       resources_were_there = each_number (λ n. n ≤ s.base.serial → Contains (keys_of s.base.portfolio.resources) n) t.base.portfolio.resources (λ r there. (h.0.others.drawn r there).was_there);
+      reports_were_there = each_number (λ n. n ≤ s.base.serial → Contains (keys_of s.base.portfolio.reports) n) t.base.portfolio.reports (λ r there. (h.2.own.drawn r there).was_there);
     })

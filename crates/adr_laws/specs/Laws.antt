@@ -10,6 +10,7 @@ use Rattle.adr_objects.specs.declared.kind.Kind.{Kind}
 use Rattle.adr_state.specs.declared.base.Base.{Base}
 use Rattle.adr_state.specs.declared.portfolio.Ven.{Ven}
 use Rattle.adr_state.specs.declared.portfolio.Resource.{Resource}
+use Rattle.adr_state.specs.declared.portfolio.Report.{Report}
 use Rattle.adr_state.specs.declared.base.Mark.{Mark}
 use Rattle.adr_state.specs.declared.base.Mark.TheVariants.{Dead}
 use Rattle.adr_state.specs.declared.keys.MirrorKey.{MirrorKey}
@@ -22,6 +23,7 @@ use Rattle.adr_state.specs.Keys.{mirror_cmp, view_cmp, at}
 use Rattle.adr_state.specs.Marks.{is_below}
 use Rattle.adr_state.specs.Mirror.{evidence_of}
 use Rattle.adr_state.specs.Participants.{participants}
+use Rattle.adr_state.specs.Portfolios.{reported_on}
 use Rattle.adr_state.specs.States.{empty}
 use Rattle.adr_state.specs.Weights.{most_weight}
 use Rattle.adr_view.specs.declared.view.Content.{Content}
@@ -78,19 +80,24 @@ HasResource resources s = IsSome (at nat_cmp s.0.resource resources)
 abbrev pub HasWeight : ShareKey × ℕ → Type 0
 HasWeight s = (1 ≤ s.1) × (s.1 ≤ most_weight)
 
--- rows of one name have one number
-abbrev pub NamesDiffer : {V : Type 0} → (V → List ℕ) → List (ℕ × V) → Type 0
+-- the resource that a report is on is there
+abbrev pub HasReported : List (ℕ × Resource) → ℕ × Report → Type 0
+HasReported resources r = IsSome (at nat_cmp (reported_on r) resources)
+
+-- rows of one name, or of whatever names a row, have one number
+abbrev pub NamesDiffer : {V X : Type 0} → (V → X) → List (ℕ × V) → Type 0
 NamesDiffer name rows = All (λ a. All (λ b. name a.1 ≡ name b.1 → a.0 ≡ b.0) rows) rows
 
--- nothing is left of a ven or of a resource that is not there, each share has a weight within its bounds, and no two vens have one name, nor two resources
+-- nothing is left of a ven or of a resource that is not there, no resource, no share and no report; each share has a weight within its bounds, and no two vens have one name, nor two resources
 pub record IsWhole (base : Base) : Type 0 where
   pub resources_have_vens : All (HasVen base.portfolio.vens) base.portfolio.resources
   pub shares_have_resources : All (HasResource base.portfolio.resources) base.portfolio.shares
   pub shares_have_weights : All HasWeight base.portfolio.shares
+  pub reports_have_resources : All (HasReported base.portfolio.resources) base.portfolio.reports
   pub ven_names_differ : NamesDiffer (λ ven. ven.name) base.portfolio.vens
   pub resource_names_differ : NamesDiffer (λ resource. resource.name) base.portfolio.resources
 
--- after any run from an empty start, each resource has its ven, each share its resource and a weight, and names are unique
+-- after any run from an empty start, each resource has its ven, each share its resource and a weight, each report its resource, and names are unique
 abbrev pub PortfolioIsWhole : Type 0
 PortfolioIsWhole = (settings : Settings) (cs : List (ℕ × Command)) → IsWhole (state_of (step_at settings) empty cs).base
 
@@ -120,25 +127,36 @@ OnlyLiveEventsAreShown = (base : Base) (id : List ℕ) (resource : ℕ) → Stan
 
 -- ---- numbers
 
--- the numbers of the vens and of the resources
+-- the numbers of the vens, of the resources and of the reports
 abbrev pub numbers_of : Base → List ℕ
-numbers_of base = keys_of base.portfolio.vens ++ keys_of base.portfolio.resources
+numbers_of base = (keys_of base.portfolio.vens ++ keys_of base.portfolio.resources) ++ keys_of base.portfolio.reports
 
--- each number was drawn, and no two of them are one: not two vens', not two resources', nor a ven's and a resource's
+-- each number was drawn, and no two of them are one, neither of one kind nor of two
 pub record HaveOwnNumbers (base : Base) : Type 0 where
   pub at_least_one : All (λ n. 1 ≤ n) (numbers_of base)
   pub up_to_the_serial : All (λ n. n ≤ base.serial) (numbers_of base)
   pub no_two_are_one : AllPairs (λ m n. m ≢ n) (numbers_of base)
 
--- from one base to a later one the serial does not fall, and no number that was drawn before is drawn again: a ven or a resource that has one was there with it before
+-- from one base to a later one the serial does not fall, and no number that was drawn before is drawn again: a ven, a resource or a report that has one was there with it before
 pub record AreDrawnOnce (before after : Base) : Type 0 where
   pub serial_never_falls : before.serial ≤ after.serial
   pub vens_were_there : All (λ n. n ≤ before.serial → Contains (keys_of before.portfolio.vens) n) (keys_of after.portfolio.vens)
   pub resources_were_there : All (λ n. n ≤ before.serial → Contains (keys_of before.portfolio.resources) n) (keys_of after.portfolio.resources)
+  pub reports_were_there : All (λ n. n ≤ before.serial → Contains (keys_of before.portfolio.reports) n) (keys_of after.portfolio.reports)
 
--- after any run from an empty start, each ven and each resource has a number of its own, that was drawn
+-- after any run from an empty start, each ven, each resource and each report has a number of its own, that was drawn
 abbrev pub NumbersAreOwn : Type 0
 NumbersAreOwn = (settings : Settings) (cs : List (ℕ × Command)) → HaveOwnNumbers (state_of (step_at settings) empty cs).base
+
+-- the revision of a report is its number or was drawn later, and no two reports have one
+pub record HaveOwnRevisions (base : Base) : Type 0 where
+  pub from_their_number : All (λ r. r.0 ≤ r.1.revision) base.portfolio.reports
+  pub up_to_the_serial : All (λ r. r.1.revision ≤ base.serial) base.portfolio.reports
+  pub no_two_are_one : NamesDiffer (λ report. report.revision) base.portfolio.reports
+
+-- so it is after any run from an empty start
+abbrev pub RevisionsAreOwn : Type 0
+RevisionsAreOwn = (settings : Settings) (cs : List (ℕ × Command)) → HaveOwnRevisions (state_of (step_at settings) empty cs).base
 
 -- and whatever commands follow, none is drawn again
 abbrev pub NumbersAreDrawnOnce : Type 0

@@ -1,5 +1,5 @@
 //! Laws over whole runs.
-ghost use Rattle.adr_laws.specs.Laws.{MirrorIsGreatest, PortfolioIsWhole, RowsStandInOrder, ParticipantsLackNone, ShownPartsSumUp, ShownPartsSumUpAfterRuns, OnlyLiveEventsAreShown, ObjectsLackNone, ShownIsTold, NumbersAreOwn, NumbersAreDrawnOnce, StampsAreOfTheView, StampsAreInTime, RunsAreOfTheStepsThatStand};
+ghost use Rattle.adr_laws.specs.Laws.{MirrorIsGreatest, PortfolioIsWhole, RowsStandInOrder, ParticipantsLackNone, ShownPartsSumUp, ShownPartsSumUpAfterRuns, OnlyLiveEventsAreShown, ObjectsLackNone, ShownIsTold, NumbersAreOwn, RevisionsAreOwn, NumbersAreDrawnOnce, StampsAreOfTheView, StampsAreInTime, RunsAreOfTheStepsThatStand};
 
 /// After any run from an empty start, the mirror at a key is the greatest mark in all accepted evidence
 /// for it, whatever was lost, repeated or reordered.
@@ -8,8 +8,8 @@ pub fn mirror_is_greatest()
 {}
 
 /// After any run from an empty start, each resource has its ven and each share its resource, so nothing is
-/// left of what was removed; each share has a weight from 1 to 1,000,000; and no two vens have one name, nor
-/// two resources.
+/// left of what was removed, and no report is left on a resource that is not there; each share has a weight
+/// from 1 to 1,000,000; and no two vens have one name, nor two resources.
 pub fn portfolio_is_whole()
     ensures { PortfolioIsWhole }
 {}
@@ -39,10 +39,12 @@ pub fn only_live_events_are_shown()
     ensures { OnlyLiveEventsAreShown }
 {}
 
-/// After any run from an empty start, each ven and each resource has a number of its own, from 1 up to the
-/// serial; and whatever commands follow, the serial never falls and no number is drawn again.
+/// After any run from an empty start, each ven, each resource and each report has a number of its own, from 1
+/// up to the serial, and each report a revision of its own, which is its number or was drawn later; and whatever
+/// commands follow, the serial never falls and no number is drawn again.
 pub fn numbers_are_drawn_once()
     ensures own { NumbersAreOwn }
+    ensures revisions { RevisionsAreOwn }
     ensures once { NumbersAreDrawnOnce }
 {}
 

@@ -63,6 +63,7 @@ module _ (id : ℤ) where
       here : (start ≡ Some best) ⊎ (value_in id x ≡ Some best) → (start ≡ Some best) ⊎ ((report : Report) × Contains (x ∷ xs) report × (value_in id report ≡ Some best))
       here (inl is) = inl is
       here (inr is) = inr (x, (0, omega arith, refl), is)
+
       by : (later start (value_in id x) ≡ Some best) ⊎ ((report : Report) × Contains xs report × (value_in id report ≡ Some best))
           → (start ≡ Some best) ⊎ ((report : Report) × Contains (x ∷ xs) report × (value_in id report ≡ Some best))
       by (inl is) = here (later_is_one start (value_in id x) best is)

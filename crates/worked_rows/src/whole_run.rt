@@ -42,8 +42,5 @@ pub fn take_alike(
 ) -> Result<bool, Refusal> {
     let mut plain = PlainDesk::new(alloc, settings);
     let answers = run(alloc, &mut plain, steps)?;
-    Ok(
-        holds(alloc, &mut plain, image)?
-            && tables_take_so(alloc, again, steps, &answers, image)?,
-    )
+    Ok(holds(alloc, &mut plain, image)? && tables_take_so(alloc, again, steps, &answers, image)?)
 }
