@@ -29,7 +29,7 @@ pub record IsInterval (i : Interval) : Type 0 where
 -- at most 1,000 intervals, with ids of their own
 pub record AreIntervals (intervals : List Interval) : Type 0 where
   pub few : length intervals ≤ most_intervals
-  pub apart : IsTrue (differ intervals)
+  pub apart : IsTrue (differ (λ i. i.id) intervals)
   pub each : All IsInterval intervals
 
 -- at most 10,000 names of 1 to 128 bytes, ascending by bytes

@@ -15,7 +15,7 @@ use Rattle.adr_objects.specs.declared.body.EventBody.{EventBody}
 use Rattle.adr_objects.specs.declared.body.Body.{Body}
 use Rattle.adr_objects.specs.declared.body.Body.TheVariants.{Program, Event, Opaque}
 use Rattle.adr_objects.specs.Limits.{most_intervals}
-use Rattle.adr_objects.specs.Intervals.{differ}
+use Rattle.adr_objects.specs.Intervals.{apart}
 use Rattle.adr_objects.specs.NameSets.{name_set_of}
 use Rattle.adr_objects.specs.Fields.{text_in, priority_in, setpoint_in, period_in}
 
@@ -45,15 +45,11 @@ canonical_interval_in d = do
   setpoint ← optional (member_of (codes "setpoint") d) setpoint_in
   Ok (record { id = id; period = period; setpoint = setpoint })
 
--- intervals of which no two have one id
-abbrev pub apart : List Interval → Result (List Interval) Fault
-apart intervals = if differ intervals then Ok intervals else Err fault.Repeated
-
 -- at most 1,000 intervals
 abbrev pub canonical_intervals_in : Data → Result (List Interval) Fault
 canonical_intervals_in d = do
   ds ← items_in d
-  if nat_le (length ds) most_intervals then each canonical_interval_in ds >>= apart else Err fault.BadShape
+  if nat_le (length ds) most_intervals then each canonical_interval_in ds >>= apart (λ i. i.id) else Err fault.BadShape
 
 -- an event, whose intervals are always there
 unfoldable pub canonical_event_in : Data → Result EventBody Fault

@@ -134,7 +134,7 @@ impl Clone for EventBody {
             priority: self.priority,
             period: same_period(&self.period)?,
             resource_names: same_names(&self.resource_names)?,
-            intervals: self.intervals.copy()?,
+            intervals: self.intervals.clone()?,
         })
     }
 }

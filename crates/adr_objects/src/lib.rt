@@ -18,20 +18,20 @@ mod write_body;
 mod write_fields;
 
 pub use body::{Body, EventBody, Found, Reason, UpstreamId};
-pub use interval::{Interval, Intervals, Period, has_id};
+pub use interval::{HasId, Interval, IntervalList, Intervals, Period, has_id};
 pub use kind::Kind;
 pub use name_set::NameSet;
 pub use number::Number;
 pub use read_body::read_canonical;
 pub use report::{
     ReportBody, ReportHead, ReportName, ReportObject, Rollup, RollupInterval, RollupObject, Usage,
-    UsageInterval,
+    UsageInterval, UsageIntervals,
 };
 pub use setpoint::{Priority, Setpoint};
 pub use shown::{
     EventObject, ProgramObject, ResourceObject, ShareObject, ShownEvent, ShownInterval, Stamps,
     VenObject,
 };
-pub use site::{ResourceIn, ResourceName, ShareIn, VenIn};
+pub use site::{ReportIn, ResourceIn, ResourceName, ShareIn, VenIn};
 pub use text::{EventName, PeriodText, Text};
 pub use write_body::canonical;

@@ -1,15 +1,13 @@
 //! Canonical texts, read back.
-ghost use Rattle.std.specs.Prelude.{◌≡◌, ◌≤◌, length, map, codes};
+ghost use Rattle.std.specs.Prelude.{◌≡◌, map, codes};
 ghost use Rattle.serde_json.specs.View.{view};
 ghost use Rattle.adr_text.specs.Faults.{Finds};
 ghost use Rattle.adr_text.specs.Fields.{member_of, required};
 ghost use Rattle.adr_text.specs.Refusals.{Gives};
-ghost use Rattle.adr_objects.specs.Limits.{most_intervals};
-ghost use Rattle.adr_objects.specs.Intervals.{differ};
-ghost use Rattle.adr_objects.specs.ReadBack.{reason_at, reason_in, names_in, canonical_interval_in, apart, canonical_intervals_in, canonical_event_in, body_from, canonical_in, value_of_text, body_of_text, canonical_of};
+ghost use Rattle.adr_objects.specs.ReadBack.{reason_at, reason_in, names_in, canonical_interval_in, canonical_intervals_in, canonical_event_in, body_from, canonical_in, value_of_text, body_of_text, canonical_of};
 
 use crate::body::{Body, EventBody, Reason};
-use crate::interval::{Interval, Intervals, has_id};
+use crate::interval::{Interval, Intervals};
 use crate::name_set::NameSet;
 use adr_text::{Fault, FromJson, Name, Refusal, all, list, maybe, member, needed, whole};
 use serde_json::Value;
@@ -64,29 +62,6 @@ impl FromJson for Interval {
     }
 }
 
-fn differ(intervals: &[Interval]) -> bool
-    ensures { result ≡ differ intervals.now }
-{
-    for i in 0..intervals.len() {
-        let before = &intervals[..i];
-        if has_id(before, intervals[i].id) {
-            return false;
-        }
-    }
-    true
-}
-
-// Intervals of which no two have one id.
-fn apart(intervals: Vec<Interval>) -> Result<Intervals, Fault>
-    requires { length intervals.items ≤ most_intervals }
-    ensures { Finds (λ is. is) result (apart intervals.items) }
-{
-    if !differ(&intervals) {
-        return Err(Fault::Repeated);
-    }
-    Ok(Intervals::of(intervals))
-}
-
 // At most 1,000 intervals.
 fn intervals(alloc: Global, value: &Value) -> Result<Intervals, Fault>
     ensures { Finds (λ is. is) result (canonical_intervals_in (view value.now)) }
@@ -95,7 +70,7 @@ fn intervals(alloc: Global, value: &Value) -> Result<Intervals, Fault>
     if values.len() > 1000 {
         return Err(Fault::BadShape);
     }
-    apart(all(alloc, values)?)
+    Intervals::apart(all(alloc, values)?)
 }
 
 // The intervals of an event, which are always there.

@@ -1,6 +1,7 @@
 //! Reports of usage, and their roll-up.
 ghost use Rattle.std.specs.Prelude.{◌≡◌, IfOk};
 
+use crate::interval::{HasId, IntervalList};
 use crate::number::Number;
 use crate::setpoint::Setpoint;
 use crate::shown::Stamps;
@@ -19,6 +20,25 @@ pub type ReportName = Text<256>;
 pub struct UsageInterval {
     pub id: i32,
     pub usage: Option<Usage>,
+}
+
+impl HasId for UsageInterval {
+    ghost id_of = { λ i. i.id };
+
+    fn id(&self) -> i32 {
+        self.id
+    }
+}
+
+/// The intervals of a report, in the order in which they were posted.
+pub type UsageIntervals = IntervalList<UsageInterval>;
+
+impl Clone for UsageIntervals {
+    ghost is_clone = { λ x y. y ≡ x };
+
+    fn clone(&self) -> Result<UsageIntervals, AllocError> {
+        self.same()
+    }
 }
 
 /// What a report is about, and who made it.

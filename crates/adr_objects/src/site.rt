@@ -3,7 +3,8 @@ ghost use Rattle.std.specs.Prelude.{◌≡◌, IsTrue};
 ghost use Rattle.adr_text.specs.Faults.{Finds};
 ghost use Rattle.adr_objects.specs.Limits.{is_resource_name, resource_name_of};
 
-use adr_text::{Fault, Name, Refusal};
+use crate::report::{ReportName, UsageIntervals};
+use adr_text::{Fault, Name, ObjectId, Refusal};
 use std::alloc::Global;
 use std::marker::Model;
 
@@ -44,6 +45,23 @@ pub struct ResourceIn {
 #[derive(Clone, Copy, PartialEq, Eq)]
 pub struct ShareIn {
     pub share: u32,
+}
+
+/// A report as it is posted (OpenADR 3.0, REPORT).
+#[derive(Clone, Drop)]
+pub struct ReportIn {
+    /// programID
+    pub program: ObjectId,
+    /// eventID: the id of a shown event.
+    pub event: ObjectId,
+    /// clientName
+    pub client: Name,
+    /// reportName
+    pub name: Option<ReportName>,
+    /// resourceName of the one member of resources.
+    pub resource_name: Name,
+    /// intervals of that member, each with its `USAGE`, where it says one.
+    pub intervals: UsageIntervals,
 }
 
 impl ResourceName {

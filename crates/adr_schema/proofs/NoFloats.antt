@@ -1,5 +1,5 @@
 -- What is written has no float, so its text is `compact_text`.
-use Rattle.std.proofs.Common.{◌≡◌, ℕ, suc, ℤ, pos, negsuc, List, [], ◌∷◌, map, codes, Option, Some, None, option_map, false, refl, arith}
+use Rattle.std.proofs.Common.{◌≡◌, ℕ, suc, Bool, true, cond, ℤ, pos, negsuc, List, [], ◌∷◌, map, codes, Option, Some, None, option_map, false, refl, arith}
 use Rattle.std.proofs.lemmas.Bool.{or_from}
 use Rattle.serde_json.specs.Data.{Data, string}
 use Rattle.serde_json.specs.Written.{has_float}
@@ -14,8 +14,13 @@ use Rattle.adr_objects.specs.declared.shown.ProgramObject.{ProgramObject}
 use Rattle.adr_objects.specs.declared.shown.VenObject.{VenObject}
 use Rattle.adr_objects.specs.declared.shown.ResourceObject.{ResourceObject}
 use Rattle.adr_objects.specs.declared.shown.ShareObject.{ShareObject}
+use Rattle.adr_objects.specs.declared.report.UsageInterval.{UsageInterval}
+use Rattle.adr_objects.specs.declared.report.ReportObject.{ReportObject}
+use Rattle.adr_objects.specs.declared.report.RollupInterval.{RollupInterval}
+use Rattle.adr_objects.specs.declared.report.RollupObject.{RollupObject}
 use Rattle.adr_objects.specs.Canonical.{natural_data, period_fields, period_data}
 use Rattle.adr_schema.specs.Objects.{values_fields, values_data, payloads_data, shown_interval_fields, shown_interval_data, targets_data, event_object_fields, event_object_data, program_object_fields, program_object_data, ven_object_fields, ven_object_data, resource_object_fields, resource_object_data, share_object_fields, share_object_data, problem_fields, problem_data}
+use Rattle.adr_schema.specs.WrittenReports.{resource_fields, resources_data, usage_interval_fields, usage_interval_data, report_object_fields, report_object_data, sum_data, rollup_interval_fields, rollup_interval_data, rollup_object_fields, rollup_object_data}
 
 whole_plain : (n : ℕ) (z : ℤ) → IsPlain n (whole_data z)
 whole_plain n (pos k) = record { no_float = refl; flat = omega arith }
@@ -44,21 +49,24 @@ period_plain n p = object_of_plain n (period_fields p) (field_plain n string (st
 
 -- ---- an event
 
-values_plain : (n : ℕ) (type : List ℕ) (value : Data) → IsPlain n value → IsPlain (suc (suc n)) (values_data type (value ∷ []))
+values_plain : (n : ℕ) (type : List ℕ) (values : List Data) → IsPlain (suc n) (array_of values) → IsPlain (suc (suc n)) (values_data type values)
 unfolding values_data
-values_plain n type value h = object_of_plain (suc n) (values_fields type (value ∷ [])) (string_plain (suc n) type, (one_item_plain n value h, tt))
+values_plain n type values h = object_of_plain (suc n) (values_fields type (array_of values)) (string_plain (suc n) type, (h, tt))
 
-payloads_plain : (o : Option ℤ) → IsPlain 3 (payloads_data (option_map whole_data o))
-payloads_plain None = no_items_plain 2
-payloads_plain (Some z) = one_item_plain 2 _ (values_plain 0 (codes "DISPATCH_SETPOINT") (whole_data z) (whole_plain 0 z))
+one_value_plain : (n : ℕ) (type : List ℕ) (value : Data) → IsPlain n value → IsPlain (suc (suc n)) (values_data type (value ∷ []))
+one_value_plain n type value h = values_plain n type (value ∷ []) (one_item_plain n value h)
+
+payloads_plain : (type : List ℕ) (o : Option ℤ) → IsPlain 3 (payloads_data type (option_map whole_data o))
+payloads_plain type None = no_items_plain 2
+payloads_plain type (Some z) = one_item_plain 2 _ (one_value_plain 0 type (whole_data z) (whole_plain 0 z))
 
 shown_interval_plain : (i : ShownInterval) → IsPlain 4 (shown_interval_data i)
 unfolding shown_interval_data
-shown_interval_plain i = object_of_plain 3 (shown_interval_fields i) (whole_plain 3 i.id, (field_plain 3 period_data (period_plain 2) i.period, (payloads_plain i.part, tt)))
+shown_interval_plain i = object_of_plain 3 (shown_interval_fields i) (whole_plain 3 i.id, (field_plain 3 period_data (period_plain 2) i.period, (payloads_plain (codes "DISPATCH_SETPOINT") i.part, tt)))
 
 targets_plain : (ven resource : List ℕ) → IsPlain 5 (targets_data ven resource)
 targets_plain ven resource =
-    two_items_plain 4 _ _ (values_plain 2 (codes "VEN_NAME") (string ven) (string_plain 2 ven)) (values_plain 2 (codes "RESOURCE_NAME") (string resource) (string_plain 2 resource))
+    two_items_plain 4 _ _ (one_value_plain 2 (codes "VEN_NAME") (string ven) (string_plain 2 ven)) (one_value_plain 2 (codes "RESOURCE_NAME") (string resource) (string_plain 2 resource))
 
 event_object_plain : (e : EventObject) → IsPlain 6 (event_object_data e)
 unfolding event_object_data
@@ -103,6 +111,55 @@ problem_plain : (r : Refusal) → IsPlain 1 (problem_data r)
 unfolding problem_data
 problem_plain r = object_of_plain 0 (problem_fields r) (string_plain 0 _, (whole_plain 0 (pos (status_of r)), (string_plain 0 _, tt)))
 
+-- ---- reports and roll-ups
+
+resources_plain : (n : ℕ) (intervals : Data) (name : List ℕ) → IsPlain n intervals → IsPlain (suc (suc n)) (resources_data intervals name)
+unfolding resources_data
+resources_plain n intervals name h = one_item_plain (suc n) _ (object_of_plain n (resource_fields intervals name) (h, (string_plain n name, tt)))
+
+usage_interval_plain : (i : UsageInterval) → IsPlain 4 (usage_interval_data i)
+unfolding usage_interval_data
+usage_interval_plain i = object_of_plain 3 (usage_interval_fields i) (whole_plain 3 i.id, (payloads_plain (codes "USAGE") i.usage, tt))
+
+report_object_plain : (r : ReportObject) → IsPlain 8 (report_object_data r)
+unfolding report_object_data
+report_object_plain r =
+    object_of_plain 7 (report_object_fields r) (
+      string_plain 7 _,
+      (
+        string_plain 7 _,
+        (
+          string_plain 7 _,
+          (
+            string_plain 7 _,
+            (
+              string_plain 7 _,
+              (string_plain 7 _, (string_plain 7 _, (field_plain 7 string (string_plain 7) r.body.head.name, (resources_plain 5 _ r.body.head.resource_name (array_of_plain 4 usage_interval_data usage_interval_plain r.body.intervals), tt)))),
+            ),
+          ),
+        ),
+      ),
+    )
+
+sum_plain : (i : RollupInterval) → IsPlain 2 (sum_data i)
+sum_plain i = one_value_plain 0 (codes "USAGE") (whole_data i.sum) (whole_plain 0 i.sum)
+
+-- the sum, and those that are missing, where some are
+sum_and_missing_plain : (i : RollupInterval) (names : List (List ℕ)) (b : Bool) → IsPlain 3 (array_of (sum_data i ∷ cond b [] (values_data (codes "MISSING_RESOURCES") (map string names) ∷ [])))
+sum_and_missing_plain i names true = one_item_plain 2 _ (sum_plain i)
+sum_and_missing_plain i names false =
+    two_items_plain 2 _ _ (sum_plain i) (values_plain 0 (codes "MISSING_RESOURCES") (map string names) (array_of_plain 0 string (string_plain 0) names))
+
+rollup_interval_plain : (i : RollupInterval) → IsPlain 4 (rollup_interval_data i)
+unfolding rollup_interval_data
+rollup_interval_plain i = object_of_plain 3 (rollup_interval_fields i) (whole_plain 3 i.id, (sum_and_missing_plain i i.missing _, tt))
+
+rollup_object_plain : (r : RollupObject) → IsPlain 8 (rollup_object_data r)
+unfolding rollup_object_data
+rollup_object_plain r =
+    object_of_plain 7 (rollup_object_fields r)
+    (string_plain 7 _, (string_plain 7 _, (string_plain 7 _, (resources_plain 5 _ (codes "AGGREGATED_REPORT") (array_of_plain 4 rollup_interval_data rollup_interval_plain r.rollup.intervals), tt))))
+
 -- ---- none of them has a float
 
 pub event_object_whole : (e : EventObject) → has_float (event_object_data e) ≡ false
@@ -125,3 +182,9 @@ share_object_whole s = (share_object_plain s).no_float
 
 pub problem_whole : (r : Refusal) → has_float (problem_data r) ≡ false
 problem_whole r = (problem_plain r).no_float
+
+pub report_object_whole : (r : ReportObject) → has_float (report_object_data r) ≡ false
+report_object_whole r = (report_object_plain r).no_float
+
+pub rollup_object_whole : (r : RollupObject) → has_float (rollup_object_data r) ≡ false
+rollup_object_whole r = (rollup_object_plain r).no_float

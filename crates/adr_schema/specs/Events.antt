@@ -69,19 +69,24 @@ only_one [] = Ok None
 only_one (d ∷ []) = Ok (Some d)
 only_one (d ∷ e ∷ ds) = Err NotOne
 
--- the setpoint that a payload says
-abbrev pub setpoint_of : Data → Result ℤ Fault
-setpoint_of d = values_in d >>= one_of >>= setpoint_in
+-- the one value of a payload
+abbrev pub value_of : Data → Result Data Fault
+value_of d = values_in d >>= one_of
 
-abbrev pub setpoint_where : Option Data → Result (Option ℤ) Fault
-setpoint_where None = Ok None
-setpoint_where (Some d) = setpoint_of d >>= λ s. Ok (Some s)
+abbrev pub value_where : Option Data → Result (Option Data) Fault
+value_where None = Ok None
+value_where (Some d) = value_of d >>= λ value. Ok (Some value)
 
-unfoldable pub payloads_in : Data → Result (Option ℤ) Fault
-payloads_in d = do
+-- the one value of the only payload of that type, where there is one
+unfoldable pub only_value : List ℕ → Data → Result (Option Data) Fault
+only_value type d = do
   payloads ← typed_in d
-  only ← only_one (filter (is_of_type (codes "DISPATCH_SETPOINT")) payloads)
-  setpoint_where only
+  only ← only_one (filter (is_of_type type) payloads)
+  value_where only
+
+-- the setpoint that payloads say
+unfoldable pub payloads_in : Data → Result (Option ℤ) Fault
+payloads_in d = only_value (codes "DISPATCH_SETPOINT") d >>= λ value. optional value setpoint_in
 
 abbrev pub resource_target : Data → Bool
 resource_target d = is_of_type (codes "RESOURCE_NAME") d
@@ -113,7 +118,7 @@ targets_in d = typed_in d >>= names_among
 
 -- an id that is not used before
 abbrev pub fresh_id : List Interval → Data → Result ℤ Fault
-fresh_id before d = required (member_of (codes "id") d) i32_in >>= λ id. if has_id id before then Err Repeated else Ok id
+fresh_id before d = required (member_of (codes "id") d) i32_in >>= λ id. if has_id (λ i. i.id) id before then Err Repeated else Ok id
 
 -- one interval, where those before it are known
 unfoldable pub interval_in : List Interval → Data → Result Interval Fault

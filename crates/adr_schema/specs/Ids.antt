@@ -10,6 +10,10 @@ ven_id n = 118 ∷ decimal n
 abbrev pub resource_id : ℕ → List ℕ
 resource_id n = 114 ∷ decimal n
 
+-- p6
+abbrev pub report_id : ℕ → List ℕ
+report_id n = 112 ∷ decimal n
+
 -- r3-e1: what resource 3 is shown of the upstream event e1
 abbrev pub shown_id : ℕ → List ℕ → List ℕ
 shown_id resource event = resource_id resource ++ 45 ∷ event

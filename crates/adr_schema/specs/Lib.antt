@@ -4,5 +4,7 @@ pub mod Events
 pub mod Pages
 pub mod Notices
 pub mod Sites
+pub mod Reports
 pub mod Objects
+pub mod WrittenReports
 pub mod Laws

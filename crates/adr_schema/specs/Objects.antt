@@ -19,25 +19,25 @@ abbrev pub moment_data : ℕ → Data
 moment_data n = string (moment_text n)
 
 -- a payload or a target: a type and its values
-abbrev pub values_fields : List ℕ → List Data → List (List ℕ × Option Data)
+abbrev pub values_fields : List ℕ → Data → List (List ℕ × Option Data)
 values_fields type values =
     (codes "type", Some (string type))
-    ∷ (codes "values", Some (array_of values))
+    ∷ (codes "values", Some values)
     ∷ []
 
 unfoldable pub values_data : List ℕ → List Data → Data
-values_data type values = object_of (values_fields type values)
+values_data type values = object_of (values_fields type (array_of values))
 
--- the payloads of an interval: one setpoint where it has a part, else none
-abbrev pub payloads_data : Option Data → Data
-payloads_data None = array_of []
-payloads_data (Some part) = array_of (values_data (codes "DISPATCH_SETPOINT") (part ∷ []) ∷ [])
+-- the payloads of an interval: one of that type where there is a value for it, else none
+abbrev pub payloads_data : List ℕ → Option Data → Data
+payloads_data type None = array_of []
+payloads_data type (Some value) = array_of (values_data type (value ∷ []) ∷ [])
 
 abbrev pub shown_interval_fields : ShownInterval → List (List ℕ × Option Data)
 shown_interval_fields i =
     (codes "id", Some (whole_data i.id))
     ∷ (codes "intervalPeriod", option_map period_data i.period)
-    ∷ (codes "payloads", Some (payloads_data (option_map whole_data i.part)))
+    ∷ (codes "payloads", Some (payloads_data (codes "DISPATCH_SETPOINT") (option_map whole_data i.part)))
     ∷ []
 
 unfoldable pub shown_interval_data : ShownInterval → Data

@@ -1,6 +1,6 @@
 //! The texts of the ids that the node gives.
 ghost use Rattle.std.specs.Prelude.{◌≡◌, IfOk, string_bytes};
-ghost use Rattle.adr_schema.specs.Ids.{ven_id, resource_id, shown_id};
+ghost use Rattle.adr_schema.specs.Ids.{ven_id, resource_id, report_id, shown_id};
 
 use adr_objects::Number;
 use adr_text::ObjectId;
@@ -20,6 +20,14 @@ pub fn resource_id(alloc: Global, resource: Number) -> Result<String, AllocError
 {
     let number = resource.get();
     format!(in alloc; "r{number}")
+}
+
+/// The id of a report: `p` and its number.
+pub fn report_id(alloc: Global, report: Number) -> Result<String, AllocError>
+    ensures { IfOk result (λ s. string_bytes s ≡ report_id report) }
+{
+    let number = report.get();
+    format!(in alloc; "p{number}")
 }
 
 /// The id of what a resource is shown of an upstream event: the resource's, `-` and the event's.

@@ -4,11 +4,11 @@ ghost use Rattle.serde_json.specs.View.{view};
 ghost use Rattle.adr_text.specs.Faults.{Finds};
 ghost use Rattle.adr_text.specs.Fields.{member_of, optional};
 ghost use Rattle.adr_objects.specs.Intervals.{has_id, differ};
-ghost use Rattle.adr_schema.specs.Events.{values_in, one_of, setpoint_of, payloads_in, fresh_id, interval_in, intervals_from, intervals_in};
+ghost use Rattle.adr_schema.specs.Events.{payloads_in, fresh_id, interval_in, intervals_from, intervals_in};
 
-use crate::read_typed::{objects, only_of_type, typed};
+use crate::read_typed::{objects, only_value};
 use adr_objects::{Interval, Intervals, Setpoint, has_id};
-use adr_text::{Fault, FromJson, list, maybe, member, needed};
+use adr_text::{Fault, FromJson, maybe, member, needed};
 use serde_json::Value;
 use std::alloc::Global;
 use std::marker::Model;
@@ -27,41 +27,13 @@ impl Model for Payloads {
     ghost view = { λ a. a.setpoint };
 }
 
-// The values of a payload or a target.
-pub(crate) fn values_of(value: &Value) -> Result<&[Value], Fault>
-    ensures { Finds (λ vs. map view vs.now) result (values_in (view value.now)) }
-{
-    match member(value, "values") {
-        Some(found) => list(found),
-        None => Err(Fault::BadShape),
-    }
-}
-
-// Exactly one value.
-fn one_of(values: &[Value]) -> Result<&Value, Fault>
-    ensures { Finds (λ v. view v.now) result (one_of (map view values.now)) }
-{
-    match values {
-        [value] => Ok(value),
-        _ => Err(Fault::NotOne),
-    }
-}
-
-// The setpoint that a payload says.
-fn setpoint_of(alloc: Global, payload: &Value) -> Result<Setpoint, Fault>
-    ensures { Finds (λ s. s) result (setpoint_of (view payload.now)) }
-{
-    Setpoint::from_json(alloc, one_of(values_of(payload)?)?)
-}
-
 impl FromJson for Payloads {
     ghost of = { payloads_in };
 
     #[tactic(auto, unfolding(crate::specs::Events::payloads_in))]
     fn from_json(alloc: Global, value: &Value) -> Result<Payloads, Fault> {
-        let payloads = typed(value)?;
-        let setpoint = match only_of_type(payloads, "DISPATCH_SETPOINT")? {
-            Some(payload) => Some(setpoint_of(alloc, payload)?),
+        let setpoint = match only_value(value, "DISPATCH_SETPOINT")? {
+            Some(found) => Some(Setpoint::from_json(alloc, found)?),
             None => None,
         };
         Ok(Payloads { setpoint })
@@ -71,7 +43,7 @@ impl FromJson for Payloads {
 // An id that is not used before.
 fn fresh_id(alloc: Global, before: &[Interval], value: &Value) -> Result<i32, Fault>
     ensures id { Finds (λ id. id) result (fresh_id before.now (view value.now)) }
-    ensures fresh { IfOk result (λ id. has_id id before.now ≡ false) }
+    ensures fresh { IfOk result (λ id. has_id (λ i. i.id) id before.now ≡ false) }
 {
     let id = needed(alloc, value, "id")?;
     if has_id(before, id) {
@@ -84,7 +56,7 @@ fn fresh_id(alloc: Global, before: &[Interval], value: &Value) -> Result<i32, Fa
 #[tactic(auto, unfolding(crate::specs::Events::interval_in))]
 fn interval(alloc: Global, before: &[Interval], value: &Value) -> Result<Interval, Fault>
     ensures interval { Finds (λ i. i) result (interval_in before.now (view value.now)) }
-    ensures fresh { IfOk result (λ i. has_id i.id before.now ≡ false) }
+    ensures fresh { IfOk result (λ i. has_id (λ i. i.id) i.id before.now ≡ false) }
 {
     let id = fresh_id(alloc, before, value)?;
     let period = maybe(alloc, value, "intervalPeriod")?;
@@ -100,7 +72,7 @@ fn interval(alloc: Global, before: &[Interval], value: &Value) -> Result<Interva
 fn each_interval(alloc: Global, values: &[Value]) -> Result<Vec<Interval>, Fault>
     ensures items { Finds (λ v. v.items) result (intervals_from [] (map view values.now)) }
     ensures len { IfOk result (λ v. length v.items ≡ length values.now) }
-    ensures apart { IfOk result (λ v. IsTrue (differ v.items)) }
+    ensures apart { IfOk result (λ v. IsTrue (differ (λ i. i.id) v.items)) }
 {
     let mut intervals: Vec<Interval> = Vec::new(alloc);
     for v in values {

@@ -6,8 +6,7 @@ ghost use Rattle.adr_text.specs.Fields.{each};
 ghost use Rattle.adr_text.specs.Faults.{Finds};
 ghost use Rattle.adr_schema.specs.Events.{is_of_type, resource_target, names_of_target, all_names, names_among, targets_in};
 
-use crate::read_intervals::values_of;
-use crate::read_typed::{is_of_type, typed};
+use crate::read_typed::{is_of_type, typed, values_of};
 use adr_objects::NameSet;
 use adr_text::{Fault, FromJson, Name, all};
 use serde_json::Value;

@@ -3,7 +3,7 @@ ghost use Rattle.std.specs.Prelude.{◌≡◌, Ok, filter, map, option_map};
 ghost use Rattle.std.specs.List.{list_all};
 ghost use Rattle.serde_json.specs.View.{view};
 ghost use Rattle.adr_text.specs.Faults.{Finds};
-ghost use Rattle.adr_schema.specs.Events.{is_object, is_of_type, only_one, objects_in, text_at, typed_as, typed_in};
+ghost use Rattle.adr_schema.specs.Events.{is_object, is_of_type, only_one, objects_in, text_at, typed_as, typed_in, values_in, one_of, value_of, only_value};
 
 use adr_text::{Fault, list, member, text};
 use serde_json::Value;
@@ -83,4 +83,42 @@ pub(crate) fn only_of_type<'v>(values: &'v [Value], text: &str) -> Result<Option
         }
     }
     Ok(only)
+}
+
+// The values of a payload or a target.
+pub(crate) fn values_of(value: &Value) -> Result<&[Value], Fault>
+    ensures { Finds (λ vs. map view vs.now) result (values_in (view value.now)) }
+{
+    match member(value, "values") {
+        Some(found) => list(found),
+        None => Err(Fault::BadShape),
+    }
+}
+
+// Exactly one value.
+pub(crate) fn one_of(values: &[Value]) -> Result<&Value, Fault>
+    ensures { Finds (λ v. view v.now) result (one_of (map view values.now)) }
+{
+    match values {
+        [value] => Ok(value),
+        _ => Err(Fault::NotOne),
+    }
+}
+
+// The one value of a payload.
+fn value_of(payload: &Value) -> Result<&Value, Fault>
+    ensures { Finds (λ v. view v.now) result (value_of (view payload.now)) }
+{
+    one_of(values_of(payload)?)
+}
+
+// The one value of the only payload of that type, if there is one.
+#[tactic(auto, unfolding(crate::specs::Events::only_value))]
+pub(crate) fn only_value<'v>(payloads: &'v Value, kind: &str) -> Result<Option<&'v Value>, Fault>
+    ensures { Finds (option_map (λ v. view v.now)) result (only_value kind.now (view payloads.now)) }
+{
+    match only_of_type(typed(payloads)?, kind)? {
+        Some(payload) => Ok(Some(value_of(payload)?)),
+        None => Ok(None),
+    }
 }

@@ -1,11 +1,11 @@
 //! Objects, written as JSON.
-ghost use Rattle.std.specs.Prelude.{◌≡◌, [], ◌∷◌, map, IfOk, OnOk, option_map, string_bytes};
+ghost use Rattle.std.specs.Prelude.{◌≡◌, IfOk, OnOk, string_bytes};
 ghost use Rattle.serde_json.specs.View.{view, members_view};
-ghost use Rattle.adr_text.specs.Objects.{add_all, array_of, whole_data};
-ghost use Rattle.adr_schema.specs.Objects.{values_data, payloads_data, targets_data, shown_interval_data, event_object_head, event_object_tail, event_object_data, program_object_data, ven_object_data, resource_object_data, share_object_data, problem_data, event_text, events_text, program_text, ven_text, resource_text, share_text, problem_text};
+ghost use Rattle.adr_text.specs.Objects.{add_all};
+ghost use Rattle.adr_schema.specs.Objects.{targets_data, shown_interval_data, event_object_head, event_object_tail, event_object_data, program_object_data, ven_object_data, resource_object_data, share_object_data, problem_data, event_text, events_text, program_text, ven_text, resource_text, share_text, problem_text};
 
 use crate::ids::{resource_id, shown_id, ven_id};
-use crate::write_fields::{compact, put_text, valued};
+use crate::write_fields::{Written, compact, list_of, payloads, put_text, valued};
 use adr_objects::{
     EventObject, ProgramObject, ResourceObject, ShareObject, ShownInterval, VenObject,
 };
@@ -13,53 +13,19 @@ use adr_text::{Name, Refusal, ToJson, put, put_maybe};
 use serde_json::{Map, Value};
 use std::alloc::{AllocError, Global};
 
-// A list of one payload.
-fn one_payload(alloc: Global, kind: &str, value: Value) -> Result<Value, AllocError>
-    ensures { IfOk result (λ v. view v
-        ≡ array_of (values_data kind.now (view value ∷ []) ∷ [])) }
-{
-    let payload = valued(alloc, kind, value)?;
-    Ok(Value::Array(vec![in alloc; payload]?))
-}
-
-// The payloads of an interval: one setpoint where it has a part, else none.
-fn payloads(alloc: Global, part: &Option<i64>) -> Result<Value, AllocError>
-    ensures { IfOk result (λ v. view v ≡ payloads_data (option_map whole_data part.now)) }
-{
-    match part {
-        Some(part) => {
-            let part = *part;
-            one_payload(alloc, "DISPATCH_SETPOINT", Value::from(part))
-        }
-        None => Ok(Value::Array(Vec::new(alloc))),
-    }
-}
-
 // An interval with the resource's part.
-#[tactic(auto, unfolding(crate::specs::Objects::shown_interval_data))]
-fn shown_interval(alloc: Global, interval: &ShownInterval) -> Result<Value, AllocError>
-    ensures { IfOk result (λ v. view v ≡ shown_interval_data interval.now) }
-{
-    let mut members = Map::new(alloc);
-    put(&mut members, alloc, "id", &interval.id)?;
-    put_maybe(&mut members, alloc, "intervalPeriod", &interval.period)?;
-    serde_json::put(
-        &mut members,
-        alloc,
-        "payloads",
-        payloads(alloc, &interval.part)?,
-    )?;
-    Ok(Value::Object(members))
-}
+impl Written for ShownInterval {
+    ghost json = { shown_interval_data };
 
-fn shown_intervals(alloc: Global, intervals: &[ShownInterval]) -> Result<Value, AllocError>
-    ensures { IfOk result (λ v. view v ≡ array_of (map shown_interval_data intervals.now)) }
-{
-    let mut values = Vec::new(alloc);
-    for interval in intervals {
-        values.push(shown_interval(alloc, interval)?)?;
+    #[tactic(auto, unfolding(crate::specs::Objects::shown_interval_data))]
+    fn written(&self, alloc: Global) -> Result<Value, AllocError> {
+        let payloads = payloads(alloc, "DISPATCH_SETPOINT", self.part)?;
+        let mut members = Map::new(alloc);
+        put(&mut members, alloc, "id", &self.id)?;
+        put_maybe(&mut members, alloc, "intervalPeriod", &self.period)?;
+        serde_json::put(&mut members, alloc, "payloads", payloads)?;
+        Ok(Value::Object(members))
     }
-    Ok(Value::Array(values))
 }
 
 // Whose event it is: the ven's name, then the resource's.
@@ -81,7 +47,7 @@ fn put_head(
         ≡ add_all (members_view members.old.entries) (event_object_head event.now)) }
 {
     let id = shown_id(alloc, event.resource, &event.event)?;
-    let intervals = shown_intervals(alloc, event.shown.intervals.as_slice())?;
+    let intervals = list_of(alloc, event.shown.intervals.as_slice())?;
     put(members, alloc, "createdDateTime", &event.stamps.created)?;
     put_maybe(members, alloc, "eventName", &event.shown.name)?;
     put_text(members, alloc, "id", id.as_str())?;
@@ -111,24 +77,16 @@ fn put_tail(
     serde_json::put(members, alloc, "targets", targets)
 }
 
-#[tactic(auto, unfolding(crate::specs::Objects::event_object_data))]
-fn event_object(alloc: Global, event: &EventObject) -> Result<Value, AllocError>
-    ensures { IfOk result (λ v. view v ≡ event_object_data event.now) }
-{
-    let mut members = Map::new(alloc);
-    put_head(&mut members, alloc, event)?;
-    put_tail(&mut members, alloc, event)?;
-    Ok(Value::Object(members))
-}
+impl Written for EventObject {
+    ghost json = { event_object_data };
 
-fn event_objects(alloc: Global, events: &[EventObject]) -> Result<Value, AllocError>
-    ensures { IfOk result (λ v. view v ≡ array_of (map event_object_data events.now)) }
-{
-    let mut values = Vec::new(alloc);
-    for event in events {
-        values.push(event_object(alloc, event)?)?;
+    #[tactic(auto, unfolding(crate::specs::Objects::event_object_data))]
+    fn written(&self, alloc: Global) -> Result<Value, AllocError> {
+        let mut members = Map::new(alloc);
+        put_head(&mut members, alloc, self)?;
+        put_tail(&mut members, alloc, self)?;
+        Ok(Value::Object(members))
     }
-    Ok(Value::Array(values))
 }
 
 #[tactic(auto, unfolding(crate::specs::Objects::program_object_data))]
@@ -229,7 +187,7 @@ fn problem(alloc: Global, refusal: Refusal) -> Result<Value, AllocError>
 pub fn write_event(alloc: Global, event: &EventObject) -> Result<String, AllocError>
     ensures { IfOk result (λ s. string_bytes s ≡ event_text event.now) }
 {
-    compact(alloc, event_object(alloc, event)?)
+    compact(alloc, event.written(alloc)?)
 }
 
 /// The text of a list of events, in the order given.
@@ -237,7 +195,7 @@ pub fn write_event(alloc: Global, event: &EventObject) -> Result<String, AllocEr
 pub fn write_events(alloc: Global, events: &[EventObject]) -> Result<String, AllocError>
     ensures { IfOk result (λ s. string_bytes s ≡ events_text events.now) }
 {
-    compact(alloc, event_objects(alloc, events)?)
+    compact(alloc, list_of(alloc, events)?)
 }
 
 /// The text of a program (OpenADR 3.0, PROGRAM).

@@ -9,6 +9,6 @@ use Rattle.adr_schema.proofs.read_intervals.each_interval.Given as goal
 abbrev pub invariant-loop-v : goal.invariant-loop-v
 invariant-loop-v l = record {
   len : vec_len l.intervals ≡ l.v-index;
-  apart : IsTrue (differ l.intervals.items);
+  apart : IsTrue (differ (λ i. i.id) l.intervals.items);
   so_far : with_front l.intervals.items (intervals_from l.intervals.items (map view (drop l.v-index l.values))) ≡ intervals_from [] (map view l.values);
 }
