@@ -1,30 +1,20 @@
 //! What is shown of one upstream event.
 ghost use Rattle.std.specs.Prelude.{◌≡◌, IfOk, IfErr};
 ghost use Rattle.adr_sql.specs.Calls.{Stays};
-ghost use Rattle.adr_view.specs.Views.{rows_for, event_rows, event_key};
+ghost use Rattle.adr_view.specs.Views.{rows_for, event_rows};
 ghost use Rattle.adr_db.specs.Calls.{IsOfStore};
 ghost use Rattle.adr_db.specs.BaseCalls.{FindsOn};
 ghost use Rattle.adr_events.specs.Shown.{IsShown};
 
 use crate::mark::rows_known;
 use adr_db::read_known;
-use adr_objects::{EventBody, Kind};
+use adr_objects::EventBody;
 use adr_portfolio::named_participants;
-use adr_state::{MirrorKey, Participant, ViewKey};
+use adr_state::{Participant, ViewKey};
 use adr_text::{ObjectId, Refusal, Rows};
-use adr_view::{Content, carries, rows_for};
+use adr_view::{Content, carries, event_key, rows_for};
 use sqlite::{Alter, Transaction};
-use std::alloc::{AllocError, Global};
-
-// The upstream key of an event.
-fn event_key(id: &ObjectId) -> Result<MirrorKey, AllocError>
-    ensures { IfOk result (λ key. key ≡ event_key id.now) }
-{
-    Ok(MirrorKey {
-        kind: Kind::Event,
-        id: id.clone()?,
-    })
-}
+use std::alloc::Global;
 
 // What those who take part are shown. More of them than a node has resources is the store's refusal.
 fn rows_of(

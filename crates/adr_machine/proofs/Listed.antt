@@ -37,7 +37,8 @@ use Rattle.adr_machine.specs.declared.role.Role.TheVariants as role
 use Rattle.adr_machine.specs.Roles.{sight_by, sight_of}
 use Rattle.adr_machine.specs.Edits.{is_allowed, draws_number, of_portfolio, decided, edit_of, edit}
 use Rattle.adr_machine.specs.Listed.{listed, listed_for, is_of_machine, IsListed}
-use Rattle.adr_machine.specs.Shown.{told, resource_part, event_part, resource_named, event_shown, event_told, event_named}
+use Rattle.adr_state.specs.ShownIds.{resource_part, event_part, resource_named}
+use Rattle.adr_machine.specs.Shown.{told, event_shown, event_told, event_named}
 use Rattle.adr_machine.specs.Listings.{sees_ven, ven_told, resources_told, resource_told}
 use Rattle.adr_machine.specs.Runs.{AreListed}
 use Rattle.adr_machine.specs.Steps.{committed, step, reply, probes_reply}

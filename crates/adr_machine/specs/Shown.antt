@@ -1,10 +1,8 @@
 -- What a role is told of programs and events.
-use Rattle.std.specs.Prelude.{ℕ, ◌+◌, Bool, true, false, ◌&&◌, ◌==◌, List, drop, filter, Option, None, Some, option_map, option_and_then, Result, Ok, Err, if◌then◌else◌}
-use Rattle.std.specs.List.{filter_map, position, before_first}
+use Rattle.std.specs.Prelude.{ℕ, Bool, true, false, ◌&&◌, ◌==◌, List, filter, Option, None, Some, option_map, option_and_then, Result, Ok, Err, if◌then◌else◌}
+use Rattle.std.specs.List.{filter_map}
 use Rattle.std.specs.Option.{option_map_or}
 use Rattle.std.specs.Ordering.{nat_cmp}
-use Rattle.std.specs.Result.{result_ok}
-use Rattle.adr_text.specs.Ids.{id_of}
 use Rattle.adr_text.specs.Refusals.{◌>>=◌}
 use Rattle.adr_text.specs.declared.refusal.Refusal.{Refusal}
 use Rattle.adr_text.specs.declared.refusal.Refusal.TheVariants.{NotFound, Forbidden}
@@ -13,7 +11,6 @@ use Rattle.adr_objects.specs.declared.kind.Kind.TheVariants as kind
 use Rattle.adr_objects.specs.declared.shown.Stamps.{Stamps}
 use Rattle.adr_state.specs.declared.base.Base.{Base}
 use Rattle.adr_state.specs.declared.state.State.{State}
-use Rattle.adr_state.specs.declared.portfolio.Portfolio.{Portfolio}
 use Rattle.adr_state.specs.declared.portfolio.Resource.{Resource}
 use Rattle.adr_state.specs.declared.keys.ViewKey.{ViewKey}
 use Rattle.adr_state.specs.declared.keys.ViewKey.TheVariants as key
@@ -29,7 +26,7 @@ use Rattle.adr_machine.specs.declared.answer.Object.TheVariants as object
 use Rattle.adr_machine.specs.declared.answer.Answer.{Answer}
 use Rattle.adr_machine.specs.declared.answer.Answer.TheVariants as answer
 use Rattle.adr_state.specs.Keys.{view_cmp, at}
-use Rattle.adr_state.specs.Resources.{resource_with_id}
+use Rattle.adr_state.specs.ShownIds.{resource_part, event_part, id_in, resource_named}
 use Rattle.adr_view.specs.Views.{view}
 use Rattle.adr_machine.specs.Filters.{wanted_of}
 use Rattle.adr_machine.specs.Roles.{sight_of}
@@ -101,21 +98,6 @@ told (Some o) = Ok (answer.Object o)
 -- every ven sees each program
 abbrev pub program_reply : State → Role → List ℕ → Result Answer Refusal
 program_reply s role id = sight_of s.base role >>= λ sight. told (object_shown s (key.Program id))
-
--- what stands in an event id before its first `-`, and what behind it, where it has one
-abbrev pub resource_part : List ℕ → List ℕ
-resource_part id = before_first (λ b. b == 45) id
-
-abbrev pub event_part : List ℕ → Option (List ℕ)
-event_part id = option_map (λ i. drop (i + 1) id) (position (λ b. b == 45) id)
-
--- the object id that a text is
-abbrev pub id_in : List ℕ → Option (List ℕ)
-id_in text = result_ok (id_of text)
-
--- the resource that an event id names
-abbrev pub resource_named : Portfolio → List ℕ → Option (ℕ × Resource)
-resource_named p text = option_and_then (λ id. resource_with_id id p) (id_in text)
 
 -- what a resource is shown of the event that an event id names
 abbrev pub event_shown : State → ℕ → List ℕ → Option Object

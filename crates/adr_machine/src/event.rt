@@ -1,21 +1,20 @@
 //! Events, as they are listed, and one of them, by an id that names a resource and an event of the utility.
 ghost use Rattle.std.specs.Prelude.{◌≡◌, ◌≢◌, Ok, Err, IfOk, IfErr};
-ghost use Rattle.std.specs.Option.{option_copied};
 ghost use Rattle.adr_text.specs.declared.refusal.Refusal.TheVariants.{Store};
 ghost use Rattle.adr_text.specs.Refusals.{IsRefusalOf};
-ghost use Rattle.adr_machine.specs.Shown.{resource_part, event_part, id_in, event_shown, resource_named, event_told, events_reply, event_reply};
+ghost use Rattle.adr_state.specs.ShownIds.{resource_named};
+ghost use Rattle.adr_machine.specs.Shown.{event_shown, event_told, events_reply, event_reply};
 
 use crate::answer::{Answer, Object};
 use crate::filter::{EventFilter, wanted_of};
 use crate::page::page_of;
 use crate::query::Page;
-use crate::resource::resource_with_id;
 use crate::role::Role;
 use crate::shown::{object_shown, objects_in_sight, told};
 use crate::sight::{Sight, sight_of};
 use crate::ven::sees_ven;
 use adr_objects::{Kind, Number};
-use adr_state::{Portfolio, Resource, State, ViewKey};
+use adr_state::{State, ViewKey, id_in, id_parts, resource_named};
 use adr_text::{ObjectId, Refusal, Rows};
 use std::alloc::{AllocError, Global};
 
@@ -35,31 +34,6 @@ pub(crate) fn events_reply(
     let events = objects_in_sight(alloc, state, Kind::Event, sight)?;
     let wanted = wanted_of(alloc, filter, events)?;
     Ok(Answer::List(Rows::from_vec(page_of(alloc, page, wanted)?)))
-}
-
-/// The object id that the text is.
-pub fn id_in(alloc: Global, text: &str) -> Result<Option<ObjectId>, AllocError>
-    ensures { IfOk result (λ id. id ≡ id_in text.now) }
-{
-    match ObjectId::new(alloc, text) {
-        Ok(id) => Ok(Some(id)),
-        Err(Refusal::OutOfMemory) => Err(AllocError),
-        Err(_) => Ok(None),
-    }
-}
-
-/// The resource that the text before the first `-` names.
-fn resource_named(
-    alloc: Global,
-    portfolio: &Portfolio,
-    text: &str,
-) -> Result<Option<(Number, Resource)>, AllocError>
-    ensures { IfOk result (λ resource. resource ≡ resource_named portfolio.now text.now) }
-{
-    match id_in(alloc, text)? {
-        Some(id) => resource_with_id(&id, portfolio),
-        None => Ok(None),
-    }
 }
 
 /// What the resource is shown of the event that the text behind the `-` names.
@@ -96,17 +70,6 @@ fn event_told(
         return Err(Refusal::Forbidden);
     }
     told(event_shown(alloc, state, number, event)?)
-}
-
-/// The parts of an event id, before and behind its first `-`, where it has one.
-fn id_parts(id: &ObjectId) -> (&str, Option<&str>)
-    ensures front { result.0.now ≡ resource_part id.now }
-    ensures back { option_copied result.1 ≡ event_part id.now }
-{
-    match id.as_str().split_once('-') {
-        Some((resource, event)) => (resource, Some(event)),
-        None => (id.as_str(), None),
-    }
 }
 
 /// The event of an id; `Forbidden` where the id names a resource that is out of sight, and `NotFound`

@@ -30,7 +30,6 @@ pub use answer::{Answer, Object};
 pub use command::Command;
 pub use commit::answer_or_count;
 pub use desk::Desk;
-pub use event::id_in;
 pub use filter::{EventFilter, TargetFilter, wanted_of};
 pub use page::page_of;
 pub use plain::PlainDesk;

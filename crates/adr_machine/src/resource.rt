@@ -3,7 +3,7 @@ ghost use Rattle.std.specs.Prelude.{◌≡◌, ◌≢◌, Ok, Err, IfOk, IfErr, 
 ghost use Rattle.adr_text.specs.declared.refusal.Refusal.TheVariants.{Store};
 ghost use Rattle.adr_text.specs.Refusals.{IsRefusalOf};
 ghost use Rattle.adr_state.specs.Portfolios.{carried_out};
-ghost use Rattle.adr_state.specs.Resources.{resource_with_id, resource_at, is_under, resource_under, resource_object, resource_add, resource_put, resource_remove};
+ghost use Rattle.adr_state.specs.Resources.{resource_at, is_under, resource_under, resource_object, resource_add, resource_put, resource_remove};
 ghost use Rattle.adr_machine.specs.Listings.{resources_of, resources_told, resources_reply, resource_told, resource_reply};
 
 use crate::answer::{Answer, Object};
@@ -15,26 +15,10 @@ use crate::ven::{sees_ven, ven_at};
 use adr_objects::{Number, ResourceName, ResourceObject};
 use adr_state::{
     Base, Limits, Portfolio, Resource, check_free, check_new, fresh, is_taken, is_taken_by_another,
-    modified_at, number_in,
+    modified_at, number_in, resource_with_id,
 };
 use adr_text::{Moment, ObjectId, Refusal, Rows};
 use std::alloc::{AllocError, Global};
-
-/// The resource of that id, with its number.
-pub(crate) fn resource_with_id(
-    id: &ObjectId,
-    portfolio: &Portfolio,
-) -> Result<Option<(Number, Resource)>, AllocError>
-    ensures { IfOk result (λ resource. resource ≡ resource_with_id id.now portfolio.now) }
-{
-    let Some(number) = number_in(b'r', id) else {
-        return Ok(None);
-    };
-    match portfolio.resources.get(number) {
-        Some(resource) => Ok(Some((number, resource.clone()?))),
-        None => Ok(None),
-    }
-}
 
 /// The number of the resource of that id.
 pub(crate) fn resource_at(id: &ObjectId, portfolio: &Portfolio) -> Option<Number>

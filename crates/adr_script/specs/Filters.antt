@@ -8,7 +8,7 @@ use Rattle.adr_text.specs.Names.{name_of}
 use Rattle.adr_text.specs.Refusals.{◌>>=◌}
 use Rattle.adr_text.specs.declared.refusal.Refusal.{Refusal}
 use Rattle.adr_text.specs.declared.refusal.Refusal.TheVariants.{BadShape}
-use Rattle.adr_machine.specs.Shown.{id_in}
+use Rattle.adr_state.specs.ShownIds.{id_in}
 use Rattle.adr_machine.specs.declared.filter.EventFilter.{EventFilter}
 use Rattle.adr_machine.specs.declared.filter.TargetFilter.{TargetFilter}
 use Rattle.adr_machine.specs.declared.filter.TargetFilter.TheVariants.{Any, VenName, ResourceName, Other}

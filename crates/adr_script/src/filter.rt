@@ -6,8 +6,8 @@ ghost use Rattle.adr_text.specs.Refusals.{Gives};
 ghost use Rattle.adr_script.specs.Filters.{programs_of, program_filter, name_in, names_in, target_of, target_asked, target_filter, filter_asked};
 
 use crate::query::{only_one, values_of};
-use adr_machine::{EventFilter, TargetFilter, id_in};
-use adr_state::push_some;
+use adr_machine::{EventFilter, TargetFilter};
+use adr_state::{id_in, push_some};
 use adr_text::{Name, ObjectId, Refusal, Rows};
 use std::alloc::{AllocError, Global};
 use std::borrow::CowStr;

@@ -15,6 +15,7 @@ pub mod Stamping
 pub mod Evidence
 pub mod Vens
 pub mod Resources
+pub mod ShownIds
 pub mod Shares
 pub mod States
 pub mod Laws

@@ -15,6 +15,7 @@ mod participants;
 mod polled;
 mod portfolio;
 mod serial;
+mod shown_id;
 mod stamping;
 mod state;
 
@@ -29,5 +30,6 @@ pub use participants::{Participant, is_for, participants_of};
 pub use polled::{Polled, poll, probes};
 pub use portfolio::{Portfolio, Report, Resource, Resources, Ven, Weight};
 pub use serial::Serial;
+pub use shown_id::{id_in, id_parts, resource_named, resource_with_id};
 pub use stamping::{fresh, modified_at};
 pub use state::{Image, State};

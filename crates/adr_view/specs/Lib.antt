@@ -1,4 +1,5 @@
 pub mod Views
 pub mod Rollups
+pub mod Reports
 pub mod Changes
 pub mod Laws

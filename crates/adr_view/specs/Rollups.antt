@@ -1,22 +1,27 @@
 -- What the sites report of an upstream event: the latest value of each participant in an interval, and the roll-up of them all.
-use Rattle.std.specs.Prelude.{ℕ, ◌*◌, nat_lt, ◌==◌, ℤ, pos, ◌+ℤ◌, Bool, ◌&&◌, List, [], ◌∷◌, map, filter, fold, Option, None, Some, is_some, is_none, option_map, if◌then◌else◌}
+use Rattle.std.specs.Prelude.{ℕ, ◌*◌, nat_lt, ◌==◌, ℤ, pos, ◌+ℤ◌, Bool, ◌&&◌, List, [], ◌∷◌, map, filter, fold, Option, None, Some, is_some, is_none, option_map, option_and_then, if◌then◌else◌}
 use Rattle.std.specs.List.{list_any}
 use Rattle.std.specs.Ordering.{int_eq}
 use Rattle.std.specs.Str.{bytes_eq}
 use Rattle.std.specs.BTreeSet.{insert_key}
 use Rattle.adr_objects.specs.declared.interval.Interval.{Interval}
 use Rattle.adr_objects.specs.declared.body.EventBody.{EventBody}
+use Rattle.adr_objects.specs.declared.body.Body.TheVariants as body
 use Rattle.adr_objects.specs.declared.report.UsageInterval.{UsageInterval}
 use Rattle.adr_objects.specs.declared.report.RollupInterval.{RollupInterval}
 use Rattle.adr_objects.specs.declared.report.Rollup.{Rollup}
+use Rattle.adr_state.specs.declared.base.Base.{Base}
+use Rattle.adr_state.specs.declared.base.Mark.{Mark}
+use Rattle.adr_state.specs.declared.base.Mark.TheVariants.{Live, Dead}
 use Rattle.adr_state.specs.declared.portfolio.Portfolio.{Portfolio}
 use Rattle.adr_state.specs.declared.portfolio.Report.{Report}
 use Rattle.adr_state.specs.declared.participants.Participant.{Participant}
 use Rattle.adr_objects.specs.Limits.{most_setpoint}
 use Rattle.adr_state.specs.Weights.{most_resources}
-use Rattle.adr_state.specs.Keys.{id_cmp}
+use Rattle.adr_state.specs.Keys.{id_cmp, mirror_cmp, at}
 use Rattle.adr_state.specs.Participants.{participants}
 use Rattle.adr_view.specs.declared.rollup.Reporter.{Reporter}
+use Rattle.adr_view.specs.Views.{event_key}
 
 -- ---- the latest value
 
@@ -109,3 +114,18 @@ rollup_for event rs =
 -- the roll-up of an event over its participants
 abbrev pub rollup_of : Portfolio → List ℕ → EventBody → Option Rollup
 rollup_of p id event = rollup_for event (reporters (reports_of id p.reports) (participants p event))
+
+-- what an event says that is live upstream, where its body was read
+abbrev pub event_body : Option Mark → Option EventBody
+event_body None = None
+event_body (Some Dead) = None
+event_body (Some (Live moment (body.Program name))) = None
+event_body (Some (Live moment (body.Event event))) = Some event
+event_body (Some (Live moment (body.Opaque reason))) = None
+
+abbrev pub event_at : Base → List ℕ → Option EventBody
+event_at base id = event_body (at mirror_cmp (event_key id) base.mirror)
+
+-- the roll-up of an upstream event
+abbrev pub rollup_at : Base → List ℕ → Option Rollup
+rollup_at base id = option_and_then (rollup_of base.portfolio id) (event_at base id)

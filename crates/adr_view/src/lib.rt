@@ -5,11 +5,13 @@
 mod changes;
 pub mod laws;
 mod parts;
+mod report;
 mod rollup;
 mod view;
 mod view_map;
 
 pub use changes::{Change, Operation, changes_of, restamped};
-pub use rollup::{Reporter, reporters, rollup_for, rollup_of};
-pub use view::{Content, View, carries, put_rows, rows_for, view_of};
+pub use report::{Reported, fits, kept_report};
+pub use rollup::{Reporter, event_body, reporters, rollup_at, rollup_for, rollup_of};
+pub use view::{Content, View, carries, event_key, put_rows, rows_for, view_of};
 pub use view_map::row_at;

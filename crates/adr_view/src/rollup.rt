@@ -3,10 +3,15 @@ ghost use Rattle.std.specs.Prelude.{◌≡◌, ◌≤◌, ◌+◌, length, map, 
 ghost use Rattle.std.specs.List.{list_any};
 ghost use Rattle.adr_objects.specs.Limits.{most_setpoint};
 ghost use Rattle.adr_state.specs.Weights.{most_resources};
-ghost use Rattle.adr_view.specs.Rollups.{usage_in, value_in, later, latest_of, latest, reports_of, reports_on, reporter_of, reporters, most_sum, plus, sum_at, missing_at, rollup_interval, is_carried, has_value, is_reported, carried, rollup_for, rollup_of};
+ghost use Rattle.adr_view.specs.Rollups.{usage_in, value_in, later, latest_of, latest, reports_of, reports_on, reporter_of, reporters, most_sum, plus, sum_at, missing_at, rollup_interval, is_carried, has_value, is_reported, carried, rollup_for, rollup_of, event_body, rollup_at};
+ghost use Rattle.std.specs.Option.{option_copied};
+ghost use Rattle.adr_state.specs.Keys.{mirror_cmp, at};
 
-use adr_objects::{EventBody, Interval, Number, Rollup, RollupInterval, Usage, UsageInterval};
-use adr_state::{Participant, Portfolio, Report, participants_of};
+use crate::view::event_key;
+use adr_objects::{
+    Body, EventBody, Interval, Number, Rollup, RollupInterval, Usage, UsageInterval,
+};
+use adr_state::{Base, Mark, MirrorKey, Participant, Portfolio, Report, participants_of};
 use adr_text::{Name, ObjectId, Rows, Table};
 use std::alloc::{AllocError, Global};
 use std::collections::BTreeSet;
@@ -276,4 +281,37 @@ pub fn rollup_of(
     let reports = reports_of(alloc, id, &portfolio.reports)?;
     let rs = reporters(alloc, &reports, &ps)?;
     rollup_for(alloc, event, &rs)
+}
+
+/// What an event says that is live upstream, where its body was read.
+pub fn event_body(mark: Option<&Mark>) -> Option<&EventBody>
+    ensures { option_copied result ≡ event_body (option_copied mark) }
+{
+    match mark {
+        Some(Mark::Live(_, Body::Event(event))) => Some(event),
+        _ => None,
+    }
+}
+
+/// What is known of an upstream key.
+fn mark_at<'m>(mirror: &'m Table<MirrorKey, Mark>, key: &MirrorKey) -> Option<&'m Mark>
+    ensures { option_copied result ≡ at mirror_cmp key.now mirror.now }
+{
+    mirror.get(key)
+}
+
+/// The roll-up of an upstream event, where it is live, its body was read, and one of its participants has
+/// a value for an interval that carries a setpoint.
+pub fn rollup_at(
+    alloc: Global,
+    base: &Base,
+    id: &ObjectId,
+) -> Result<Option<Rollup>, AllocError>
+    ensures { IfOk result (λ rollup. rollup ≡ rollup_at base.now id.now) }
+{
+    let key = event_key(id)?;
+    match event_body(mark_at(&base.mirror, &key)) {
+        Some(event) => rollup_of(alloc, &base.portfolio, id, event),
+        None => Ok(None),
+    }
 }

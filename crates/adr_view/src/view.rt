@@ -3,7 +3,7 @@ ghost use Rattle.std.specs.Prelude.{◌≡◌, ◌≤◌, [], ◌∷◌, map, le
 ghost use Rattle.std.specs.List.{enumerate_from};
 ghost use Rattle.adr_state.specs.Weights.{most_resources};
 ghost use Rattle.adr_state.specs.Keys.{view_cmp, with_rows};
-ghost use Rattle.adr_view.specs.Views.{interval_at, event_row, rows_for, carries, event_rows, program_rows, body_rows, mark_rows, view};
+ghost use Rattle.adr_view.specs.Views.{interval_at, event_row, rows_for, event_key, carries, event_rows, program_rows, body_rows, mark_rows, view};
 
 use crate::parts::{SplitInterval, split_intervals, weights_of};
 use crate::view_map::put_row;
@@ -145,6 +145,16 @@ pub fn put_rows(view: &mut View, rows: Rows<(ViewKey, Content)>) -> Result<(), A
         put_row(view, row.0, row.1)?;
     }
     Ok(())
+}
+
+/// The upstream key of an event.
+pub fn event_key(id: &ObjectId) -> Result<MirrorKey, AllocError>
+    ensures { IfOk result (λ key. key ≡ event_key id.now) }
+{
+    Ok(MirrorKey {
+        kind: Kind::Event,
+        id: id.clone()?,
+    })
 }
 
 /// Whether some interval of an event carries a setpoint.

@@ -1,0 +1,80 @@
+-- Reports: the shown event that each is on, and what is decided of them.
+use Rattle.std.specs.Prelude.{ℕ, Bool, ◌&&◌, List, Option, Some, None, is_some, option_map, option_and_then, Result, Ok, Err, if◌then◌else◌}
+use Rattle.std.specs.Ordering.{nat_cmp}
+use Rattle.std.specs.Str.{bytes_eq}
+use Rattle.adr_text.specs.Refusals.{◌>>=◌, or_else}
+use Rattle.adr_text.specs.declared.refusal.Refusal.{Refusal}
+use Rattle.adr_text.specs.declared.refusal.Refusal.TheVariants.{NotFound, ResourceNotOfEvent, LimitReached}
+use Rattle.adr_objects.specs.declared.body.EventBody.{EventBody}
+use Rattle.adr_objects.specs.declared.site.ReportIn.{ReportIn}
+use Rattle.adr_state.specs.declared.base.Base.{Base}
+use Rattle.adr_state.specs.declared.limits.Limits.{Limits}
+use Rattle.adr_state.specs.declared.portfolio.Portfolio.{Portfolio}
+use Rattle.adr_state.specs.declared.portfolio.Resource.{Resource}
+use Rattle.adr_state.specs.declared.portfolio.Report.{Report}
+use Rattle.adr_state.specs.Digits.{number_in}
+use Rattle.adr_state.specs.Keys.{at}
+use Rattle.adr_state.specs.Names.{is_full}
+use Rattle.adr_state.specs.Participants.{participant_of}
+use Rattle.adr_state.specs.Portfolios.{PortfolioChange, PutReport, DropReport}
+use Rattle.adr_state.specs.ShownIds.{resource_part, event_part, id_in, resource_named}
+use Rattle.adr_view.specs.declared.report.Reported.{Reported}
+use Rattle.adr_view.specs.Views.{carries}
+use Rattle.adr_view.specs.Rollups.{event_at}
+
+-- ---- what a report is on
+
+-- whether an event is shown to a resource: it carries a setpoint, and the resource takes part in it
+abbrev pub is_shown_to : Portfolio → EventBody → ℕ × Resource → Bool
+is_shown_to p event r = carries event && is_some (participant_of p event r)
+
+-- an upstream event and a resource, where the event is shown to it
+abbrev pub reported_of : Portfolio → ℕ × Resource → List ℕ → EventBody → Option Reported
+reported_of p r id event = if is_shown_to p event r then Some (record { event = id; program = event.program; resource = r.0; resource_name = r.1.name }) else None
+
+abbrev pub reported_by : Base → List ℕ → ℕ × Resource → Option Reported
+reported_by base id r = option_and_then (reported_of base.portfolio r id) (event_at base id)
+
+-- by the two parts of the id of a shown event
+abbrev pub reported_in : Base → List ℕ → List ℕ → Option Reported
+reported_in base resource event = option_and_then (λ r. option_and_then (λ id. reported_by base id r) (id_in event)) (resource_named base.portfolio resource)
+
+-- the shown event of an id, where it is there; an id without `-` is none
+abbrev pub reported : Base → List ℕ → Option Reported
+reported base id = option_and_then (reported_in base (resource_part id)) (event_part id)
+
+-- whether a report names the resource and the program of the event that it is on
+abbrev pub fits : Reported → ReportIn → Bool
+fits on report = bytes_eq report.resource_name on.resource_name && bytes_eq report.program on.program
+
+-- a report as it is kept, with its revision
+abbrev pub kept_report : ℕ → Reported → ReportIn → Report
+kept_report revision on report = record {
+  revision = revision;
+  body = record {
+    head = record { program = report.program; event = on.event; resource = on.resource; client = report.client; name = report.name; resource_name = report.resource_name };
+    intervals = report.intervals;
+  };
+}
+
+-- ---- what is decided
+
+-- the event that a report is on, which is there and which it fits
+abbrev pub report_on : Base → ReportIn → Result Reported Refusal
+report_on base report = or_else NotFound (reported base report.event) >>= λ on. if fits on report then Ok on else Err ResourceNotOfEvent
+
+-- the report of an id, with its number
+abbrev pub report_with_id : List ℕ → Portfolio → Option (ℕ × Report)
+report_with_id id p = option_and_then (λ n. option_map (λ r. (n, r)) (at nat_cmp n p.reports)) (number_in 112 id)
+
+-- a new report, under the number that is handed in, which is its revision too; its number is answered
+abbrev pub report_post : Limits → ℕ → ReportIn → Base → Result (ℕ × PortfolioChange) Refusal
+report_post limits n report base = report_on base report >>= λ on. if is_full limits.reports base.portfolio.reports then Err LimitReached else Ok (n, PutReport n (kept_report n on report))
+
+-- the report of an id says this from now on, with the number that is handed in as its revision; it may be on another event
+abbrev pub report_put : ℕ → List ℕ → ReportIn → Base → Result (ℕ × PortfolioChange) Refusal
+report_put n id report base = or_else NotFound (report_with_id id base.portfolio) >>= λ old. report_on base report >>= λ on. Ok (old.0, PutReport old.0 (kept_report n on report))
+
+-- the report of an id goes
+abbrev pub report_delete : List ℕ → Base → Result (ℕ × PortfolioChange) Refusal
+report_delete id base = or_else NotFound (report_with_id id base.portfolio) >>= λ old. Ok (old.0, DropReport old.0)
