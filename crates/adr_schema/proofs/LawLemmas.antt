@@ -284,9 +284,13 @@ posted_apart d ps h =
 
 -- ---- a report
 
+abbrev report_7 : List ℕ → List ℕ → List ℕ → Option (List ℕ) → List ℕ → List PostedInterval → PostedReport
+report_7 program event client name resource_name intervals =
+    record { program = program; event = event; client = client; name = name; resource_name = resource_name; intervals = intervals }
+
 abbrev report_6 : List ℕ → List ℕ → List ℕ → Option (List ℕ) → Data → List ℕ → Result PostedReport Fault
 report_6 program event client name resource resource_name =
-    required (member_of (codes "intervals") resource) posted_intervals_in >>= λ intervals. Ok (record { program = program; event = event; client = client; name = name; resource_name = resource_name; intervals = intervals })
+    required (member_of (codes "intervals") resource) posted_intervals_in >>= λ intervals. Ok (report_7 program event client name resource_name intervals)
 
 abbrev report_5 : List ℕ → List ℕ → List ℕ → Option (List ℕ) → Data → Result PostedReport Fault
 report_5 program event client name resource = required (member_of (codes "resourceName") resource) name_in >>= report_6 program event client name resource
@@ -313,8 +317,9 @@ posted_report_apart d p h =
     let resource = followed (resource_of_report d) (report_5 program.first event.first client.first name.first) p name.then in
     let resource_name = followed (required (member_of (codes "resourceName") resource.first) name_in) (report_6 program.first event.first client.first name.first resource.first) p resource.then in
     let intervals = followed (required (member_of (codes "intervals") resource.first) posted_intervals_in)
-    (λ intervals. Ok (record { program = program.first; event = event.first; client = client.first; name = name.first; resource_name = resource_name.first; intervals = intervals })) p resource_name.then in
-    with_intervals _ p (same_Some _ p (ap result_ok intervals.then)) (required_holds (λ ps. differ (λ i. i.id) ps ≡ true) (member_of (codes "intervals") resource.first) posted_intervals_in intervals.first posted_apart intervals.was)
+    (λ intervals. Ok (report_7 program.first event.first client.first name.first resource_name.first intervals)) p resource_name.then in
+    let read = report_7 program.first event.first client.first name.first resource_name.first intervals.first in
+    with_intervals read p (same_Some read p (ap result_ok intervals.then)) (required_holds (λ ps. differ (λ i. i.id) ps ≡ true) (member_of (codes "intervals") resource.first) posted_intervals_in intervals.first posted_apart intervals.was)
   where
     with_intervals : (a b : PostedReport) → a ≡ b → differ (λ i. i.id) a.intervals ≡ true → differ (λ i. i.id) b.intervals ≡ true
     with_intervals a b same h = rw (← same) h

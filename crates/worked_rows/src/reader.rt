@@ -1,6 +1,12 @@
 //! The readers of texts, and what each makes of one, as a line.
-use adr_objects::{Found, Kind, canonical, read_canonical};
-use adr_schema::{NoticeIn, read_notice, read_one, read_page, read_resource, read_share, read_ven};
+use adr_objects::{
+    Found, Kind, Number, ReportBody, ReportHead, ReportIn, ReportObject, Stamps, canonical,
+    read_canonical,
+};
+use adr_schema::{
+    NoticeIn, read_notice, read_one, read_page, read_report, read_resource, read_share, read_ven,
+    write_report,
+};
 use adr_text::{Fault, Moment, Name, ObjectId, Refusal, Whole, read_value, whole};
 use std::alloc::{AllocError, Global};
 use std::str::from_utf8;
@@ -15,6 +21,7 @@ pub enum Reader {
     Ven,
     Resource,
     Share,
+    Report,
     Moment,
     ObjectId,
     Name,
@@ -35,6 +42,7 @@ impl Reader {
             "ven" => Some(Reader::Ven),
             "resource" => Some(Reader::Resource),
             "share" => Some(Reader::Share),
+            "report" => Some(Reader::Report),
             "moment" => Some(Reader::Moment),
             "object id" => Some(Reader::ObjectId),
             "name" => Some(Reader::Name),
@@ -112,6 +120,40 @@ fn share_line(alloc: Global, text: &[u8]) -> Result<String, Refusal> {
     Ok(format!(in alloc; "{share}")?)
 }
 
+/// What is kept of a report, as one of resource 3 about the upstream event of that id.
+fn body_of(report: ReportIn) -> ReportBody {
+    ReportBody {
+        head: ReportHead {
+            program: report.program,
+            event: report.event,
+            resource: Number::new(3),
+            client: report.client,
+            name: report.name,
+            resource_name: report.resource_name,
+        },
+        intervals: report.intervals.into_rows(),
+    }
+}
+
+/// The report as it is written, with the number 6.
+fn report_line(alloc: Global, text: &[u8]) -> Result<String, Refusal> {
+    let body = body_of(read_report(alloc, text)?);
+    let moment = Moment::read("2024-07-01T10:00:00Z")?;
+    let stamps = Stamps {
+        created: moment,
+        modified: moment,
+    };
+    let number = Number::new(6);
+    Ok(write_report(
+        alloc,
+        &ReportObject {
+            number,
+            body,
+            stamps,
+        },
+    )?)
+}
+
 /// The text, where it is UTF-8.
 fn text_of(text: &[u8]) -> Result<&str, Refusal> {
     from_utf8(text).map_err(|_| Refusal::BadShape)
@@ -147,6 +189,7 @@ fn line(alloc: Global, reader: Reader, text: &[u8]) -> Result<String, Refusal> {
         Reader::Ven => ven_line(alloc, text),
         Reader::Resource => resource_line(alloc, text),
         Reader::Share => share_line(alloc, text),
+        Reader::Report => report_line(alloc, text),
         Reader::Moment => Ok(Moment::read(text_of(text)?)?.text(alloc)?),
         Reader::ObjectId => id_line(alloc, text),
         Reader::Name => name_line(alloc, text),
