@@ -44,11 +44,7 @@ fn head_of(on: &Reported, report: &ReportIn) -> Result<ReportHead, AllocError>
 }
 
 /// A report as it is kept, with its revision.
-pub fn kept_report(
-    revision: Number,
-    on: &Reported,
-    report: &ReportIn,
-) -> Result<Report, AllocError>
+pub fn kept_report(revision: Number, on: &Reported, report: &ReportIn) -> Result<Report, AllocError>
     ensures { IfOk result (λ kept. kept ≡ kept_report revision on.now report.now) }
 {
     Ok(Report {

@@ -285,7 +285,7 @@ pub fn rollup_of(
 
 /// What an event says that is live upstream, where its body was read.
 pub fn event_body(mark: Option<&Mark>) -> Option<&EventBody>
-    ensures { option_copied result ≡ event_body (option_copied mark) }
+    ensures { option_copied result ≡ event_body (option_copied mark.entry) }
 {
     match mark {
         Some(Mark::Live(_, Body::Event(event))) => Some(event),
@@ -302,11 +302,7 @@ fn mark_at<'m>(mirror: &'m Table<MirrorKey, Mark>, key: &MirrorKey) -> Option<&'
 
 /// The roll-up of an upstream event, where it is live, its body was read, and one of its participants has
 /// a value for an interval that carries a setpoint.
-pub fn rollup_at(
-    alloc: Global,
-    base: &Base,
-    id: &ObjectId,
-) -> Result<Option<Rollup>, AllocError>
+pub fn rollup_at(alloc: Global, base: &Base, id: &ObjectId) -> Result<Option<Rollup>, AllocError>
     ensures { IfOk result (λ rollup. rollup ≡ rollup_at base.now id.now) }
 {
     let key = event_key(id)?;
