@@ -7,7 +7,8 @@ use Rattle.adr_text.specs.declared.refusal.Refusal.{Refusal}
 use Rattle.adr_text.specs.declared.refusal.Refusal.TheVariants.{NotFound, ResourceNotOfEvent, LimitReached}
 use Rattle.adr_objects.specs.declared.body.EventBody.{EventBody}
 use Rattle.adr_objects.specs.declared.site.ReportIn.{ReportIn}
-use Rattle.adr_state.specs.declared.base.Base.{Base}
+use Rattle.adr_state.specs.declared.base.Mark.{Mark}
+use Rattle.adr_state.specs.declared.keys.MirrorKey.{MirrorKey}
 use Rattle.adr_state.specs.declared.limits.Limits.{Limits}
 use Rattle.adr_state.specs.declared.portfolio.Portfolio.{Portfolio}
 use Rattle.adr_state.specs.declared.portfolio.Resource.{Resource}
@@ -32,16 +33,16 @@ is_shown_to p event r = carries event && is_some (participant_of p event r)
 abbrev pub reported_of : Portfolio → ℕ × Resource → List ℕ → EventBody → Option Reported
 reported_of p r id event = if is_shown_to p event r then Some (record { event = id; program = event.program; resource = r.0; resource_name = r.1.name }) else None
 
-abbrev pub reported_by : Base → List ℕ → ℕ × Resource → Option Reported
-reported_by base id r = option_and_then (reported_of base.portfolio r id) (event_at base id)
+abbrev pub reported_by : List (MirrorKey × Mark) → Portfolio → List ℕ → ℕ × Resource → Option Reported
+reported_by mirror p id r = option_and_then (reported_of p r id) (event_at mirror id)
 
 -- by the two parts of the id of a shown event
-abbrev pub reported_in : Base → List ℕ → List ℕ → Option Reported
-reported_in base resource event = option_and_then (λ r. option_and_then (λ id. reported_by base id r) (id_in event)) (resource_named base.portfolio resource)
+abbrev pub reported_in : List (MirrorKey × Mark) → Portfolio → List ℕ → List ℕ → Option Reported
+reported_in mirror p resource event = option_and_then (λ r. option_and_then (λ id. reported_by mirror p id r) (id_in event)) (resource_named p resource)
 
 -- the shown event of an id, where it is there; an id without `-` is none
-abbrev pub reported : Base → List ℕ → Option Reported
-reported base id = option_and_then (reported_in base (resource_part id)) (event_part id)
+abbrev pub reported : List (MirrorKey × Mark) → Portfolio → List ℕ → Option Reported
+reported mirror p id = option_and_then (reported_in mirror p (resource_part id)) (event_part id)
 
 -- whether a report names the resource and the program of the event that it is on
 abbrev pub fits : Reported → ReportIn → Bool
@@ -60,21 +61,25 @@ kept_report revision on report = record {
 -- ---- what is decided
 
 -- the event that a report is on, which is there and which it fits
-abbrev pub report_on : Base → ReportIn → Result Reported Refusal
-report_on base report = or_else NotFound (reported base report.event) >>= λ on. if fits on report then Ok on else Err ResourceNotOfEvent
+abbrev pub report_on : ReportIn → List (MirrorKey × Mark) → Portfolio → Result Reported Refusal
+report_on report mirror p = or_else NotFound (reported mirror p report.event) >>= λ on. if fits on report then Ok on else Err ResourceNotOfEvent
 
 -- the report of an id, with its number
 abbrev pub report_with_id : List ℕ → Portfolio → Option (ℕ × Report)
 report_with_id id p = option_and_then (λ n. option_map (λ r. (n, r)) (at nat_cmp n p.reports)) (number_in 112 id)
 
--- a new report, under the number that is handed in, which is its revision too; its number is answered
-abbrev pub report_post : Limits → ℕ → ReportIn → Base → Result (ℕ × PortfolioChange) Refusal
-report_post limits n report base = report_on base report >>= λ on. if is_full limits.reports base.portfolio.reports then Err LimitReached else Ok (n, PutReport n (kept_report n on report))
+-- a report is put, and its number answered
+abbrev pub putting_report : ℕ → Report → ℕ × PortfolioChange
+putting_report n report = (n, PutReport n report)
+
+-- a new report, under the number that is handed in, which is its revision too
+abbrev pub report_post : Limits → ℕ → ReportIn → List (MirrorKey × Mark) → Portfolio → Result (ℕ × PortfolioChange) Refusal
+report_post limits n report mirror p = report_on report mirror p >>= λ on. if is_full limits.reports p.reports then Err LimitReached else Ok (putting_report n (kept_report n on report))
 
 -- the report of an id says this from now on, with the number that is handed in as its revision; it may be on another event
-abbrev pub report_put : ℕ → List ℕ → ReportIn → Base → Result (ℕ × PortfolioChange) Refusal
-report_put n id report base = or_else NotFound (report_with_id id base.portfolio) >>= λ old. report_on base report >>= λ on. Ok (old.0, PutReport old.0 (kept_report n on report))
+abbrev pub report_put : ℕ → List ℕ → ReportIn → List (MirrorKey × Mark) → Portfolio → Result (ℕ × PortfolioChange) Refusal
+report_put n id report mirror p = or_else NotFound (report_with_id id p) >>= λ old. report_on report mirror p >>= λ on. Ok (putting_report old.0 (kept_report n on report))
 
--- the report of an id goes
-abbrev pub report_delete : List ℕ → Base → Result (ℕ × PortfolioChange) Refusal
-report_delete id base = or_else NotFound (report_with_id id base.portfolio) >>= λ old. Ok (old.0, DropReport old.0)
+-- the report of an id goes, and its number is answered
+abbrev pub report_delete : List ℕ → Portfolio → Result (ℕ × PortfolioChange) Refusal
+report_delete id p = or_else NotFound (report_with_id id p) >>= λ old. Ok (old.0, DropReport old.0)

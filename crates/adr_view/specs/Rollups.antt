@@ -10,7 +10,7 @@ use Rattle.adr_objects.specs.declared.body.Body.TheVariants as body
 use Rattle.adr_objects.specs.declared.report.UsageInterval.{UsageInterval}
 use Rattle.adr_objects.specs.declared.report.RollupInterval.{RollupInterval}
 use Rattle.adr_objects.specs.declared.report.Rollup.{Rollup}
-use Rattle.adr_state.specs.declared.base.Base.{Base}
+use Rattle.adr_state.specs.declared.keys.MirrorKey.{MirrorKey}
 use Rattle.adr_state.specs.declared.base.Mark.{Mark}
 use Rattle.adr_state.specs.declared.base.Mark.TheVariants.{Live, Dead}
 use Rattle.adr_state.specs.declared.portfolio.Portfolio.{Portfolio}
@@ -123,9 +123,9 @@ event_body (Some (Live moment (body.Program name))) = None
 event_body (Some (Live moment (body.Event event))) = Some event
 event_body (Some (Live moment (body.Opaque reason))) = None
 
-abbrev pub event_at : Base → List ℕ → Option EventBody
-event_at base id = event_body (at mirror_cmp (event_key id) base.mirror)
+abbrev pub event_at : List (MirrorKey × Mark) → List ℕ → Option EventBody
+event_at mirror id = event_body (at mirror_cmp (event_key id) mirror)
 
 -- the roll-up of an upstream event
-abbrev pub rollup_at : Base → List ℕ → Option Rollup
-rollup_at base id = option_and_then (rollup_of base.portfolio id) (event_at base id)
+abbrev pub rollup_at : List (MirrorKey × Mark) → Portfolio → List ℕ → Option Rollup
+rollup_at mirror p id = option_and_then (rollup_of p id) (event_at mirror id)

@@ -303,7 +303,7 @@ fn mark_at<'m>(mirror: &'m Table<MirrorKey, Mark>, key: &MirrorKey) -> Option<&'
 /// The roll-up of an upstream event, where it is live, its body was read, and one of its participants has
 /// a value for an interval that carries a setpoint.
 pub fn rollup_at(alloc: Global, base: &Base, id: &ObjectId) -> Result<Option<Rollup>, AllocError>
-    ensures { IfOk result (λ rollup. rollup ≡ rollup_at base.now id.now) }
+    ensures { IfOk result (λ rollup. rollup ≡ rollup_at base.now.mirror base.now.portfolio id.now) }
 {
     let key = event_key(id)?;
     match event_body(mark_at(&base.mirror, &key)) {

@@ -1,0 +1,10 @@
+//! Reports of sites in the tables, on a lent transaction: posted, replaced and removed; and the roll-up of an
+//! upstream event.
+#![tactic(auto)]
+
+mod on;
+mod posting;
+mod rolled_up;
+
+pub use posting::{delete, post, put};
+pub use rolled_up::rollup;

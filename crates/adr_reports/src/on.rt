@@ -1,0 +1,225 @@
+//! The shown event that a report is on, from the tables.
+ghost use Rattle.std.specs.Prelude.{◌≡◌, ℕ, Option, is_some, option_map, option_and_then, IfErr};
+ghost use Rattle.adr_state.specs.Keys.{mirror_cmp, at};
+ghost use Rattle.adr_state.specs.Resources.{resource_with_id};
+ghost use Rattle.adr_state.specs.ShownIds.{resource_named};
+ghost use Rattle.adr_state.specs.Participants.{as_participant, participant_of};
+ghost use Rattle.adr_state.specs.declared.portfolio.Resource.{Resource as ResourceRow};
+ghost use Rattle.adr_view.specs.Views.{event_key};
+ghost use Rattle.adr_view.specs.Reports.{is_shown_to, reported_of, reported_by, reported_in, reported};
+ghost use Rattle.adr_sql.specs.Calls.{Stays};
+ghost use Rattle.adr_db.specs.Calls.{Finds, IsOfStore};
+
+use adr_db::{read_known, read_resource, read_share, read_ven};
+use adr_objects::{EventBody, Number};
+use adr_state::{Resource, ShareKey, id_in, id_parts, is_for, number_in};
+use adr_text::{ObjectId, Refusal};
+use adr_view::{Reported, carries, event_body, event_key};
+use sqlite::{Alter, Transaction};
+use std::alloc::{AllocError, Global};
+
+// With its number, where it is there.
+fn numbered(number: Number, found: Option<Resource>) -> Option<(Number, Resource)>
+    ensures { result ≡ option_map (λ resource. (number, resource)) found }
+{
+    match found {
+        Some(resource) => Some((number, resource)),
+        None => None,
+    }
+}
+
+fn resource_with_id<S: Alter>(
+    alloc: Global,
+    tx: &mut Transaction<'_, S>,
+    id: &ObjectId,
+) -> Result<Option<(Number, Resource)>, Refusal>
+    ensures same_reference { tx.new.conn.ghost_name ≡ tx.old.conn.ghost_name }
+    ensures stays { Stays S.Store tx.old.conn.now tx.new.conn.now result }
+    ensures finds { Finds S.Store tx.old.conn.now tx.new.conn.now (λ kept found. found ≡ resource_with_id id.now kept.portfolio) result }
+    ensures refused { IfErr result IsOfStore }
+{
+    let Some(number) = number_in(b'r', id) else {
+        return Ok(None);
+    };
+    let found = read_resource(alloc, tx, number)?;
+    Ok(numbered(number, found))
+}
+
+// The resource whose id the text is, with its number.
+fn resource_named<S: Alter>(
+    alloc: Global,
+    tx: &mut Transaction<'_, S>,
+    text: &str,
+) -> Result<Option<(Number, Resource)>, Refusal>
+    ensures same_reference { tx.new.conn.ghost_name ≡ tx.old.conn.ghost_name }
+    ensures stays { Stays S.Store tx.old.conn.now tx.new.conn.now result }
+    ensures finds { Finds S.Store tx.old.conn.now tx.new.conn.now (λ kept found. found ≡ resource_named kept.portfolio text.now) result }
+    ensures refused { IfErr result IsOfStore }
+{
+    match id_in(alloc, text)? {
+        Some(id) => resource_with_id(alloc, tx, &id),
+        None => Ok(None),
+    }
+}
+
+fn key_of(program: &ObjectId, resource: Number) -> Result<ShareKey, AllocError>
+    ensures { IfOk result (λ key. key ≡ record { program = program.now; resource = resource }) }
+{
+    Ok(ShareKey {
+        program: program.clone()?,
+        resource,
+    })
+}
+
+// Whether the resource has a share in the program, and its ven is there.
+fn is_enrolled<S: Alter>(
+    alloc: Global,
+    tx: &mut Transaction<'_, S>,
+    program: &ObjectId,
+    number: Number,
+    resource: &Resource,
+) -> Result<bool, Refusal>
+    ensures same_reference { tx.new.conn.ghost_name ≡ tx.old.conn.ghost_name }
+    ensures stays { Stays S.Store tx.old.conn.now tx.new.conn.now result }
+    ensures finds { Finds S.Store tx.old.conn.now tx.new.conn.now (λ kept yes. yes ≡ is_some (as_participant kept.portfolio program.now (number, resource.now))) result }
+    ensures refused { IfErr result IsOfStore }
+{
+    let key = key_of(program, number)?;
+    let share = read_share(tx, &key)?;
+    let ven = read_ven(alloc, tx, resource.ven)?;
+    Ok(share.is_some() && ven.is_some())
+}
+
+// Whether the resource takes part in the event.
+fn takes_part<S: Alter>(
+    alloc: Global,
+    tx: &mut Transaction<'_, S>,
+    event: &EventBody,
+    number: Number,
+    resource: &Resource,
+) -> Result<bool, Refusal>
+    ensures same_reference { tx.new.conn.ghost_name ≡ tx.old.conn.ghost_name }
+    ensures stays { Stays S.Store tx.old.conn.now tx.new.conn.now result }
+    ensures finds { Finds S.Store tx.old.conn.now tx.new.conn.now (λ kept yes. yes ≡ is_some (participant_of kept.portfolio event.now (number, resource.now))) result }
+    ensures refused { IfErr result IsOfStore }
+{
+    if !is_for(&event.resource_names, resource.name.as_name()) {
+        return Ok(false);
+    }
+    is_enrolled(alloc, tx, &event.program, number, resource)
+}
+
+// Whether the event is shown to the resource.
+fn is_shown_to<S: Alter>(
+    alloc: Global,
+    tx: &mut Transaction<'_, S>,
+    event: &EventBody,
+    number: Number,
+    resource: &Resource,
+) -> Result<bool, Refusal>
+    ensures same_reference { tx.new.conn.ghost_name ≡ tx.old.conn.ghost_name }
+    ensures stays { Stays S.Store tx.old.conn.now tx.new.conn.now result }
+    ensures finds { Finds S.Store tx.old.conn.now tx.new.conn.now (λ kept yes. yes ≡ is_shown_to kept.portfolio event.now (number, resource.now)) result }
+    ensures refused { IfErr result IsOfStore }
+{
+    if !carries(event) {
+        return Ok(false);
+    }
+    takes_part(alloc, tx, event, number, resource)
+}
+
+fn on(
+    id: &ObjectId,
+    event: &EventBody,
+    number: Number,
+    resource: &Resource,
+) -> Result<Reported, AllocError>
+    ensures { IfOk result (λ on. on ≡ record { event = id.now; program = event.now.program; resource = number; resource_name = resource.now.name }) }
+{
+    Ok(Reported {
+        event: id.clone()?,
+        program: event.program.clone()?,
+        resource: number,
+        resource_name: resource.name.as_name().clone()?,
+    })
+}
+
+// The event and the resource, where the event is shown to it.
+fn reported_of<S: Alter>(
+    alloc: Global,
+    tx: &mut Transaction<'_, S>,
+    id: &ObjectId,
+    event: &EventBody,
+    number: Number,
+    resource: &Resource,
+) -> Result<Option<Reported>, Refusal>
+    ensures same_reference { tx.new.conn.ghost_name ≡ tx.old.conn.ghost_name }
+    ensures stays { Stays S.Store tx.old.conn.now tx.new.conn.now result }
+    ensures finds { Finds S.Store tx.old.conn.now tx.new.conn.now (λ kept found. found ≡ reported_of kept.portfolio (number, resource.now) id.now event.now) result }
+    ensures refused { IfErr result IsOfStore }
+{
+    let shown = is_shown_to(alloc, tx, event, number, resource)?;
+    if !shown {
+        return Ok(None);
+    }
+    Ok(Some(on(id, event, number, resource)?))
+}
+
+// By the id of the upstream event.
+fn reported_by<S: Alter>(
+    alloc: Global,
+    tx: &mut Transaction<'_, S>,
+    id: &ObjectId,
+    number: Number,
+    resource: &Resource,
+) -> Result<Option<Reported>, Refusal>
+    ensures same_reference { tx.new.conn.ghost_name ≡ tx.old.conn.ghost_name }
+    ensures stays { Stays S.Store tx.old.conn.now tx.new.conn.now result }
+    ensures finds { Finds S.Store tx.old.conn.now tx.new.conn.now (λ kept found. found ≡ reported_by kept.mirror kept.portfolio id.now (number, resource.now)) result }
+    ensures refused { IfErr result IsOfStore }
+{
+    let key = event_key(id)?;
+    let known = read_known(alloc, tx, &key)?;
+    match event_body(known.as_ref()) {
+        Some(event) => reported_of(alloc, tx, id, event, number, resource),
+        None => Ok(None),
+    }
+}
+
+// By the two parts of the id of a shown event.
+fn reported_in<S: Alter>(
+    alloc: Global,
+    tx: &mut Transaction<'_, S>,
+    resource: &str,
+    event: &str,
+) -> Result<Option<Reported>, Refusal>
+    ensures same_reference { tx.new.conn.ghost_name ≡ tx.old.conn.ghost_name }
+    ensures stays { Stays S.Store tx.old.conn.now tx.new.conn.now result }
+    ensures finds { Finds S.Store tx.old.conn.now tx.new.conn.now (λ kept found. found ≡ reported_in kept.mirror kept.portfolio resource.now event.now) result }
+    ensures refused { IfErr result IsOfStore }
+{
+    let Some(row) = resource_named(alloc, tx, resource)? else {
+        return Ok(None);
+    };
+    match id_in(alloc, event)? {
+        Some(id) => reported_by(alloc, tx, &id, row.0, &row.1),
+        None => Ok(None),
+    }
+}
+
+/// The shown event of an id, where it is there.
+pub(crate) fn reported<S: Alter>(
+    alloc: Global,
+    tx: &mut Transaction<'_, S>,
+    id: &ObjectId,
+) -> Result<Option<Reported>, Refusal>
+    ensures same_reference { tx.new.conn.ghost_name ≡ tx.old.conn.ghost_name }
+    ensures stays { Stays S.Store tx.old.conn.now tx.new.conn.now result }
+    ensures finds { Finds S.Store tx.old.conn.now tx.new.conn.now (λ kept found. found ≡ reported kept.mirror kept.portfolio id.now) result }
+    ensures refused { IfErr result IsOfStore }
+{
+    match id_parts(id) {
+        (resource, Some(event)) => reported_in(alloc, tx, resource, event),
+        (_, None) => Ok(None),
+    }
+}
