@@ -16,6 +16,10 @@ use Rattle.sqlite_sql.specs.Term.{Term}
 abbrev pub column : List ℕ → Kind → Column
 column name kind = record { name = name; kind = kind; is_strict = true; not_null = true; default = Null; collation = Binary }
 
+-- a column that may be NULL
+abbrev pub nullable_column : List ℕ → Kind → Column
+nullable_column name kind = record { name = name; kind = kind; is_strict = true; not_null = false; default = Null; collation = Binary }
+
 -- a column, by its place from 1, REFERENCES a column of a parent, ON DELETE CASCADE
 abbrev pub cascades_to : ℕ → List ℕ → List ℕ → Reference
 cascades_to place parent column = record { columns = place ∷ []; parent = parent; parent_columns = column ∷ []; on_delete = Cascade; on_update = NoAction; is_deferred = false }
