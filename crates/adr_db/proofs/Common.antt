@@ -29,6 +29,7 @@ pub use Rattle.adr_state.specs.declared.keys.ShareKey.{ShareKey}
 pub use Rattle.adr_state.specs.declared.keys.ViewKey.{ViewKey}
 pub use Rattle.adr_state.specs.declared.limits.Limits.{Limits}
 pub use Rattle.adr_state.specs.declared.participants.Participant.{Participant}
+pub use Rattle.adr_state.specs.declared.portfolio.Report.{Report}
 pub use Rattle.adr_state.specs.declared.portfolio.Resource.{Resource}
 pub use Rattle.adr_state.specs.declared.portfolio.Ven.{Ven}
 pub use Rattle.adr_sql.proofs.Counts.{IsCountText}

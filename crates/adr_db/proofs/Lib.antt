@@ -14,6 +14,9 @@ pub mod VenStatements
 pub mod ResourceStatements
 pub mod ShareStatements
 pub mod StampStatements
+pub mod Reports
+pub mod ReportPuts
+pub mod ReportStatements
 pub mod Cascades
 pub mod Unseen
 pub mod Sharing

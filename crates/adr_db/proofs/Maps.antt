@@ -1,10 +1,12 @@
 -- The tables that are maps.
 use Rattle.std.proofs.Common.{ℕ, map, refl, sym}
-use Rattle.adr_db.proofs.Common.{nat_cmp, map-map, Mark, Ven, Resource, Stamps, MirrorKey, ShareKey, ViewKey, mirror_cmp, share_cmp, view_cmp, with_table, keys_alone}
-use Rattle.adr_db.specs.Rows.{mark_row, key_row, number_row, ven_row, ven_columns, resource_row, resource_columns, share_row, share_key_row, stamp_row, view_key_row}
+use Rattle.adr_db.proofs.Common.{nat_cmp, map-map, Mark, Ven, Resource, Report, Stamps, MirrorKey, ShareKey, ViewKey, mirror_cmp, share_cmp, view_cmp, with_table, keys_alone}
+use Rattle.adr_db.specs.Rows.{mark_row, key_row, number_row, ven_row, ven_columns, resource_row, resource_columns, share_row, share_key_row, stamp_row, view_key_row, report_row, report_columns}
 use Rattle.adr_db.specs.Kept.{contents_of}
 use Rattle.adr_db.proofs.Rows.{mirror_codec, polled_codec, number_codec, share_codec, stamp_codec}
-use Rattle.adr_db.proofs.Tables.{mirror, mirror_keyed, polled, polled_keyed, ven, ven_keyed, resource, resource_keyed, share, share_keyed, stamp, stamp_keyed}
+use Rattle.adr_sql.proofs.KeyedMaps.{KeyedMap}
+use Rattle.adr_db.specs.Tables.{schema}
+use Rattle.adr_db.proofs.Tables.{mirror, mirror_keyed, polled, polled_keyed, ven, ven_keyed, resource, resource_keyed, share, share_keyed, stamp, stamp_keyed, report, report_keyed}
 use Rattle.adr_db.proofs.KeptMaps.{KeptMap}
 
 abbrev pub mirror_map : KeptMap MirrorKey Mark
@@ -61,3 +63,7 @@ stamp_map = record {
   stored = λ kept. refl;
   changed = λ es kept. refl;
 }
+
+-- The rows of the reports are one too, but to put or to remove a report changes the rows of its intervals as well.
+abbrev pub report_rows : KeyedMap schema ℕ Report
+report_rows = record { at = 7; table = report; keyed = report_keyed; cmp = nat_cmp; row_of = report_row; key_of = number_row; codec = number_codec report_columns }

@@ -1,9 +1,10 @@
 -- The keys of what is kept rise, in each map.
-use Rattle.std.proofs.Common.{◌≡◌, Less}
+use Rattle.std.proofs.Common.{◌≡◌, refl, Less}
 use Rattle.adr_db.proofs.Common.{nat_cmp, IsAscending, State, mirror_cmp, share_cmp}
-use Rattle.adr_db.specs.Kept.{Kept, Keeps}
+use Rattle.adr_sql.proofs.KeyedMaps.{entries_rise}
+use Rattle.adr_db.specs.Kept.{Kept, Keeps, contents_of}
 use Rattle.adr_db.proofs.KeptMaps.{rises}
-use Rattle.adr_db.proofs.Maps.{mirror_map, ven_map, resource_map, share_map}
+use Rattle.adr_db.proofs.Maps.{mirror_map, ven_map, resource_map, share_map, report_rows}
 
 module _ (kept : Kept) (s : State) (was : Keeps kept s) where
   pub mirror_rises : IsAscending (λ a b. mirror_cmp a.0 b.0 ≡ Less) kept.mirror
@@ -17,3 +18,6 @@ module _ (kept : Kept) (s : State) (was : Keeps kept s) where
 
   pub shares_rise : IsAscending (λ a b. share_cmp a.0 b.0 ≡ Less) kept.portfolio.shares
   shares_rise = rises share_map kept s was
+
+  pub reports_rise : IsAscending (λ a b. nat_cmp a.0 b.0 ≡ Less) kept.portfolio.reports
+  reports_rise = entries_rise report_rows (contents_of kept) kept.portfolio.reports refl s was.rows

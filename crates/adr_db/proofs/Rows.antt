@@ -1,5 +1,5 @@
 -- Keys and marks as rows, and back.
-use Rattle.std.proofs.Common.{◌≡◌, ◌<◌, ◌<ℤ◌, sym, ℕ, pos, arith, Bool, true, false, cond, List, [], ◌∷◌, ◌++◌, refl, ap, ap₂, ◌∙◌, Ordering, Less, Equal, Greater}
+use Rattle.std.proofs.Common.{◌≡◌, ◌<◌, ◌<ℤ◌, sym, ℕ, ℤ, pos, arith, Bool, true, false, cond, Option, None, Some, List, [], ◌∷◌, ◌++◌, refl, ap, ap₂, ◌∙◌, Ordering, Less, Equal, Greater}
 use Rattle.adr_db.proofs.Common.{int_cmp, nat_cmp, ordering_then, MatchOrdering, ranked, Int, Text, Row, column, Mark, Live, Dead, Ven, Resource, Stamps, MirrorKey, ShareKey, ViewKey, Participant, kind_cmp, id_cmp, mirror_cmp, share_cmp, view_cmp, cells, key_order, number_key, text_number_key, number_text_key, number_text_number_key, text_same, then_none}
 use Rattle.std.specs.Cmp.{int_cmp_is}
 use Rattle.std.proofs.lemmas.Int.{ints}
@@ -7,9 +7,12 @@ use Rattle.adr_objects.specs.declared.kind.Kind.{Kind}
 use Rattle.adr_objects.specs.declared.kind.Kind.TheVariants.{Program, Event}
 use Rattle.adr_state.specs.declared.keys.ViewKey.TheVariants as view
 use Rattle.adr_sql.specs.Codecs.{IsCodec}
+use Rattle.adr_objects.specs.declared.report.ReportHead.{ReportHead}
+use Rattle.adr_objects.specs.declared.report.UsageInterval.{UsageInterval}
 use Rattle.adr_db.specs.declared.meta.Meta.{Meta}
-use Rattle.adr_db.specs.Rows.{number, kind_number, meta_row, key_row, mark_columns, mark_row, number_row, ven_columns, resource_columns, share_key_row, share_row, stamps_columns, view_kind, view_id, view_resource, view_key_row, stamp_row, participant_row}
-use Rattle.adr_db.specs.ReadBack.{number_of, text_of, flag_of, kind_of, meta_in, key_in, ven_in, resource_in, share_key_in, view_key_in, stamps_in}
+use Rattle.adr_db.specs.declared.report.ReportColumns.{ReportColumns}
+use Rattle.adr_db.specs.Rows.{number, kind_number, meta_row, key_row, mark_columns, mark_row, number_row, ven_columns, resource_columns, share_key_row, share_row, stamps_columns, view_kind, view_id, view_resource, view_key_row, stamp_row, participant_row, name_cell, head_columns, report_columns_row, usage_cell, interval_columns}
+use Rattle.adr_db.specs.ReadBack.{number_of, text_of, integer_of, name_of, usage_of, flag_of, kind_of, meta_in, key_in, ven_in, resource_in, share_key_in, view_key_in, stamps_in, head_in}
 
 -- ---- keys
 
@@ -138,6 +141,23 @@ pub view_key_again : (key : ViewKey) → view_key_in (view_key_row key) ≡ key
 view_key_again (view.Program id) = refl
 view_key_again (view.Event id resource) = refl
 
+name_again : (name : Option (List ℕ)) → name_of (name_cell name) ≡ name
+name_again None = refl
+name_again (Some text) = refl
+
+usage_again : (usage : Option ℤ) → usage_of (usage_cell usage) ≡ usage
+usage_again None = refl
+usage_again (Some amount) = refl
+
+pub head_again : (head : ReportHead) (revision : ℕ) → head_in (head_columns head revision) ≡ head
+head_again head revision = ap (λ name. record head { name = name }) (name_again head.name)
+
+abbrev interval_back : Row → UsageInterval
+interval_back columns = record { id = integer_of (column columns 0); usage = usage_of (column columns 1) }
+
+pub interval_again : (interval : UsageInterval) → interval_back (interval_columns interval) ≡ interval
+interval_again interval = ap (λ usage. record interval { usage = usage }) (usage_again interval.usage)
+
 -- ---- so rows that are equal stand for equal things
 
 stands_for_one : {X : Type 0} (row_of : X → Row) (back : Row → X) → ((x : X) → back (row_of x) ≡ x) → (a b : X) → row_of a ≡ row_of b → a ≡ b
@@ -157,6 +177,18 @@ resource_kept = stands_for_one resource_columns resource_in (λ _. refl)
 
 pub share_key_kept : (j k : ShareKey) → share_key_row j ≡ share_key_row k → j ≡ k
 share_key_kept = stands_for_one share_key_row share_key_in (λ _. refl)
+
+abbrev report_columns_back : Row → ReportColumns
+report_columns_back columns = record { head = head_in columns; revision = number_of (column columns 6) }
+
+report_columns_again : (columns : ReportColumns) → report_columns_back (report_columns_row columns) ≡ columns
+report_columns_again columns = ap (λ head. record columns { head = head }) (head_again columns.head columns.revision)
+
+pub report_columns_kept : (a b : ReportColumns) → report_columns_row a ≡ report_columns_row b → a ≡ b
+report_columns_kept = stands_for_one report_columns_row report_columns_back report_columns_again
+
+pub interval_kept : (a b : UsageInterval) → interval_columns a ≡ interval_columns b → a ≡ b
+interval_kept = stands_for_one interval_columns interval_back interval_again
 
 pub view_key_kept : (j k : ViewKey) → view_key_row j ≡ view_key_row k → j ≡ k
 view_key_kept = stands_for_one view_key_row view_key_in view_key_again

@@ -6,7 +6,7 @@ use Rattle.sqlite_value.specs.Keys.{joined}
 use Rattle.sqlite_catalog.specs.Listing.{automatic}
 use Rattle.adr_sql.proofs.References.{is_childless}
 use Rattle.adr_sql.proofs.Upserts.{IsKeyed}
-use Rattle.adr_db.specs.Tables.{schema, meta_table, mirror_table, polled_table, ven_table, resource_table, share_table, stamp_table}
+use Rattle.adr_db.specs.Tables.{schema, meta_table, mirror_table, polled_table, ven_table, resource_table, share_table, stamp_table, report_table, report_value_table}
 
 -- each table with its tree
 abbrev pub meta : Table
@@ -29,6 +29,12 @@ share = record share_table { tree = 12 }
 
 abbrev pub stamp : Table
 stamp = record stamp_table { tree = 15 }
+
+abbrev pub report : Table
+report = record report_table { tree = 17 }
+
+abbrev pub report_value : Table
+report_value = record report_value_table { tree = 22 }
 
 -- each is written over by its key, also those to which references point
 pub meta_keyed : IsKeyed schema 0 meta
@@ -59,6 +65,14 @@ pub stamp_keyed : IsKeyed schema 6 stamp
 unfolding same_name joined
 stamp_keyed = record { place = record { found = refl; alone = refl }; unfollowed = refl; uncounted = refl; unnumbered = refl; index = automatic stamp 0 stamp.primary 16; aimed = refl; order = refl; places = refl }
 
+pub report_keyed : IsKeyed schema 7 report
+unfolding same_name joined
+report_keyed = record { place = record { found = refl; alone = refl }; unfollowed = refl; uncounted = refl; unnumbered = refl; index = automatic report 0 report.primary 18; aimed = refl; order = refl; places = refl }
+
+pub report_value_keyed : IsKeyed schema 8 report_value
+unfolding same_name joined
+report_value_keyed = record { place = record { found = refl; alone = refl }; unfollowed = refl; uncounted = refl; unnumbered = refl; index = automatic report_value 0 report_value.primary 23; aimed = refl; order = refl; places = refl }
+
 -- no reference points to these
 pub polled_childless : is_childless schema polled.tree ≡ true
 unfolding same_name joined
@@ -71,3 +85,7 @@ share_childless = refl
 pub stamp_childless : is_childless schema stamp.tree ≡ true
 unfolding same_name joined
 stamp_childless = refl
+
+pub report_value_childless : is_childless schema report_value.tree ≡ true
+unfolding same_name joined
+report_value_childless = refl

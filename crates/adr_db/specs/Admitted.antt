@@ -1,11 +1,13 @@
 -- What the types of what is kept admit, and how a row reads.
-use Rattle.std.specs.Prelude.{◌≡◌, ◌≤◌, ⊤, length, ◌<◌, ◌^◌, ℕ, List, string_bytes, IsUtf8, IsTrue, Ok}
+use Rattle.std.specs.Prelude.{◌≡◌, ◌≤◌, ⊤, length, ◌<◌, ◌^◌, ℕ, ℤ, List, string_bytes, IsUtf8, IsTrue, IfSome, FitsSigned, Ok}
+use Rattle.std.specs.Int.{w32}
 use Rattle.std.specs.List.{AllByRecursion}
 use Rattle.sqlite.specs.Order.{Row, column}
 use Rattle.adr_text.specs.Ids.{is_id}
 use Rattle.adr_text.specs.Names.{is_name}
 use Rattle.adr_text.specs.Moments.{last_nanos}
-use Rattle.adr_objects.specs.Limits.{is_resource_name}
+use Rattle.adr_objects.specs.Limits.{is_resource_name, is_setpoint}
+use Rattle.adr_objects.specs.declared.report.UsageInterval.{UsageInterval}
 use Rattle.adr_objects.specs.declared.shown.Stamps.{Stamps}
 use Rattle.adr_state.specs.declared.base.Mark.{Mark}
 use Rattle.adr_state.specs.declared.keys.MirrorKey.{MirrorKey}
@@ -19,8 +21,9 @@ use Rattle.adr_state.specs.Weights.{is_weight}
 use Rattle.adr_db.specs.declared.meta.Meta.{Meta}
 use Rattle.adr_db.specs.declared.mirror.MarkColumns.{MarkColumns}
 use Rattle.adr_db.specs.declared.mirror.MirrorRow.{MirrorRow}
+use Rattle.adr_db.specs.declared.report.ReportColumns.{ReportColumns}
 use Rattle.adr_sql.specs.Keys.{cells}
-use Rattle.adr_db.specs.Rows.{number, meta_row, key_row, columns_row, mark_from, mirror_row, ven_columns, resource_columns, share_key_row, view_id, view_key_row, stamps_columns, participant_row}
+use Rattle.adr_db.specs.Rows.{number, meta_row, key_row, columns_row, mark_from, mirror_row, ven_columns, resource_columns, share_key_row, view_id, view_key_row, stamps_columns, participant_row, report_columns_row, interval_columns}
 
 abbrev pub IsNumber : ℕ → Type 0
 IsNumber n = ⊤
@@ -69,6 +72,22 @@ IsStamped e = IsViewKey e.0 × AreStamps e.1
 
 abbrev pub IsParticipant : Participant → Type 0
 IsParticipant p = IsTrue (is_weight p.weight) × (IsNameText p.name × IsNameText p.ven_name)
+
+-- the name of a report, where it has one
+abbrev pub IsReportNameText : List ℕ → Type 0
+IsReportNameText text = IsUtf8 text × (length text ≤ 256)
+
+abbrev pub AreReportColumns : ReportColumns → Type 0
+AreReportColumns columns = IsIdText columns.head.event × (IsIdText columns.head.program × (IsNameText columns.head.client × (IfSome columns.head.name IsReportNameText × IsNameText columns.head.resource_name)))
+
+abbrev pub IsUsage : ℤ → Type 0
+IsUsage usage = IsTrue (is_setpoint usage)
+
+abbrev pub IsUsageInterval : UsageInterval → Type 0
+IsUsageInterval interval = FitsSigned w32 interval.id × IfSome interval.usage IsUsage
+
+abbrev pub IsReportEntry : ℕ × ReportColumns → Type 0
+IsReportEntry e = IsNumber e.0 × AreReportColumns e.1
 
 -- a weight alone, and entries behind their keys
 abbrev pub IsShareWeight : ℕ → Type 0
@@ -143,6 +162,15 @@ ReadsStamps row stamps = stamps_columns stamps ≡ cells 3 2 row
 
 abbrev pub ReadsStamped : Row → ViewKey × Stamps → Type 0
 ReadsStamped row e = ReadsViewKey row e.0 × ReadsStamps row e.1
+
+abbrev pub ReadsReportColumns : Row → ReportColumns → Type 0
+ReadsReportColumns row columns = report_columns_row columns ≡ cells 1 7 row
+
+abbrev pub ReadsReportEntry : Row → ℕ × ReportColumns → Type 0
+ReadsReportEntry row e = ReadsNumber row e.0 × ReadsReportColumns row e.1
+
+abbrev pub ReadsUsageInterval : Row → UsageInterval → Type 0
+ReadsUsageInterval row interval = interval_columns interval ≡ cells 2 2 row
 
 abbrev pub ReadsParticipant : Row → Participant → Type 0
 ReadsParticipant row p = participant_row p ≡ cells 0 4 row

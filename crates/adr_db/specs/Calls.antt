@@ -9,12 +9,19 @@ use Rattle.sqlite.specs.declared.error.Error.{Error}
 use Rattle.sqlite.specs.declared.error.Error.TheVariants.{SqliteFailure}
 use Rattle.adr_text.specs.declared.refusal.Refusal.{Refusal}
 use Rattle.adr_text.specs.declared.refusal.Refusal.TheVariants.{OutOfMemory, Store}
-use Rattle.adr_db.specs.Kept.{Kept, Keeps}
+use Rattle.adr_sql.specs.Contents.{Holds}
+use Rattle.adr_db.specs.Tables.{schema}
+use Rattle.adr_db.specs.Kept.{Kept, Keeps, contents_with}
 
 module _ {S : Type 0} (g : Ghosts S) (old new : Held S) where
   -- after Ok, tables that held a state hold what it is changed to
   abbrev pub LeavesKept : {T E : Type 0} → (Kept → Kept) → Result T E → Type 0
   LeavesKept change result = HasCleanDisk (state g new) → OnOk result ((kept : Kept) → Keeps kept (state g old) → Keeps (change kept) (state g new))
+
+  -- after Ok, the rows of `report_value` are changed, whatever rows `report` holds; the others are as they were
+  abbrev pub ChangesValues : {T E : Type 0} → (List Row → List Row) → Result T E → Type 0
+  ChangesValues change result =
+      HasCleanDisk (state g new) → OnOk result ((kept : Kept) (reports values : List Row) → Holds schema (contents_with reports values kept) (state g old) → Holds schema (contents_with reports (change values) kept) (state g new))
 
   -- so they do, and the answer is right for the state that they held
   abbrev pub Turns : {T E : Type 0} → (Kept → Kept) → (Kept → T → Type 0) → Result T E → Type 0

@@ -1,23 +1,30 @@
 -- The tables hold the state: the rows of each, read by key, are the corresponding map.
-use Rattle.std.specs.List.{AllByRecursion}
-use Rattle.std.specs.Prelude.{ℕ, ℤ, pos, negsuc, false, Option, None, Some, take, bytes_eq, List, [], ◌∷◌, map, filter}
+use Rattle.std.specs.List.{AllByRecursion, flat_map}
+use Rattle.std.specs.Prelude.{ℕ, ℤ, pos, negsuc, false, Option, None, Some, take, bytes_eq, List, [], ◌∷◌, map, filter, fold}
 use Rattle.std.specs.BTreeMap.{insert_entry, is_at}
 use Rattle.std.specs.BTreeSet.{insert_key}
 use Rattle.std.specs.Map.{remove_entry}
+use Rattle.std.specs.Option.{option_map_or}
+use Rattle.std.specs.Ordering.{nat_cmp}
+use Rattle.sqlite.specs.Order.{Row}
 use Rattle.sqlite.specs.State.{State}
 use Rattle.adr_objects.specs.Bodies.{IsBody}
 use Rattle.adr_objects.specs.declared.shown.Stamps.{Stamps}
+use Rattle.adr_objects.specs.declared.report.UsageInterval.{UsageInterval}
 use Rattle.adr_state.specs.declared.base.Mark.{Mark}
 use Rattle.adr_state.specs.declared.base.Mark.TheVariants.{Live, Dead}
 use Rattle.adr_state.specs.declared.portfolio.Portfolio.{Portfolio}
+use Rattle.adr_state.specs.declared.portfolio.Report.{Report}
 use Rattle.adr_state.specs.declared.keys.MirrorKey.{MirrorKey}
 use Rattle.adr_state.specs.declared.keys.ViewKey.{ViewKey}
-use Rattle.adr_state.specs.Keys.{mirror_cmp, view_cmp}
+use Rattle.adr_state.specs.Keys.{mirror_cmp, view_cmp, at}
 use Rattle.adr_state.specs.Portfolios.{nobody}
+use Rattle.adr_sql.specs.Keys.{with_row}
 use Rattle.adr_sql.specs.Contents.{Contents, Holds}
 use Rattle.adr_db.specs.declared.meta.Meta.{Meta}
 use Rattle.adr_db.specs.Tables.{schema}
-use Rattle.adr_db.specs.Rows.{meta_row, mark_row, key_row, ven_row, resource_row, share_row, stamp_row}
+use Rattle.adr_db.specs.declared.report.ReportColumns.{ReportColumns}
+use Rattle.adr_db.specs.Rows.{meta_row, mark_row, key_row, ven_row, resource_row, share_row, stamp_row, report_row, value_rows}
 
 -- what is kept: the numbers of the node, the mirror in the order of its keys, the polled keys in that order, the portfolio, and the
 -- stamps of what is shown
@@ -28,9 +35,10 @@ pub record Kept : Type 0 where
   pub portfolio : Portfolio
   pub stamps : List (ViewKey × Stamps)
 
--- the rows of each table, in the order of the tables
-abbrev pub contents_of : Kept → Contents
-contents_of kept =
+-- the rows of each table, in the order of the tables, with these in `report` and these in `report_value`: while a report is put, they are of no
+-- state
+abbrev pub contents_with : List Row → List Row → Kept → Contents
+contents_with reports values kept =
     (meta_row kept.meta ∷ [])
     ∷ map mark_row kept.mirror
     ∷ map key_row kept.polled
@@ -38,7 +46,12 @@ contents_of kept =
     ∷ map resource_row kept.portfolio.resources
     ∷ map share_row kept.portfolio.shares
     ∷ map stamp_row kept.stamps
+    ∷ reports
+    ∷ values
     ∷ []
+
+abbrev pub contents_of : Kept → Contents
+contents_of kept = contents_with (map report_row kept.portfolio.reports) (flat_map value_rows kept.portfolio.reports) kept
 
 -- a version says what the types admit, so that its canonical text reads back
 abbrev pub IsMark : Mark → Type 0
@@ -80,6 +93,24 @@ with_stamps key stamps kept = record kept { stamps = insert_entry view_cmp kept.
 
 abbrev pub without_stamps : ViewKey → Kept → Kept
 without_stamps key kept = record kept { stamps = remove_entry (is_at (view_cmp key)) kept.stamps }
+
+-- ---- reports
+
+-- the intervals of the report of a number; none where there is none
+abbrev pub intervals_of : ℕ → Kept → List UsageInterval
+intervals_of n kept = option_map_or (λ report. report.body.intervals) (at nat_cmp n kept.portfolio.reports) []
+
+-- a report of its columns and its intervals
+abbrev pub whole_report : ReportColumns → List UsageInterval → Report
+whole_report columns intervals = record { revision = columns.revision; body = record { head = columns.head; intervals = intervals } }
+
+-- behind its number, with the intervals that are kept for that
+abbrev pub report_of : Kept → ℕ × ReportColumns → ℕ × Report
+report_of kept e = (e.0, whole_report e.1 (intervals_of e.0 kept))
+
+-- rows of `report_value` that are put one after another
+abbrev pub with_value_rows : List Row → List Row → List Row
+with_value_rows rows values = fold (λ values row. with_row 2 row values) values rows
 
 -- ---- names
 

@@ -1,5 +1,5 @@
 -- What the tables hold, read back. What no call writes reads as a default: 0, no text, a program, or deleted.
-use Rattle.std.specs.Prelude.{ℕ, pos, Bool, ◌==◌, if◌then◌else◌, List, [], map, drop, get_or, Result, Ok, Err}
+use Rattle.std.specs.Prelude.{ℕ, ℤ, pos, Bool, ◌==◌, if◌then◌else◌, List, [], map, drop, get_or, Option, None, Some, Result, Ok, Err}
 use Rattle.sqlite.specs.declared.types.Value.{Value}
 use Rattle.sqlite.specs.declared.types.Value.TheVariants.{Int, Text}
 use Rattle.sqlite.specs.Order.{Row, column}
@@ -10,16 +10,20 @@ use Rattle.adr_objects.specs.declared.body.Body.{Body}
 use Rattle.adr_objects.specs.declared.kind.Kind.{Kind}
 use Rattle.adr_objects.specs.declared.kind.Kind.TheVariants.{Program, Event}
 use Rattle.adr_objects.specs.declared.shown.Stamps.{Stamps}
+use Rattle.adr_objects.specs.declared.report.ReportHead.{ReportHead}
+use Rattle.adr_objects.specs.declared.report.UsageInterval.{UsageInterval}
 use Rattle.adr_objects.specs.ReadBack.{canonical_of}
 use Rattle.adr_state.specs.declared.base.Mark.{Mark}
 use Rattle.adr_state.specs.declared.base.Mark.TheVariants.{Live, Dead}
 use Rattle.adr_state.specs.declared.portfolio.Ven.{Ven}
 use Rattle.adr_state.specs.declared.portfolio.Resource.{Resource}
+use Rattle.adr_state.specs.declared.portfolio.Report.{Report}
 use Rattle.adr_state.specs.declared.keys.MirrorKey.{MirrorKey}
 use Rattle.adr_state.specs.declared.keys.ShareKey.{ShareKey}
 use Rattle.adr_state.specs.declared.keys.ViewKey.{ViewKey}
 use Rattle.adr_state.specs.declared.keys.ViewKey.TheVariants as view
 use Rattle.adr_state.specs.declared.state.State.{State}
+use Rattle.adr_sql.specs.Keys.{rows_at}
 use Rattle.adr_sql.specs.Contents.{Contents, rows_of_table}
 use Rattle.adr_sql.specs.Stored.{contents_in}
 use Rattle.adr_db.specs.declared.meta.Meta.{Meta}
@@ -35,6 +39,20 @@ number_of _ = 0
 abbrev pub text_of : Value → List ℕ
 text_of (Text t) = t
 text_of _ = []
+
+-- an integer
+abbrev pub integer_of : Value → ℤ
+integer_of (Int n) = n
+integer_of _ = pos 0
+
+-- what a value is that may be NULL
+abbrev pub name_of : Value → Option (List ℕ)
+name_of (Text t) = Some t
+name_of _ = None
+
+abbrev pub usage_of : Value → Option ℤ
+usage_of (Int n) = Some n
+usage_of _ = None
 
 -- 1 is yes
 abbrev pub flag_of : Value → Bool
@@ -84,6 +102,25 @@ ven_in columns = record { name = text_of (column columns 0); stamps = stamps_in 
 abbrev pub resource_in : Row → Resource
 resource_in columns = record { ven = number_of (column columns 0); name = text_of (column columns 1); stamps = stamps_in (drop 2 columns) }
 
+-- what a report is about
+abbrev pub head_in : Row → ReportHead
+head_in columns = record {
+  program = text_of (column columns 2);
+  event = text_of (column columns 0);
+  resource = number_of (column columns 1);
+  client = text_of (column columns 3);
+  name = name_of (column columns 4);
+  resource_name = text_of (column columns 5);
+}
+
+-- an interval of a report, behind its number and its place
+abbrev pub interval_in : Row → UsageInterval
+interval_in row = record { id = integer_of (column row 2); usage = usage_of (column row 3) }
+
+-- a report behind its number: its intervals are the rows of the other table that begin with that
+abbrev pub report_in : List Row → Row → ℕ × Report
+report_in values row = (number_of (column row 0), record { revision = number_of (column row 7); body = record { head = head_in (drop 1 row); intervals = map interval_in (rows_at 1 row values) } })
+
 -- what stands behind a number, with it
 abbrev pub numbered_in : {V : Type 0} → (Row → V) → Row → ℕ × V
 numbered_in value_in row = (number_of (column row 0), value_in (drop 1 row))
@@ -116,6 +153,7 @@ kept_from all = record {
     vens = map (numbered_in ven_in) (rows_of_table all 3);
     resources = map (numbered_in resource_in) (rows_of_table all 4);
     shares = map share_in (rows_of_table all 5);
+    reports = map (report_in (rows_of_table all 8)) (rows_of_table all 7);
   };
   stamps = map stamped_in (rows_of_table all 6);
 }

@@ -1,7 +1,9 @@
 -- How what is kept stands in rows of SQL's values.
-use Rattle.std.specs.Prelude.{ℕ, pos, List, ◌==◌, if◌then◌else◌, [], ◌∷◌, ◌++◌, string_bytes, Result, Ok, Err}
+use Rattle.std.specs.Prelude.{ℕ, suc, ℤ, pos, List, ◌==◌, if◌then◌else◌, [], ◌∷◌, ◌++◌, string_bytes, Option, Result, Ok, Err}
+use Rattle.sqlite.specs.declared.types.Value.{Value}
 use Rattle.sqlite.specs.declared.types.Value.TheVariants.{Int, Text}
-use Rattle.sqlite.specs.Order.{Row, column}
+use Rattle.sqlite.specs.Values.{or_null}
+use Rattle.sqlite.specs.Order.{Row}
 use Rattle.adr_text.specs.declared.refusal.Refusal.{Refusal}
 use Rattle.adr_text.specs.declared.refusal.Refusal.TheVariants.{OutOfMemory, Store}
 use Rattle.adr_text.specs.Moments.{moment_at}
@@ -14,18 +16,22 @@ use Rattle.adr_state.specs.declared.base.Mark.{Mark}
 use Rattle.adr_state.specs.declared.base.Mark.TheVariants.{Live, Dead}
 use Rattle.adr_state.specs.declared.portfolio.Ven.{Ven}
 use Rattle.adr_state.specs.declared.portfolio.Resource.{Resource}
+use Rattle.adr_state.specs.declared.portfolio.Report.{Report}
 use Rattle.adr_state.specs.declared.keys.MirrorKey.{MirrorKey}
 use Rattle.adr_state.specs.declared.keys.ShareKey.{ShareKey}
 use Rattle.adr_state.specs.declared.keys.ViewKey.{ViewKey}
 use Rattle.adr_state.specs.declared.keys.ViewKey.TheVariants as view
 use Rattle.adr_state.specs.declared.participants.Participant.{Participant}
 use Rattle.adr_objects.specs.declared.shown.Stamps.{Stamps}
+use Rattle.adr_objects.specs.declared.report.ReportHead.{ReportHead}
+use Rattle.adr_objects.specs.declared.report.UsageInterval.{UsageInterval}
 use Rattle.adr_db.specs.declared.meta.Meta.{Meta}
 use Rattle.adr_db.specs.declared.mirror.MarkColumns.{MarkColumns}
 use Rattle.adr_db.specs.declared.mirror.MirrorRow.{MirrorRow}
+use Rattle.adr_db.specs.declared.report.ReportColumns.{ReportColumns}
 use Rattle.adr_db.specs.Tables.{version}
 
-abbrev pub number : ℕ → Rattle.sqlite.specs.declared.types.Value.Value
+abbrev pub number : ℕ → Value
 number n = Int (pos n)
 
 -- the numbers of the node, behind the key 1 and the version of the tables
@@ -94,6 +100,43 @@ share_key_row key = Text key.program ∷ number key.resource ∷ []
 abbrev pub share_row : ShareKey × ℕ → Row
 share_row e = Text e.0.program ∷ number e.0.resource ∷ number e.1 ∷ []
 
+-- ---- reports
+
+-- a name, where there is one
+abbrev pub name_cell : Option (List ℕ) → Value
+name_cell = or_null Text
+
+-- what a report is about, and its revision
+abbrev pub head_columns : ReportHead → ℕ → Row
+head_columns head revision = Text head.event ∷ number head.resource ∷ Text head.program ∷ Text head.client ∷ name_cell head.name ∷ Text head.resource_name ∷ number revision ∷ []
+
+abbrev pub report_columns : Report → Row
+report_columns report = head_columns report.body.head report.revision
+
+-- a report behind its number, without its intervals
+abbrev pub report_row : ℕ × Report → Row
+report_row e = number e.0 ∷ report_columns e.1
+
+-- a usage, where there is one
+abbrev pub usage_cell : Option ℤ → Value
+usage_cell = or_null Int
+
+abbrev pub interval_columns : UsageInterval → Row
+interval_columns interval = Int interval.id ∷ usage_cell interval.usage ∷ []
+
+-- the interval at a place of the report of a number
+abbrev pub value_row : ℕ → ℕ → UsageInterval → Row
+value_row n place interval = number n ∷ number place ∷ interval_columns interval
+
+-- so of all from a place on
+abbrev pub value_rows_from : ℕ → ℕ → List UsageInterval → List Row
+value_rows_from n place [] = []
+value_rows_from n place (interval ∷ intervals) = value_row n place interval ∷ value_rows_from n (suc place) intervals
+
+-- the intervals of a report behind its number
+abbrev pub value_rows : ℕ × Report → List Row
+value_rows e = value_rows_from e.0 0 e.1.body.intervals
+
 -- ---- the stamps of what is shown
 
 -- 1 a program, 2 what a resource is shown of an event
@@ -143,6 +186,10 @@ mark_from columns =
 
 abbrev pub columns_row : MarkColumns → Row
 columns_row columns = number columns.state ∷ number columns.moment ∷ Text (string_bytes columns.body) ∷ []
+
+-- the columns of a report, without its intervals
+abbrev pub report_columns_row : ReportColumns → Row
+report_columns_row columns = head_columns columns.head columns.revision
 
 abbrev pub mirror_row : MirrorRow → Row
 mirror_row row = key_row row.key ++ columns_row row.mark

@@ -8,7 +8,7 @@ use Rattle.sqlite_value.specs.declared.value.Value.TheVariants.{Int}
 use Rattle.sqlite_sql.specs.declared.ops.BinaryOp.TheVariants.{And, Compare}
 use Rattle.sqlite_sql.specs.declared.ops.CompareOp.TheVariants.{Ge, Le}
 use Rattle.sqlite_sql.specs.Term.{Term, col, lit, op2}
-use Rattle.adr_sql.specs.Schemas.{column, cascades_to, table, checked_table, schema_of}
+use Rattle.adr_sql.specs.Schemas.{column, nullable_column, cascades_to, table, checked_table, schema_of}
 
 -- one row, of key 1: the version of these tables, and the numbers of the node
 abbrev pub meta_table : Table
@@ -79,8 +79,31 @@ stamp_table =
     ∷ column (codes "modified") Integer
     ∷ []) ((1 ∷ 2 ∷ 3 ∷ []) ∷ []) (1 ∷ 2 ∷ 3 ∷ []) []
 
+-- the reports on resources, which go with their resource, without their intervals: a revision is that of one report, and the other unique keys are
+-- there to find reports by their event and by their resource
+abbrev pub report_table : Table
+report_table =
+    table (codes "report") (column (codes "id") Integer
+    ∷ column (codes "event") Text
+    ∷ column (codes "resource") Integer
+    ∷ column (codes "program") Text
+    ∷ column (codes "client") Text
+    ∷ nullable_column (codes "name") Text
+    ∷ column (codes "resource_name") Text
+    ∷ column (codes "revision") Integer
+    ∷ []) ((1 ∷ []) ∷ (8 ∷ []) ∷ (2 ∷ 1 ∷ []) ∷ (3 ∷ 1 ∷ []) ∷ []) (1 ∷ []) (cascades_to 3 (codes "resource") (codes "id") ∷ [])
+
+-- the intervals of a report, by their places in it, which go with their report
+abbrev pub report_value_table : Table
+report_value_table =
+    table (codes "report_value") (column (codes "report") Integer
+    ∷ column (codes "pos") Integer
+    ∷ column (codes "interval") Integer
+    ∷ nullable_column (codes "value") Integer
+    ∷ []) ((1 ∷ 2 ∷ []) ∷ []) (1 ∷ 2 ∷ []) (cascades_to 1 (codes "report") (codes "id") ∷ [])
+
 abbrev pub tables : List Table
-tables = meta_table ∷ mirror_table ∷ polled_table ∷ ven_table ∷ resource_table ∷ share_table ∷ stamp_table ∷ []
+tables = meta_table ∷ mirror_table ∷ polled_table ∷ ven_table ∷ resource_table ∷ share_table ∷ stamp_table ∷ report_table ∷ report_value_table ∷ []
 
 abbrev pub schema : Schema
 schema = schema_of tables

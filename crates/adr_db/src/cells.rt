@@ -1,6 +1,7 @@
 //! Columns of a row as the values that they stand for. What no call of this crate wrote is the store's
 //! refusal.
 ghost use Rattle.std.specs.Prelude.{◌≡◌, ◌<◌, ◌+◌, pos, [], ◌∷◌, IfOk, IfErr, IsTrue};
+ghost use Rattle.sqlite_sql.specs.Ops.{is_null};
 ghost use Rattle.sqlite.specs.Order.{column};
 ghost use Rattle.sqlite_value.specs.Value.{owned};
 ghost use Rattle.sqlite.specs.declared.types.Value.TheVariants.{Int, Text};
@@ -28,6 +29,16 @@ pub(crate) fn column<T: FromSql>(row: &Row, at: usize) -> Result<T, Refusal>
     ensures refused { IfErr result (IsMisread T.FromSql.is_readable (column row.now at)) }
 {
     row.get(at).map_err(refusal_of)
+}
+
+/// Whether there is no value in a column.
+pub(crate) fn is_null(row: &Row, at: usize) -> bool
+    ensures { result ≡ is_null (column row.now at) }
+{
+    match row.get_ref(at) {
+        Ok(ValueRef::Null) | Err(_) => true,
+        Ok(_) => false,
+    }
 }
 
 /// A number as SQL keeps it, or the store's refusal of one above 9,223,372,036,854,775,807.

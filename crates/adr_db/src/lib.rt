@@ -8,6 +8,8 @@ mod mirror;
 mod polled;
 mod probes;
 mod reading;
+mod report;
+mod report_value;
 mod resource;
 mod schema;
 mod share;
@@ -23,6 +25,9 @@ pub use mirror::{
 };
 pub use polled::{clear_polled, put_polled, read_polled, read_polled_set};
 pub use probes::read_unseen;
+pub use report::{
+    count_reports, put_report, read_report, read_reports, read_reports_of, remove_report,
+};
 pub use resource::{
     count_resources, put_resource, read_resource, read_resources, read_resources_named,
     remove_resource,

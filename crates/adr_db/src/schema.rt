@@ -39,15 +39,31 @@ const SHARE: &str =
 const STAMP: &str =
     "CREATE TABLE stamp (kind INT NOT NULL, a TEXT NOT NULL, b INT NOT NULL, created INT NOT NULL, modified INT NOT NULL, PRIMARY KEY (kind, a, b)) STRICT";
 
+const REPORT: &str =
+    "CREATE TABLE report (id INT NOT NULL, event TEXT NOT NULL, resource INT NOT NULL REFERENCES resource (id) ON DELETE CASCADE, program TEXT NOT NULL, client TEXT NOT NULL, name TEXT, resource_name TEXT NOT NULL, revision INT NOT NULL, PRIMARY KEY (id), UNIQUE (revision), UNIQUE (event, id), UNIQUE (resource, id)) STRICT";
+
+const REPORT_VALUE: &str =
+    "CREATE TABLE report_value (report INT NOT NULL REFERENCES report (id) ON DELETE CASCADE, pos INT NOT NULL, interval INT NOT NULL, value INT, PRIMARY KEY (report, pos)) STRICT";
+
 /// Makes the tables of a new node, which keep nothing, in an empty database.
 pub fn create<S: Alter>(tx: &mut Transaction<'_, S>) -> Result<(), Refusal>
     ensures same_reference { tx.new.conn.ghost_name ≡ tx.old.conn.ghost_name }
     ensures stays { Stays S.Store tx.old.conn.now tx.new.conn.now result }
     ensures made { HasCleanDisk (state S.Store tx.new.conn.now) → OnOk result (Holds no_schema [] (state S.Store tx.old.conn.now) → Keeps nothing_kept (state S.Store tx.new.conn.now)) }
     ensures refused { IfErr result IsOfStore }
-    ensures fails { RefusesToRunAll S.Store tx.old.conn.now tx.new.conn.now (META.now ∷ MIRROR.now ∷ POLLED.now ∷ VEN.now ∷ RESOURCE.now ∷ SHARE.now ∷ STAMP.now ∷ []) PUT.now (meta_numbers first_meta) result }
+    ensures fails { RefusesToRunAll S.Store tx.old.conn.now tx.new.conn.now (META.now ∷ MIRROR.now ∷ POLLED.now ∷ VEN.now ∷ RESOURCE.now ∷ SHARE.now ∷ STAMP.now ∷ REPORT.now ∷ REPORT_VALUE.now ∷ []) PUT.now (meta_numbers first_meta) result }
 {
-    let texts = [META, MIRROR, POLLED, VEN, RESOURCE, SHARE, STAMP];
+    let texts = [
+        META,
+        MIRROR,
+        POLLED,
+        VEN,
+        RESOURCE,
+        SHARE,
+        STAMP,
+        REPORT,
+        REPORT_VALUE,
+    ];
     match create_tables(tx, &texts) {
         Ok(()) => write_meta(tx, &Meta::first()),
         Err(error) => Err(refusal_of(error)),

@@ -7,6 +7,7 @@ ghost use Rattle.adr_db.specs.Images.{image_kept};
 use crate::meta::read_meta;
 use crate::mirror::read_mirror;
 use crate::polled::read_polled_set;
+use crate::report::read_reports;
 use crate::resource::read_resources;
 use crate::share::read_shares;
 use crate::stamp::read_stamps;
@@ -16,7 +17,7 @@ use adr_text::Refusal;
 use sqlite::{Alter, Transaction};
 use std::alloc::Global;
 
-/// The vens, resources and shares.
+/// The vens, resources, shares and reports.
 pub fn read_portfolio<S: Alter>(
     alloc: Global,
     tx: &mut Transaction<'_, S>,
@@ -30,6 +31,7 @@ pub fn read_portfolio<S: Alter>(
         vens: read_vens(alloc, tx)?,
         resources: read_resources(alloc, tx)?,
         shares: read_shares(alloc, tx)?,
+        reports: read_reports(alloc, tx)?,
     })
 }
 
