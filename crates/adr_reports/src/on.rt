@@ -1,11 +1,8 @@
 //! The shown event that a report is on, from the tables.
-ghost use Rattle.std.specs.Prelude.{◌≡◌, ℕ, Option, is_some, option_map, option_and_then, IfErr};
-ghost use Rattle.adr_state.specs.Keys.{mirror_cmp, at};
+ghost use Rattle.std.specs.Prelude.{◌≡◌, is_some, option_map, IfOk, IfErr};
 ghost use Rattle.adr_state.specs.Resources.{resource_with_id};
 ghost use Rattle.adr_state.specs.ShownIds.{resource_named};
 ghost use Rattle.adr_state.specs.Participants.{as_participant, participant_of};
-ghost use Rattle.adr_state.specs.declared.portfolio.Resource.{Resource as ResourceRow};
-ghost use Rattle.adr_view.specs.Views.{event_key};
 ghost use Rattle.adr_view.specs.Reports.{is_shown_to, reported_of, reported_by, reported_in, reported};
 ghost use Rattle.adr_sql.specs.Calls.{Stays};
 ghost use Rattle.adr_db.specs.Calls.{Finds, IsOfStore};

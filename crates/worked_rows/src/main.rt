@@ -18,7 +18,8 @@
 //!
 //! The commands of each row are then told as a list to a plain desk and to tables, which have to answer them alike and hold what the row led to.
 //!
-//! Who takes part in an event is read from tables of its own, by number and weight, since no line of a script asks for that alone.
+//! Who takes part in an event is read from tables of its own, by number and weight, and so are reports and roll-ups, since no line of a
+//! script asks for these yet.
 #![tactic(auto)]
 
 mod answers;
@@ -29,6 +30,7 @@ mod reader;
 mod report;
 mod row;
 mod same;
+mod site_reports;
 mod texts;
 mod twin;
 mod whole_run;
@@ -37,6 +39,7 @@ use crate::participants::run_participants;
 use crate::play::play;
 use crate::report::{report, report_both, report_list};
 use crate::row::{Row, read_row};
+use crate::site_reports::run_reports;
 use crate::texts::{read_texts, run_texts};
 use crate::twin::Twin;
 use crate::whole_run::take_alike;
@@ -189,7 +192,8 @@ fn run_all<R: Env + Files + Print + AllocGlobal + Clone + Drop>(rt: &R) -> Resul
     let rows = run_rows(rt, folder.as_str())?;
     let texts = run_texts_of(rt, folder.as_str())?;
     let participants = run_participants(rt)?;
-    Ok(rows && texts && participants)
+    let reports = run_reports(rt)?;
+    Ok(rows && texts && participants && reports)
 }
 
 fn main(rt: HostRuntime) -> Result<ExitCode> {

@@ -15,7 +15,7 @@ fn stamps() -> Result<Stamps, Refusal> {
     })
 }
 
-fn ven<S: Alter>(
+pub(crate) fn ven<S: Alter>(
     alloc: Global,
     tx: &mut Transaction<'_, S>,
     number: u64,
@@ -32,7 +32,7 @@ fn name_of(alloc: Global, name: &str) -> Result<ResourceName, Refusal> {
     ResourceName::new(alloc, name).map_err(|_| Refusal::BadShape)
 }
 
-fn resource<S: Alter>(
+pub(crate) fn resource<S: Alter>(
     alloc: Global,
     tx: &mut Transaction<'_, S>,
     number: u64,
@@ -47,7 +47,7 @@ fn resource<S: Alter>(
     put_resource(tx, Number::new(number), &resource)
 }
 
-fn share<S: Alter>(
+pub(crate) fn share<S: Alter>(
     alloc: Global,
     tx: &mut Transaction<'_, S>,
     program: &str,
