@@ -218,9 +218,9 @@ ven_removed n old new count h kept was =
     let resources_left = filter-map (λ row. not (is_number (λ v. v == n) (column row 1))) resource_row kept.portfolio.resources in
     let shares_left = filter-map (λ row. not (is_number (is_of_ven n kept.portfolio.resources) (column row 1))) share_row kept.portfolio.shares in
     let reports_left = filter-map (λ row. not (is_number (is_of_ven n kept.portfolio.resources) (column row 2))) report_row kept.portfolio.reports in
-    let values_left = values_off (is_of_ven n kept.portfolio.resources) kept.portfolio.reports (reports_rise kept old was) in
+    let values_gone = values_off (is_of_ven n kept.portfolio.resources) kept.portfolio.reports (reports_rise kept old was) in
     record {
-      rows = subst (λ all. Holds schema all new) (λ i. with_rows ven_map (left i) (with_rows resource_map (resources_left i) (with_rows share_map (shares_left i) (with_report_rows (reports_left i) (values_left i) (contents_of kept)))))
+      rows = subst (λ all. Holds schema all new) (λ i. with_rows ven_map (left i) (with_rows resource_map (resources_left i) (with_rows share_map (shares_left i) (with_report_rows (reports_left i) (values_gone i) (contents_of kept)))))
           (cascade_runs schema ven_map.rows.at 1 ven ven_keyed.place VEN_REMOVE.now (number_row n) vens.texts.removes refl (with_ven_gone kept old was n) old new count (contents_of kept) (ven_chain kept old was n) (λ row. refl) h was.rows);
       marks = was.marks;
     }
@@ -230,9 +230,9 @@ resource_removed n old new count h kept was =
     let left = rows_left resource_map.rows (contents_of kept) kept.portfolio.resources refl n old was.rows in
     let shares_left = filter-map (λ row. not (is_number (λ r. r == n) (column row 1))) share_row kept.portfolio.shares in
     let reports_left = filter-map (λ row. not (is_number (λ r. r == n) (column row 2))) report_row kept.portfolio.reports in
-    let values_left = values_off (λ r. r == n) kept.portfolio.reports (reports_rise kept old was) in
+    let values_gone = values_off (λ r. r == n) kept.portfolio.reports (reports_rise kept old was) in
     record {
-      rows = subst (λ all. Holds schema all new) (λ i. with_rows resource_map (left i) (with_rows share_map (shares_left i) (with_report_rows (reports_left i) (values_left i) (contents_of kept))))
+      rows = subst (λ all. Holds schema all new) (λ i. with_rows resource_map (left i) (with_rows share_map (shares_left i) (with_report_rows (reports_left i) (values_gone i) (contents_of kept))))
           (cascade_runs schema resource_map.rows.at 1 resource resource_keyed.place RESOURCE_REMOVE.now (number_row n) resources.texts.removes refl (with_resource_gone kept old was n) old new count (contents_of kept) (resource_chain kept old was n) (λ row. refl) h was.rows);
       marks = was.marks;
     }

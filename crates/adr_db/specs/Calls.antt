@@ -18,11 +18,6 @@ module _ {S : Type 0} (g : Ghosts S) (old new : Held S) where
   abbrev pub LeavesKept : {T E : Type 0} → (Kept → Kept) → Result T E → Type 0
   LeavesKept change result = HasCleanDisk (state g new) → OnOk result ((kept : Kept) → Keeps kept (state g old) → Keeps (change kept) (state g new))
 
-  -- after Ok, the rows of `report_value` are changed, whatever rows `report` holds; the others are as they were
-  abbrev pub ChangesValues : {T E : Type 0} → (List Row → List Row) → Result T E → Type 0
-  ChangesValues change result =
-      HasCleanDisk (state g new) → OnOk result ((kept : Kept) (reports values : List Row) → Holds schema (contents_with reports values kept) (state g old) → Holds schema (contents_with reports (change values) kept) (state g new))
-
   -- so they do, and the answer is right for the state that they held
   abbrev pub Turns : {T E : Type 0} → (Kept → Kept) → (Kept → T → Type 0) → Result T E → Type 0
   Turns change IsRight result = HasCleanDisk (state g new) → IfOk result (λ x. (kept : Kept) → Keeps kept (state g old) → IsRight kept x × Keeps (change kept) (state g new))
@@ -34,6 +29,11 @@ module _ {S : Type 0} (g : Ghosts S) (old new : Held S) where
   -- after Ok, the answer is right for the rows that the query shows with these parameters
   abbrev pub Shows : {T E : Type 0} → List ℕ → Row → (List Row → T → Type 0) → Result T E → Type 0
   Shows sql params IsRight result = HasCleanDisk (state g new) → IfOk result (λ x. (rows : List Row) × Shown sql params (state g old) (state g new) rows × IsRight rows x)
+
+  -- after Ok, the rows of `report_value` are changed, whatever rows `report` holds; the others are as they were
+  abbrev pub ChangesValues : {T E : Type 0} → (List Row → List Row) → Result T E → Type 0
+  ChangesValues change result =
+      HasCleanDisk (state g new) → OnOk result ((kept : Kept) (reports values : List Row) → Holds schema (contents_with reports values kept) (state g old) → Holds schema (contents_with reports (change values) kept) (state g new))
 
 -- an error of the store as a refusal
 abbrev pub refusal_of : Error → Refusal
