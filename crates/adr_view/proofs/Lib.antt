@@ -7,3 +7,4 @@ pub mod ViewLemmas
 pub mod ShownLemmas
 pub mod LawLemmas
 pub mod LatestLemmas
+pub mod ReportedLemmas

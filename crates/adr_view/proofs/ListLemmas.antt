@@ -38,6 +38,20 @@ module _ {A B : Type 0} (f : A → List B) where
       let P : B → Type 0 = λ y. (x : A) × Contains xs x × Contains (f x) y in
       All-contains P (flat_map f xs) y (all_flat P xs (each_there (λ x. All P (f x)) xs (λ x there. each_there P (f x) (λ y here. (x, there, here)))))
 
+-- each that passes
+pub in_filter : {A : Type 0} (passes : A → Bool) (xs : List A) (x : A) → passes x ≡ true → Contains xs x → Contains (filter passes xs) x
+in_filter {A} passes xs x passed there = All-contains (λ a. passes a ≡ true → Contains (filter passes xs) a) xs x (each xs) there passed
+  where
+    more : (b : Bool) (z a : A) (zs : List A) → Contains (filter passes zs) a → Contains (cond b (z ∷ filter passes zs) (filter passes zs)) a
+    more true z a zs there = Contains-append_right (z ∷ []) (filter passes zs) a there
+    more false z a zs there = there
+
+    each : (zs : List A) → All (λ a. passes a ≡ true → Contains (filter passes zs) a) zs
+    each [] = All-nil (λ a. passes a ≡ true → Contains [] a)
+    each (z ∷ zs) =
+        All-cons (λ a. passes a ≡ true → Contains (filter passes (z ∷ zs)) a) z zs (λ is. rw is (0, omega arith, refl))
+        (All-weaker (λ a. passes a ≡ true → Contains (filter passes zs) a) (λ a. passes a ≡ true → Contains (filter passes (z ∷ zs)) a) (λ a h is. more (passes z) z a zs (h is)) zs (each zs))
+
 -- what stands at a place, with that place
 pub placed : {A : Type 0} (xs : List A) (k : ℕ) (x : A) → slice_get xs k ≡ Some x → Contains (enumerate_from 0 xs) (k, x)
 placed xs k x is =
@@ -55,6 +69,30 @@ module _ {A B : Type 0} (f : A → Option B) where
       one : (o : Option B) → IfSome o Q → All Q (filter_map f xs) → All Q (cons_option o (filter_map f xs))
       one None first rest = rest
       one (Some y) first rest = All-cons Q y (filter_map f xs) first rest
+
+  -- each that is made of one
+  pub in_filter_map : (xs : List A) (x : A) (y : B) → f x ≡ Some y → Contains xs x → Contains (filter_map f xs) y
+  in_filter_map xs x y made there = All-contains (λ a. f a ≡ Some y → Contains (filter_map f xs) y) xs x (each xs) there made
+    where
+      more : (o : Option B) (zs : List A) → Contains (filter_map f zs) y → Contains (cons_option o (filter_map f zs)) y
+      more None zs there = there
+      more (Some z) zs there = Contains-append_right (z ∷ []) (filter_map f zs) y there
+
+      each : (zs : List A) → All (λ a. f a ≡ Some y → Contains (filter_map f zs) y) zs
+      each [] = All-nil (λ a. f a ≡ Some y → Contains [] y)
+      each (z ∷ zs) =
+          All-cons (λ a. f a ≡ Some y → Contains (filter_map f (z ∷ zs)) y) z zs (λ is. rw is (0, omega arith, refl))
+          (All-weaker (λ a. f a ≡ Some y → Contains (filter_map f zs) y) (λ a. f a ≡ Some y → Contains (filter_map f (z ∷ zs)) y) (λ a h is. more (f z) zs (h is)) zs (each zs))
+
+  pub from_filter_map : (xs : List A) (y : B) → Contains (filter_map f xs) y → (x : A) × Contains xs x × (f x ≡ Some y)
+  from_filter_map xs y = All-contains IsMade (filter_map f xs) y (all_filter_map (Contains xs) IsMade (λ x there. one x there (f x) refl) xs (each_there (Contains xs) xs (λ x there. there)))
+    where
+      IsMade : B → Type 0
+      IsMade y = (x : A) × Contains xs x × (f x ≡ Some y)
+
+      one : (x : A) → Contains xs x → (o : Option B) → f x ≡ o → IfSome o IsMade
+      one x there None is = tt
+      one x there (Some y) is = (x, there, is)
 
   pub map_filter_map : {C : Type 0} (g : B → C) (h : A → Option C) (xs : List A) → All (λ x. option_map g (f x) ≡ h x) xs → map g (filter_map f xs) ≡ filter_map h xs
   map_filter_map g h [] same = refl

@@ -1,5 +1,5 @@
 -- Laws of what is shown, whatever the definitions are given.
-use Rattle.std.specs.Prelude.{◌≡◌, ◌≤◌, ℕ, ℤ, Bool, false, List, filter, None, Some, IfSome, IsSomeAnd}
+use Rattle.std.specs.Prelude.{◌≡◌, ◌≤◌, ℕ, ℤ, Bool, false, List, filter, None, Some, IsSome, IfSome, IsSomeAnd}
 use Rattle.std.specs.List.{All, Contains}
 use Rattle.std.specs.Bool.{Decides}
 use Rattle.std.specs.List.Sorted.{IsStrictlySortedBy}
@@ -8,13 +8,18 @@ use Rattle.std.specs.Ordering.{nat_cmp, is_eq}
 use Rattle.adr_split.specs.FairSplit.{sum_of_parts}
 use Rattle.adr_split.specs.Laws.{AreWeights}
 use Rattle.adr_objects.specs.declared.interval.Interval.{Interval}
+use Rattle.adr_objects.specs.declared.shown.ShownEvent.{ShownEvent}
 use Rattle.adr_state.specs.declared.base.Base.{Base}
 use Rattle.adr_state.specs.declared.keys.ViewKey.{ViewKey}
 use Rattle.adr_state.specs.declared.keys.ViewKey.TheVariants as key
-use Rattle.adr_state.specs.Keys.{id_cmp, mirror_cmp}
-use Rattle.adr_view.specs.declared.view.Content.{Content}
-use Rattle.adr_view.specs.Changes.{is_same_content}
+use Rattle.adr_state.specs.declared.portfolio.Resource.{Resource}
 use Rattle.adr_state.specs.declared.portfolio.Report.{Report}
+use Rattle.adr_state.specs.Keys.{id_cmp, mirror_cmp, view_cmp, at}
+use Rattle.adr_view.specs.declared.report.Reported.{Reported}
+use Rattle.adr_view.specs.declared.view.Content.{Content}
+use Rattle.adr_view.specs.declared.view.Content.TheVariants as content
+use Rattle.adr_view.specs.Changes.{is_same_content}
+use Rattle.adr_view.specs.Reports.{reported_by}
 use Rattle.adr_view.specs.Rollups.{value_in, latest_of}
 use Rattle.adr_view.specs.Views.{split_interval, shown_of, view}
 
@@ -53,3 +58,21 @@ pub record IsOfGreatestRevision (id : ℤ) (reports : List Report) (best : ℕ �
 pub record LatestIsOfGreatestRevision : Type 0 where
   pub of_some : (id : ℤ) (reports : List Report) (best : ℕ × ℤ) → latest_of id reports ≡ Some best → IsOfGreatestRevision id reports best
   pub of_none : (id : ℤ) (reports : List Report) → latest_of id reports ≡ None → All (λ r. value_in id r ≡ None) reports
+
+-- ---- what a report may be on
+
+-- what a report is on is this upstream event and this resource, with the program and the name that the resource is shown of the event
+pub record IsOnShown (id : List ℕ) (resource : ℕ) (shown : ShownEvent) (on : Reported) : Type 0 where
+  pub same_event : on.event ≡ id
+  pub same_resource : on.resource ≡ resource
+  pub same_program : on.program ≡ shown.program
+  pub same_name : on.resource_name ≡ shown.resource_name
+
+-- of an upstream event and a resource: where a report may be on it, the view has at their key an event, which is what it is on; and where the view has anything there, a report may be on it
+pub record IsReportedAsShown (base : Base) (id : List ℕ) (r : ℕ × Resource) : Type 0 where
+  pub what_is_reported_is_shown : (on : Reported) → reported_by base id r ≡ Some on → (shown : ShownEvent) × (at view_cmp (key.Event id r.0) (view base) ≡ Some (content.Event shown)) × IsOnShown id r.0 shown on
+  pub what_is_shown_is_reported : IsSome (at view_cmp (key.Event id r.0) (view base)) → IsSome (reported_by base id r)
+
+-- where rows stand in order, so it is of every upstream event and every resource that is there
+abbrev pub ReportsAreOnTheShown : Type 0
+ReportsAreOnTheShown = (base : Base) (id : List ℕ) (n : ℕ) (r : Resource) → StandsInOrder base → at nat_cmp n base.portfolio.resources ≡ Some r → IsReportedAsShown base id (n, r)

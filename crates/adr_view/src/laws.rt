@@ -1,5 +1,5 @@
 //! Laws of what is shown.
-ghost use Rattle.adr_view.specs.Laws.{SameContentsAreEqual, PartsSumUp, ShownIsOfTheView, LatestIsOfGreatestRevision};
+ghost use Rattle.adr_view.specs.Laws.{SameContentsAreEqual, PartsSumUp, ShownIsOfTheView, LatestIsOfGreatestRevision, ReportsAreOnTheShown};
 
 /// Two contents count as the same exactly where they are equal, so no change is missed or made up.
 pub fn same_contents_are_equal()
@@ -19,4 +19,10 @@ pub fn shown_is_of_the_view()
 /// The latest value is that of the report of greatest revision among those that have one.
 pub fn latest_is_of_greatest_revision()
     ensures { LatestIsOfGreatestRevision }
+{}
+
+/// What a report may be on, of an upstream event and a resource that is there, is exactly what the view has at
+/// their key, where rows stand in order.
+pub fn reports_are_on_the_shown()
+    ensures { ReportsAreOnTheShown }
 {}
