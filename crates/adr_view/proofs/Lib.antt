@@ -8,3 +8,4 @@ pub mod ShownLemmas
 pub mod LawLemmas
 pub mod LatestLemmas
 pub mod ReportedLemmas
+pub mod RollupLemmas

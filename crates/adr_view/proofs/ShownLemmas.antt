@@ -44,7 +44,7 @@ module _ (base : Base) (stands : StandsInOrder base) where
   by_number p = (p.resource, p)
 
   -- participants stand in the order of their numbers
-  participants_rise : (event : EventBody) → IsStrictlySortedBy nat_cmp (map (λ p. p.resource) (participants base.portfolio event))
+  pub participants_rise : (event : EventBody) → IsStrictlySortedBy nat_cmp (map (λ p. p.resource) (participants base.portfolio event))
   participants_rise event =
       let one : ℕ × Resource → Option (ℕ × Participant) = λ r. option_map by_number (participant_of base.portfolio event r) in
       subst (IsStrictlySortedBy nat_cmp)

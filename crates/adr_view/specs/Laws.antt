@@ -1,6 +1,6 @@
 -- Laws of what is shown, whatever the definitions are given.
 use Rattle.std.specs.Prelude.{◌≡◌, ◌≤◌, ℕ, ℤ, Bool, false, List, filter, None, Some, IsSome, IfSome, IsSomeAnd}
-use Rattle.std.specs.List.{All, Contains}
+use Rattle.std.specs.List.{All, AllPairs, Contains, filter_map}
 use Rattle.std.specs.Bool.{Decides}
 use Rattle.std.specs.List.Sorted.{IsStrictlySortedBy}
 use Rattle.std.specs.Map.{keys_of}
@@ -8,6 +8,8 @@ use Rattle.std.specs.Ordering.{nat_cmp, is_eq}
 use Rattle.adr_split.specs.FairSplit.{sum_of_parts}
 use Rattle.adr_split.specs.Laws.{AreWeights}
 use Rattle.adr_objects.specs.declared.interval.Interval.{Interval}
+use Rattle.adr_objects.specs.declared.body.EventBody.{EventBody}
+use Rattle.adr_objects.specs.declared.report.RollupInterval.{RollupInterval}
 use Rattle.adr_objects.specs.declared.shown.ShownEvent.{ShownEvent}
 use Rattle.adr_state.specs.declared.base.Base.{Base}
 use Rattle.adr_state.specs.declared.keys.ViewKey.{ViewKey}
@@ -15,12 +17,14 @@ use Rattle.adr_state.specs.declared.keys.ViewKey.TheVariants as key
 use Rattle.adr_state.specs.declared.portfolio.Resource.{Resource}
 use Rattle.adr_state.specs.declared.portfolio.Report.{Report}
 use Rattle.adr_state.specs.Keys.{id_cmp, mirror_cmp, view_cmp, at}
+use Rattle.adr_state.specs.Participants.{participants}
 use Rattle.adr_view.specs.declared.report.Reported.{Reported}
+use Rattle.adr_view.specs.declared.rollup.Reporter.{Reporter}
 use Rattle.adr_view.specs.declared.view.Content.{Content}
 use Rattle.adr_view.specs.declared.view.Content.TheVariants as content
 use Rattle.adr_view.specs.Changes.{is_same_content}
 use Rattle.adr_view.specs.Reports.{reported_by}
-use Rattle.adr_view.specs.Rollups.{value_in, latest_of}
+use Rattle.adr_view.specs.Rollups.{value_in, latest_of, latest, reports_of, reporters, rollup_for}
 use Rattle.adr_view.specs.Views.{split_interval, shown_of, view}
 
 -- two contents count as the same exactly where they are equal
@@ -76,3 +80,25 @@ pub record IsReportedAsShown (base : Base) (id : List ℕ) (r : ℕ × Resource)
 -- where rows stand in order, so it is of every upstream event and every resource that is there
 abbrev pub ReportsAreOnTheShown : Type 0
 ReportsAreOnTheShown = (base : Base) (id : List ℕ) (n : ℕ) (r : Resource) → StandsInOrder base → at nat_cmp n base.portfolio.resources ≡ Some r → IsReportedAsShown base id (n, r)
+
+-- ---- the roll-up
+
+-- the names that are told of an interval are of those whose latest value lacks, and of all of them, in the order of bytes and each once
+pub record AreThoseThatLack (id : ℤ) (rs : List Reporter) (names : List (List ℕ)) : Type 0 where
+  pub in_order : IsStrictlySortedBy id_cmp names
+  pub who_lacks_is_named : (r : Reporter) → Contains rs r → latest id r.reports ≡ None → Contains names r.name
+  pub who_is_named_lacks : (name : List ℕ) → Contains names name → (r : Reporter) × Contains rs r × (latest id r.reports ≡ None) × (r.name ≡ name)
+
+-- in an interval each of them counts by one value, its latest, or is named
+pub record CountsEachOnce (rs : List Reporter) (i : RollupInterval) : Type 0 where
+  pub sum_of_the_latest : i.sum ≡ sum_of_parts (filter_map (λ r. latest i.id r.reports) rs)
+  pub named_where_it_lacks : AreThoseThatLack i.id rs i.missing
+
+-- no report is of both
+abbrev pub HaveNoneInCommon : Reporter → Reporter → Type 0
+HaveNoneInCommon a b = (report : Report) → Contains a.reports report → Contains b.reports report → ⊥
+
+-- so a roll-up does in each of its intervals; and where rows stand in order, no report of an event is of two of its participants
+pub record RollupsCountEachOnce : Type 0 where
+  pub each_by_its_latest : (event : EventBody) (rs : List Reporter) → IfSome (rollup_for event rs) (λ rollup. All (CountsEachOnce rs) rollup.intervals)
+  pub each_report_of_one : (base : Base) (id : List ℕ) (event : EventBody) → StandsInOrder base → AllPairs HaveNoneInCommon (reporters (reports_of id base.portfolio.reports) (participants base.portfolio event))

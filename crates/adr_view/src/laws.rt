@@ -1,5 +1,5 @@
 //! Laws of what is shown.
-ghost use Rattle.adr_view.specs.Laws.{SameContentsAreEqual, PartsSumUp, ShownIsOfTheView, LatestIsOfGreatestRevision, ReportsAreOnTheShown};
+ghost use Rattle.adr_view.specs.Laws.{SameContentsAreEqual, PartsSumUp, ShownIsOfTheView, LatestIsOfGreatestRevision, ReportsAreOnTheShown, RollupsCountEachOnce};
 
 /// Two contents count as the same exactly where they are equal, so no change is missed or made up.
 pub fn same_contents_are_equal()
@@ -25,4 +25,11 @@ pub fn latest_is_of_greatest_revision()
 /// their key, where rows stand in order.
 pub fn reports_are_on_the_shown()
     ensures { ReportsAreOnTheShown }
+{}
+
+/// In each interval of a roll-up the sum is that of the latest values, one of each who has one, and exactly the
+/// others are named, in the order of bytes and each name once. Where rows stand in order, no report of an event
+/// is of two of its participants, so no value is counted twice.
+pub fn rollups_count_each_once()
+    ensures { RollupsCountEachOnce }
 {}
