@@ -27,8 +27,8 @@ pub fn reports_are_on_the_shown()
     ensures { ReportsAreOnTheShown }
 {}
 
-/// In each interval of a roll-up the sum is that of the latest values, one of each who has one, and exactly the
-/// others are named, in the order of bytes and each name once. Where rows stand in order, no report of an event
+/// In each interval of a roll-up the sum is that of the latest values, one of each who has one, and the
+/// names are exactly those of the others, in the order of bytes and each once. Where rows stand in order, no report of an event
 /// is of two of its participants, so no value is counted twice.
 pub fn rollups_count_each_once()
     ensures { RollupsCountEachOnce }
