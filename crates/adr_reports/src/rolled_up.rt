@@ -14,10 +14,7 @@ use sqlite::{Alter, Transaction};
 use std::alloc::{AllocError, Global};
 
 // Without their numbers.
-fn without_numbers(
-    alloc: Global,
-    rows: Rows<(Number, Report)>,
-) -> Result<Vec<Report>, AllocError>
+fn without_numbers(alloc: Global, rows: Rows<(Number, Report)>) -> Result<Vec<Report>, AllocError>
     ensures { IfOk result (λ reports. reports.items ≡ map (λ r. r.1) rows) }
 {
     let mut reports = Vec::new(alloc);

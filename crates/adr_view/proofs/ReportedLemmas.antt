@@ -168,13 +168,13 @@ module _ (base : Base) (stands : StandsInOrder base) (id : List ℕ) where
     abbrev mark_of : Option Mark
     mark_of = at mirror_cmp (event_key id) base.mirror
 
-    reported_shown : (on : Reported) → reported_by base id (n, r) ≡ Some on → (shown : ShownEvent) × (at view_cmp (key.Event id n) (view base) ≡ Some (content.Event shown)) × IsOnShown id n shown on
+    reported_shown : (on : Reported) → reported_by base.mirror base.portfolio id (n, r) ≡ Some on → (shown : ShownEvent) × (at view_cmp (key.Event id n) (view base) ≡ Some (content.Event shown)) × IsOnShown id n shown on
     reported_shown on h = let is = mark_shown mark_of on h in (is.0, stands_there n (content.Event is.0) is.1, is.2)
 
-    shown_reported : IsSome (at view_cmp (key.Event id n) (view base)) → IsSome (reported_by base id (n, r))
+    shown_reported : IsSome (at view_cmp (key.Event id n) (view base)) → IsSome (reported_by base.mirror base.portfolio id (n, r))
     shown_reported = by (at view_cmp (key.Event id n) (view base)) refl
       where
-        by : (shown : Option Content) → at view_cmp (key.Event id n) (view base) ≡ shown → IsSome shown → IsSome (reported_by base id (n, r))
+        by : (shown : Option Content) → at view_cmp (key.Event id n) (view base) ≡ shown → IsSome shown → IsSome (reported_by base.mirror base.portfolio id (n, r))
         by None found some = absurd (false≢true some)
         by (Some c) found some = mark_reported mark_of c (is_shown n c found)
 

@@ -74,8 +74,8 @@ pub record IsOnShown (id : List ℕ) (resource : ℕ) (shown : ShownEvent) (on :
 
 -- of an upstream event and a resource: where a report may be on it, the view has at their key an event, which is what it is on; and where the view has anything there, a report may be on it
 pub record IsReportedAsShown (base : Base) (id : List ℕ) (r : ℕ × Resource) : Type 0 where
-  pub what_is_reported_is_shown : (on : Reported) → reported_by base id r ≡ Some on → (shown : ShownEvent) × (at view_cmp (key.Event id r.0) (view base) ≡ Some (content.Event shown)) × IsOnShown id r.0 shown on
-  pub what_is_shown_is_reported : IsSome (at view_cmp (key.Event id r.0) (view base)) → IsSome (reported_by base id r)
+  pub what_is_reported_is_shown : (on : Reported) → reported_by base.mirror base.portfolio id r ≡ Some on → (shown : ShownEvent) × (at view_cmp (key.Event id r.0) (view base) ≡ Some (content.Event shown)) × IsOnShown id r.0 shown on
+  pub what_is_shown_is_reported : IsSome (at view_cmp (key.Event id r.0) (view base)) → IsSome (reported_by base.mirror base.portfolio id r)
 
 -- where rows stand in order, so it is of every upstream event and every resource that is there
 abbrev pub ReportsAreOnTheShown : Type 0

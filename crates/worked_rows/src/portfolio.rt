@@ -1,6 +1,6 @@
-//! Whether two bases hold the same vens, resources and shares.
-use adr_objects::Number;
-use adr_state::{Base, Resource, Resources, ShareKey, Ven, Weight};
+//! Whether two bases hold the same vens, resources, shares and reports.
+use adr_objects::{Number, ReportHead};
+use adr_state::{Base, Report, Resource, Resources, ShareKey, Ven, Weight};
 use adr_text::Table;
 
 fn has_ven(vens: &Table<Number, Ven>, number: &Number, ven: &Ven) -> bool {
@@ -40,10 +40,38 @@ fn are_same_shares(shares: &Table<ShareKey, Weight>, others: &Table<ShareKey, We
             .all(|(key, weight)| others.get(key) == Some(weight))
 }
 
-/// Whether both hold the same vens, resources and shares, and drew as many numbers.
+fn is_same_head(head: &ReportHead, other: &ReportHead) -> bool {
+    head.program == other.program
+        && head.event == other.event
+        && head.resource == other.resource
+        && head.client == other.client
+        && head.name == other.name
+        && head.resource_name == other.resource_name
+}
+
+fn has_report(reports: &Table<Number, Report>, number: &Number, report: &Report) -> bool {
+    match reports.get(number) {
+        Some(other) => {
+            report.revision == other.revision
+                && is_same_head(&report.body.head, &other.body.head)
+                && report.body.intervals.as_slice() == other.body.intervals.as_slice()
+        }
+        None => false,
+    }
+}
+
+fn are_same_reports(reports: &Table<Number, Report>, others: &Table<Number, Report>) -> bool {
+    reports.len() == others.len()
+        && reports
+            .iter()
+            .all(|(number, report)| has_report(others, number, report))
+}
+
+/// Whether both hold the same vens, resources, shares and reports, and drew as many numbers.
 pub fn is_same_portfolio(base: &Base, other: &Base) -> bool {
     base.serial == other.serial
         && are_same_vens(&base.portfolio.vens, &other.portfolio.vens)
         && are_same_resources(&base.portfolio.resources, &other.portfolio.resources)
         && are_same_shares(&base.portfolio.shares, &other.portfolio.shares)
+        && are_same_reports(&base.portfolio.reports, &other.portfolio.reports)
 }

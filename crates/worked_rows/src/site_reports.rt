@@ -165,17 +165,21 @@ fn row_11<S: Alter>(
     tx: &mut Transaction<'_, S>,
     limits: &Limits,
 ) -> Result<bool, Refusal> {
-    Ok(posts(alloc, tx, limits, 6, A1_40, SUM_40)?
-        && puts(alloc, tx, 7, "p6", A1_45, SUM_45)?
-        && posts(alloc, tx, limits, 8, A2_5, SUM_50)?
-        && posts(alloc, tx, limits, 9, B1_0, SUM_50_OF_ALL)?)
+    Ok(
+        posts(alloc, tx, limits, 6, A1_40, SUM_40)?
+            && puts(alloc, tx, 7, "p6", A1_45, SUM_45)?
+            && posts(alloc, tx, limits, 8, A2_5, SUM_50)?
+            && posts(alloc, tx, limits, 9, B1_0, SUM_50_OF_ALL)?,
+    )
 }
 
 // They go, and the last takes the roll-up along.
 fn all_go<S: Alter>(alloc: Global, tx: &mut Transaction<'_, S>) -> Result<bool, Refusal> {
-    Ok(deletes(alloc, tx, "p6", SUM_5_OF_A2_AND_B1)?
-        && deletes(alloc, tx, "p8", SUM_0)?
-        && deletes(alloc, tx, "p9", NONE)?)
+    Ok(
+        deletes(alloc, tx, "p6", SUM_5_OF_A2_AND_B1)?
+            && deletes(alloc, tx, "p8", SUM_0)?
+            && deletes(alloc, tx, "p9", NONE)?,
+    )
 }
 
 // The reports of row 12: two on one event, of which the later counts, and goes first.
@@ -184,10 +188,12 @@ fn row_12<S: Alter>(
     tx: &mut Transaction<'_, S>,
     limits: &Limits,
 ) -> Result<bool, Refusal> {
-    Ok(posts(alloc, tx, limits, 6, A1_40, SUM_40)?
-        && posts(alloc, tx, limits, 7, A1_45, SUM_45)?
-        && deletes(alloc, tx, "p7", SUM_40)?
-        && deletes(alloc, tx, "p6", NONE)?)
+    Ok(
+        posts(alloc, tx, limits, 6, A1_40, SUM_40)?
+            && posts(alloc, tx, limits, 7, A1_45, SUM_45)?
+            && deletes(alloc, tx, "p7", SUM_40)?
+            && deletes(alloc, tx, "p6", NONE)?,
+    )
 }
 
 // A report that does not fit its event, of row 19, and one on an event or a resource that isn't there.
@@ -196,10 +202,18 @@ fn refused_posts<S: Alter>(
     tx: &mut Transaction<'_, S>,
     limits: &Limits,
 ) -> Result<bool, Refusal> {
-    Ok(posts(alloc, tx, limits, 6, A2_IN_PLACE_OF_A1, "ResourceNotOfEvent")?
-        && posts(alloc, tx, limits, 6, NO_EVENT, "NotFound")?
-        && posts(alloc, tx, limits, 6, NO_RESOURCE, "NotFound")?
-        && posts(alloc, tx, limits, 6, NO_DASH, "NotFound")?)
+    Ok(
+        posts(
+            alloc,
+            tx,
+            limits,
+            6,
+            A2_IN_PLACE_OF_A1,
+            "ResourceNotOfEvent",
+        )? && posts(alloc, tx, limits, 6, NO_EVENT, "NotFound")?
+            && posts(alloc, tx, limits, 6, NO_RESOURCE, "NotFound")?
+            && posts(alloc, tx, limits, 6, NO_DASH, "NotFound")?,
+    )
 }
 
 // With room for one report, the second is refused, the first may be replaced, also by one on another event; what
@@ -209,12 +223,14 @@ fn one_at_most<S: Alter>(
     tx: &mut Transaction<'_, S>,
     limits: &Limits,
 ) -> Result<bool, Refusal> {
-    Ok(posts(alloc, tx, limits, 6, A1_40, SUM_40)?
-        && posts(alloc, tx, limits, 7, A1_45, "LimitReached")?
-        && puts(alloc, tx, 7, "p6", A2_5, SUM_5)?
-        && puts(alloc, tx, 8, "p7", A1_45, "NotFound")?
-        && deletes(alloc, tx, "p7", "NotFound")?
-        && deletes(alloc, tx, "r6", "NotFound")?)
+    Ok(
+        posts(alloc, tx, limits, 6, A1_40, SUM_40)?
+            && posts(alloc, tx, limits, 7, A1_45, "LimitReached")?
+            && puts(alloc, tx, 7, "p6", A2_5, SUM_5)?
+            && puts(alloc, tx, 8, "p7", A1_45, "NotFound")?
+            && deletes(alloc, tx, "p7", "NotFound")?
+            && deletes(alloc, tx, "r6", "NotFound")?,
+    )
 }
 
 fn run_all<S: Alter>(
@@ -223,11 +239,13 @@ fn run_all<S: Alter>(
     limits: &Limits,
     one: &Limits,
 ) -> Result<bool, Refusal> {
-    Ok(row_11(alloc, tx, limits)?
-        && all_go(alloc, tx)?
-        && row_12(alloc, tx, limits)?
-        && refused_posts(alloc, tx, limits)?
-        && one_at_most(alloc, tx, one)?)
+    Ok(
+        row_11(alloc, tx, limits)?
+            && all_go(alloc, tx)?
+            && row_12(alloc, tx, limits)?
+            && refused_posts(alloc, tx, limits)?
+            && one_at_most(alloc, tx, one)?,
+    )
 }
 
 fn run_in<S: Alter>(alloc: Global, tx: &mut Transaction<'_, S>) -> Result<bool, Refusal> {
