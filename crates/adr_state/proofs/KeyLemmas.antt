@@ -7,7 +7,7 @@ use Rattle.adr_objects.specs.contracts.kind.KindOrd.TheImpl as kind
 use Rattle.adr_state.specs.contracts.keys.MirrorKeyOrd.TheImpl as key
 use Rattle.adr_state.specs.contracts.keys.ViewKeyOrd.TheImpl as view
 use Rattle.adr_state.specs.declared.keys.ViewKey.{ViewKey}
-use Rattle.adr_state.specs.declared.keys.ViewKey.TheVariants.{Program as Known, Event as Shown}
+use Rattle.adr_state.specs.declared.keys.ViewKey.TheVariants as shown
 use Rattle.adr_state.specs.Keys.{kind_cmp, id_cmp, mirror_cmp, view_cmp}
 
 kinds_same : (a b : Kind) → kind.cmp-value.it a b ≡ kind_cmp a b
@@ -20,10 +20,22 @@ pub mirror_order : key.cmp-value.it ≡ mirror_cmp
 mirror_order = λ k. λ a b. ordering_then (kinds_same a.kind b.kind k) (id_cmp a.id b.id)
 
 views_same : (a b : ViewKey) → view.cmp-value.it a b ≡ view_cmp a b
-views_same (Known a) (Known b) = refl
-views_same (Known a) (Shown b n) = refl
-views_same (Shown a m) (Known b) = refl
-views_same (Shown a m) (Shown b n) = refl
+views_same (shown.Program a) (shown.Program b) = refl
+views_same (shown.Program a) (shown.Event b n) = refl
+views_same (shown.Program a) (shown.Report n) = refl
+views_same (shown.Program a) (shown.Rollup b) = refl
+views_same (shown.Event a m) (shown.Program b) = refl
+views_same (shown.Event a m) (shown.Event b n) = refl
+views_same (shown.Event a m) (shown.Report n) = refl
+views_same (shown.Event a m) (shown.Rollup b) = refl
+views_same (shown.Report m) (shown.Program b) = refl
+views_same (shown.Report m) (shown.Event b n) = refl
+views_same (shown.Report m) (shown.Report n) = refl
+views_same (shown.Report m) (shown.Rollup b) = refl
+views_same (shown.Rollup a) (shown.Program b) = refl
+views_same (shown.Rollup a) (shown.Event b n) = refl
+views_same (shown.Rollup a) (shown.Report n) = refl
+views_same (shown.Rollup a) (shown.Rollup b) = refl
 
 -- and so is that of the view's keys
 pub view_order : view.cmp-value.it ≡ view_cmp

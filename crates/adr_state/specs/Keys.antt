@@ -11,7 +11,7 @@ use Rattle.adr_objects.specs.declared.kind.Kind.TheVariants as kind
 use Rattle.adr_state.specs.declared.keys.MirrorKey.{MirrorKey}
 use Rattle.adr_state.specs.declared.keys.ShareKey.{ShareKey}
 use Rattle.adr_state.specs.declared.keys.ViewKey.{ViewKey}
-use Rattle.adr_state.specs.declared.keys.ViewKey.TheVariants.{Program, Event}
+use Rattle.adr_state.specs.declared.keys.ViewKey.TheVariants.{Program, Event, Report, Rollup}
 
 -- programs before events
 abbrev pub kind_cmp : Kind → Kind → Ordering
@@ -29,12 +29,20 @@ mirror_cmp a b = ordering_then (kind_cmp a.kind b.kind) (id_cmp a.id b.id)
 abbrev pub share_cmp : ShareKey → ShareKey → Ordering
 share_cmp a b = ordering_then (id_cmp a.program b.program) (nat_cmp a.resource b.resource)
 
--- programs by upstream id, and then events by upstream id and by resource number
+-- where a key stands by what is shown at it: programs, then events, reports and roll-ups
+abbrev pub place_of : ViewKey → ℕ
+place_of (Program id) = 0
+place_of (Event id resource) = 1
+place_of (Report n) = 2
+place_of (Rollup id) = 3
+
+-- programs by upstream id, then events by upstream id and by resource number, reports by number, and roll-ups by upstream id
 abbrev pub view_cmp : ViewKey → ViewKey → Ordering
 view_cmp (Program a) (Program b) = id_cmp a b
-view_cmp (Program a) (Event b n) = Less
-view_cmp (Event a m) (Program b) = Greater
 view_cmp (Event a m) (Event b n) = ordering_then (id_cmp a b) (nat_cmp m n)
+view_cmp (Report m) (Report n) = nat_cmp m n
+view_cmp (Rollup a) (Rollup b) = id_cmp a b
+view_cmp a b = nat_cmp (place_of a) (place_of b)
 
 -- what a map has at a key
 abbrev pub at : {K V : Type 0} → (K → K → Ordering) → K → List (K × V) → Option V

@@ -23,4 +23,8 @@ pub enum ViewKey {
     Program(ObjectId),
     /// What a resource is shown of an upstream event.
     Event(ObjectId, Number),
+    /// A report, by its number.
+    Report(Number),
+    /// The roll-up of an upstream event.
+    Rollup(ObjectId),
 }
