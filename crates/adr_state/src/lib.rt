@@ -26,7 +26,7 @@ pub use limits::{Limit, Limits, Settings};
 pub use lists::push_some;
 pub use mirror::{join, key_of, mark_of, raise};
 pub use names::{Named, check_free, check_new, is_taken, is_taken_by_another};
-pub use participants::{Participant, is_for, participants_of};
+pub use participants::{Participant, is_for, participant_of, participants_of};
 pub use polled::{Polled, poll, probes};
 pub use portfolio::{Portfolio, Report, Resource, Resources, Ven, Weight};
 pub use serial::Serial;

@@ -56,7 +56,8 @@ fn as_participant(
     }))
 }
 
-fn participant_of(
+/// The resource as one that takes part in an event, where it does.
+pub fn participant_of(
     portfolio: &Portfolio,
     event: &EventBody,
     number: Number,

@@ -5,6 +5,7 @@ pub mod ListLemmas
 pub mod KeyLemmas
 pub mod ViewLemmas
 pub mod ShownLemmas
+pub mod OtherLemmas
 pub mod LawLemmas
 pub mod LatestLemmas
 pub mod ReportedLemmas

@@ -134,7 +134,7 @@ in_order_filter_map {K} {X} {Y} cmp f own (e ∷ es) h = one (f e) (own e) (in_o
     one None is rest = rest
     one (Some y) is rest = (subst (λ k. AllByRecursion (Behind cmp k) (keys_of (filter_map f es))) (sym is) (through (Behind cmp e.0) (Behind cmp e.0) (keys_of es) (keys_of (filter_map f es)) behind h.0), rest)
 
-in_order_append : {K X : Type 0} (cmp : K → K → Ordering) (xs ys : List (K × X)) → InOrder cmp xs → InOrder cmp ys → ((a b : K × X) → Contains xs a → Contains ys b → Behind cmp a.0 b.0) → InOrder cmp (xs ++ ys)
+pub in_order_append : {K X : Type 0} (cmp : K → K → Ordering) (xs ys : List (K × X)) → InOrder cmp xs → InOrder cmp ys → ((a b : K × X) → Contains xs a → Contains ys b → Behind cmp a.0 b.0) → InOrder cmp (xs ++ ys)
 unfolding IsStrictlySortedBy
 in_order_append cmp [] ys one other apart = other
 in_order_append {K} {X} cmp (x ∷ xs) ys one other apart = (
@@ -145,16 +145,16 @@ in_order_append {K} {X} cmp (x ∷ xs) ys one other apart = (
 )
 
 -- rows of which some are made of each, where their keys tell of which
-module _ {K L X Y : Type 0} (cmp : K → K → Ordering) (order : L → L → Ordering) (of : L → K) (keeps : (l m : L) → cmp (of l) (of m) ≡ Less → order l m ≡ Less) (f : K × X → List (L × Y)) (own : (e : K × X) → All (λ r. of r.0 ≡ e.0) (f e)) (each : (e : K × X) → InOrder order (f e)) where
+module _ {K L X Y : Type 0} (cmp : K → K → Ordering) (order : L → L → Ordering) (IsOf : L → K → Type 0) (keeps : (j k : K) (l m : L) → IsOf l j → IsOf m k → cmp j k ≡ Less → order l m ≡ Less) (f : K × X → List (L × Y)) (own : (e : K × X) → All (λ r. IsOf r.0 e.0) (f e)) (each : (e : K × X) → InOrder order (f e)) where
   pub in_order_flat : (es : List (K × X)) → InOrder cmp es → InOrder order (flat_map f es)
   unfolding IsStrictlySortedBy
   in_order_flat [] h = tt
   in_order_flat (e ∷ es) h = in_order_append order (f e) (flat_map f es) (each e) (in_order_flat es h.1) (λ a b one other.
       let d = from_flat f es b other in
-      let mine : of a.0 ≡ e.0 = All-contains (λ r. of r.0 ≡ e.0) (f e) a (own e) one in
-      let its : of b.0 ≡ d.0.0 = All-contains (λ r. of r.0 ≡ d.0.0) (f d.0) b (own d.0) d.2 in
+      let mine : IsOf a.0 e.0 = All-contains (λ r. IsOf r.0 e.0) (f e) a (own e) one in
+      let its : IsOf b.0 d.0.0 = All-contains (λ r. IsOf r.0 d.0.0) (f d.0) b (own d.0) d.2 in
       let less : cmp e.0 d.0.0 ≡ Less = All-contains (λ (r : K × X). Behind cmp e.0 r.0) es d.0 (each_row (Behind cmp e.0) es (All-from_recursion (Behind cmp e.0) (keys_of es) h.0)) d.1 in
-      keeps a.0 b.0 (ap₂ cmp mine its ∙ less))
+      keeps e.0 d.0.0 a.0 b.0 mine its less)
 
 -- ---- rows of one key
 

@@ -23,8 +23,8 @@ use Rattle.adr_view.specs.declared.view.Content.{Content}
 use Rattle.adr_view.specs.declared.view.Content.TheVariants as content
 use Rattle.adr_view.specs.Laws.{StandsInOrder, is_key_of, IsOnShown, ReportsAreOnTheShown}
 use Rattle.adr_view.specs.Reports.{reported_of, reported_by}
-use Rattle.adr_view.specs.Rollups.{event_body}
-use Rattle.adr_view.specs.Views.{weights_of, split_interval, interval_at, event_row, rows_for, carries, event_rows, event_key, rows_known, shown_of, view}
+use Rattle.adr_view.specs.Rollups.{event_key, event_body}
+use Rattle.adr_view.specs.Views.{weights_of, split_interval, interval_at, event_row, rows_for, carries, event_rows, rows_known, shown_of, view}
 use Rattle.adr_view.proofs.KeyLemmas.{view_exact}
 use Rattle.adr_view.proofs.ListLemmas.{in_map, from_map, in_filter, in_filter_map, from_filter_map, placed}
 use Rattle.adr_view.proofs.RowLemmas.{from_filter}

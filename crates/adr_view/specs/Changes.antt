@@ -1,45 +1,15 @@
 -- The changes between two views, and the stamps after them.
-use Rattle.std.specs.Prelude.{ℕ, Bool, false, ◌&&◌, ◌==◌, List, [], ◌++◌, map, fold, Option, None, Some, if◌then◌else◌}
-use Rattle.std.specs.Ordering.{int_eq}
+use Rattle.std.specs.Prelude.{ℕ, Bool, true, false, List, [], ◌++◌, map, fold, Option, None, Some, if◌then◌else◌}
 use Rattle.std.specs.List.{filter_map}
 use Rattle.std.specs.BTreeSet.{insert_key}
-use Rattle.std.specs.Str.{bytes_eq}
-use Rattle.std.specs.Option.{option_eq}
-use Rattle.std.specs.Cmp.Lexicographic.{pointwise}
-use Rattle.adr_objects.specs.declared.interval.Period.{Period}
 use Rattle.adr_objects.specs.declared.shown.Stamps.{Stamps}
-use Rattle.adr_objects.specs.declared.shown.ShownInterval.{ShownInterval}
-use Rattle.adr_objects.specs.declared.shown.ShownEvent.{ShownEvent}
 use Rattle.adr_state.specs.declared.keys.ViewKey.{ViewKey}
+use Rattle.adr_state.specs.declared.keys.ViewKey.TheVariants as key
 use Rattle.adr_view.specs.declared.view.Content.{Content}
-use Rattle.adr_view.specs.declared.view.Content.TheVariants.{Program, Event}
 use Rattle.adr_view.specs.declared.changes.Operation.TheVariants as operation
 use Rattle.adr_view.specs.declared.changes.Change.{Change}
 use Rattle.adr_state.specs.Keys.{view_cmp, at, map_of}
-
--- ---- whether two contents are one
-
-abbrev pub is_same_period : Period → Period → Bool
-is_same_period a b = bytes_eq a.start b.start && option_eq bytes_eq a.duration b.duration && option_eq bytes_eq a.randomize_start b.randomize_start
-
-abbrev pub is_same_interval : ShownInterval → ShownInterval → Bool
-is_same_interval a b = int_eq a.id b.id && option_eq is_same_period a.period b.period && option_eq int_eq a.part b.part
-
-abbrev pub is_same_head : ShownEvent → ShownEvent → Bool
-is_same_head a b =
-    bytes_eq a.program b.program && option_eq bytes_eq a.name b.name && option_eq (λ m n. m == n) a.priority b.priority && option_eq is_same_period a.period b.period
-
-abbrev pub is_same_tail : ShownEvent → ShownEvent → Bool
-is_same_tail a b = pointwise is_same_interval a.intervals b.intervals && bytes_eq a.ven_name b.ven_name && bytes_eq a.resource_name b.resource_name
-
-abbrev pub is_same_event : ShownEvent → ShownEvent → Bool
-is_same_event a b = is_same_head a b && is_same_tail a b
-
-abbrev pub is_same_content : Content → Content → Bool
-is_same_content (Program a) (Program b) = bytes_eq a b
-is_same_content (Program a) (Event b) = false
-is_same_content (Event a) (Program b) = false
-is_same_content (Event a) (Event b) = is_same_event a b
+use Rattle.adr_view.specs.Same.{is_same_content}
 
 -- ---- changes
 
@@ -47,12 +17,17 @@ is_same_content (Event a) (Event b) = is_same_event a b
 abbrev pub both_keys : List (ViewKey × Content) → List (ViewKey × Content) → List ViewKey
 both_keys before after = fold (λ keys r. insert_key view_cmp keys r.0) [] (before ++ after)
 
+-- whether it is a change where what stands at a key goes: of a roll-up it is none
+abbrev pub is_change_to_go : ViewKey → Bool
+is_change_to_go (key.Rollup id) = false
+is_change_to_go _ = true
+
 -- how what is shown at a key changes: it appears, differs, goes, or stays
 abbrev pub change_by : ViewKey → Option Content → Option Content → Option Change
-change_by key None None = None
-change_by key None (Some new) = Some (record { key = key; operation = operation.Post })
-change_by key (Some old) None = Some (record { key = key; operation = operation.Delete })
-change_by key (Some old) (Some new) = if is_same_content old new then None else Some (record { key = key; operation = operation.Put })
+change_by k None None = None
+change_by k None (Some new) = Some (record { key = k; operation = operation.Post })
+change_by k (Some old) None = if is_change_to_go k then Some (record { key = k; operation = operation.Delete }) else None
+change_by k (Some old) (Some new) = if is_same_content old new then None else Some (record { key = k; operation = operation.Put })
 
 -- the changes from one view to another, in the order of the keys
 unfoldable pub changes : List (ViewKey × Content) → List (ViewKey × Content) → List Change

@@ -1,5 +1,5 @@
 -- Laws of what is shown, whatever the definitions are given.
-use Rattle.std.specs.Prelude.{◌≡◌, ◌≤◌, ℕ, ℤ, Bool, false, List, filter, None, Some, IsSome, IfSome, IsSomeAnd}
+use Rattle.std.specs.Prelude.{◌≡◌, ◌≤◌, ℕ, ℤ, Bool, false, List, filter, None, Some, option_map, IsSome, IfSome, IsSomeAnd}
 use Rattle.std.specs.List.{All, AllPairs, Contains, filter_map}
 use Rattle.std.specs.Bool.{Decides}
 use Rattle.std.specs.List.Sorted.{IsStrictlySortedBy}
@@ -22,9 +22,9 @@ use Rattle.adr_view.specs.declared.report.Reported.{Reported}
 use Rattle.adr_view.specs.declared.rollup.Reporter.{Reporter}
 use Rattle.adr_view.specs.declared.view.Content.{Content}
 use Rattle.adr_view.specs.declared.view.Content.TheVariants as content
-use Rattle.adr_view.specs.Changes.{is_same_content}
+use Rattle.adr_view.specs.Same.{is_same_content}
 use Rattle.adr_view.specs.Reports.{reported_by}
-use Rattle.adr_view.specs.Rollups.{value_in, latest_of, latest, reports_of, reporters, rollup_for}
+use Rattle.adr_view.specs.Rollups.{value_in, latest_of, latest, reports_of, reporters, rollup_for, rollup_at}
 use Rattle.adr_view.specs.Views.{split_interval, shown_of, view}
 
 -- two contents count as the same exactly where they are equal
@@ -35,19 +35,28 @@ SameContentsAreEqual = (a b : Content) → Decides (is_same_content a b) (a ≡ 
 abbrev pub PartsSumUp : Type 0
 PartsSumUp = (weights : List ℕ) (i : Interval) (v : ℤ) → AreWeights weights → i.setpoint ≡ Some v → IsSomeAnd (split_interval weights i).parts (λ parts. sum_of_parts parts ≡ v)
 
--- upstream keys stand in their order, and resources in that of their numbers, each once
+-- upstream keys stand in their order, and resources and reports in that of their numbers, each once
 pub record StandsInOrder (base : Base) : Type 0 where
   pub upstream_keys : IsStrictlySortedBy mirror_cmp (keys_of base.mirror)
   pub resources : IsStrictlySortedBy nat_cmp (keys_of base.portfolio.resources)
+  pub reports : IsStrictlySortedBy nat_cmp (keys_of base.portfolio.reports)
 
 -- whether a key of the view is one of this upstream event
 abbrev pub is_key_of : List ℕ → ViewKey → Bool
-is_key_of id (key.Program other) = false
 is_key_of id (key.Event other resource) = is_eq (id_cmp id other)
+is_key_of id _ = false
 
 -- where rows stand in order, what is shown of an event is all that the view has at keys of it, in the order in which it stands there
 abbrev pub ShownIsOfTheView : Type 0
 ShownIsOfTheView = (base : Base) (id : List ℕ) → StandsInOrder base → filter (λ r. is_key_of id r.0) (view base) ≡ shown_of base id
+
+-- where rows stand in order, the view has each report at its key with what it says, and the roll-up of an event at its own, and nothing else at such keys
+pub record OthersAreShown (base : Base) : Type 0 where
+  pub reports : (n : ℕ) → at view_cmp (key.Report n) (view base) ≡ option_map (λ r. content.Report r.body) (at nat_cmp n base.portfolio.reports)
+  pub rollups : (id : List ℕ) → at view_cmp (key.Rollup id) (view base) ≡ option_map (λ rollup. content.Rollup rollup) (rollup_at base.mirror base.portfolio id)
+
+abbrev pub ReportsAndRollupsAreShown : Type 0
+ReportsAndRollupsAreShown = (base : Base) → StandsInOrder base → OthersAreShown base
 
 -- ---- the latest value
 

@@ -1,5 +1,7 @@
-pub mod Views
 pub mod Rollups
+pub mod Views
+pub mod Sights
 pub mod Reports
+pub mod Same
 pub mod Changes
 pub mod Laws

@@ -1,10 +1,11 @@
 -- Reports: the shown event that each is on, and what is decided of them.
-use Rattle.std.specs.Prelude.{ℕ, Bool, ◌&&◌, List, Option, Some, None, is_some, option_map, option_and_then, Result, Ok, Err, if◌then◌else◌}
+use Rattle.std.specs.Prelude.{ℕ, Bool, true, ◌&&◌, List, Option, Some, None, is_some, option_map, option_and_then, Result, Ok, Err, if◌then◌else◌}
+use Rattle.std.specs.Option.{option_map_or}
 use Rattle.std.specs.Ordering.{nat_cmp}
 use Rattle.std.specs.Str.{bytes_eq}
 use Rattle.adr_text.specs.Refusals.{◌>>=◌, or_else}
 use Rattle.adr_text.specs.declared.refusal.Refusal.{Refusal}
-use Rattle.adr_text.specs.declared.refusal.Refusal.TheVariants.{NotFound, ResourceNotOfEvent, LimitReached}
+use Rattle.adr_text.specs.declared.refusal.Refusal.TheVariants.{NotFound, Forbidden, ResourceNotOfEvent, LimitReached}
 use Rattle.adr_objects.specs.declared.body.EventBody.{EventBody}
 use Rattle.adr_objects.specs.declared.site.ReportIn.{ReportIn}
 use Rattle.adr_state.specs.declared.base.Mark.{Mark}
@@ -20,8 +21,10 @@ use Rattle.adr_state.specs.Participants.{participant_of}
 use Rattle.adr_state.specs.Portfolios.{PortfolioChange, PutReport, DropReport}
 use Rattle.adr_state.specs.ShownIds.{resource_part, event_part, id_in, resource_named}
 use Rattle.adr_view.specs.declared.report.Reported.{Reported}
+use Rattle.adr_view.specs.declared.sight.Sight.{Sight}
 use Rattle.adr_view.specs.Views.{carries}
 use Rattle.adr_view.specs.Rollups.{event_at}
+use Rattle.adr_view.specs.Sights.{sees_ven}
 
 -- ---- what a report is on
 
@@ -68,18 +71,49 @@ report_on report mirror p = or_else NotFound (reported mirror p report.event) >>
 abbrev pub report_with_id : List ℕ → Portfolio → Option (ℕ × Report)
 report_with_id id p = option_and_then (λ n. option_map (λ r. (n, r)) (at nat_cmp n p.reports)) (number_in 112 id)
 
--- a report is put, and its number answered
-abbrev pub putting_report : ℕ → Report → ℕ × PortfolioChange
-putting_report n report = (n, PutReport n report)
+-- a report is put, and answered with its number
+abbrev pub putting_report : ℕ → Report → (ℕ × Report) × PortfolioChange
+putting_report n report = ((n, report), PutReport n report)
 
 -- a new report, under the number that is handed in, which is its revision too
-abbrev pub report_post : Limits → ℕ → ReportIn → List (MirrorKey × Mark) → Portfolio → Result (ℕ × PortfolioChange) Refusal
-report_post limits n report mirror p = report_on report mirror p >>= λ on. if is_full limits.reports p.reports then Err LimitReached else Ok (putting_report n (kept_report n on report))
+abbrev pub report_made : Limits → ℕ → ReportIn → List (MirrorKey × Mark) → Portfolio → Result ((ℕ × Report) × PortfolioChange) Refusal
+report_made limits n report mirror p = report_on report mirror p >>= λ on. if is_full limits.reports p.reports then Err LimitReached else Ok (putting_report n (kept_report n on report))
 
 -- the report of an id says this from now on, with the number that is handed in as its revision; it may be on another event
-abbrev pub report_put : ℕ → List ℕ → ReportIn → List (MirrorKey × Mark) → Portfolio → Result (ℕ × PortfolioChange) Refusal
-report_put n id report mirror p = or_else NotFound (report_with_id id p) >>= λ old. report_on report mirror p >>= λ on. Ok (putting_report old.0 (kept_report n on report))
+abbrev pub report_replaced : ℕ → List ℕ → ReportIn → List (MirrorKey × Mark) → Portfolio → Result ((ℕ × Report) × PortfolioChange) Refusal
+report_replaced n id report mirror p = or_else NotFound (report_with_id id p) >>= λ old. report_on report mirror p >>= λ on. Ok (putting_report old.0 (kept_report n on report))
 
--- the report of an id goes, and its number is answered
-abbrev pub report_delete : List ℕ → Portfolio → Result (ℕ × PortfolioChange) Refusal
-report_delete id p = or_else NotFound (report_with_id id p) >>= λ old. Ok (old.0, DropReport old.0)
+-- the report of an id goes, and is answered
+abbrev pub report_removed : List ℕ → Portfolio → Result ((ℕ × Report) × PortfolioChange) Refusal
+report_removed id p = or_else NotFound (report_with_id id p) >>= λ old. Ok (old, DropReport old.0)
+
+-- ---- and of whom
+
+-- whether a resource that is named is in sight; where none is named, nothing is out of sight
+abbrev pub sees_resource : Sight → Option Resource → Bool
+sees_resource sight resource = option_map_or (λ r. sees_ven sight r.ven) resource true
+
+-- the resource that the id of a shown event names, where it is there; an id without `-` names none
+abbrev pub resource_of_event : List ℕ → Portfolio → Option Resource
+resource_of_event id p = option_and_then (λ event. option_map (λ r. r.1) (resource_named p (resource_part id))) (event_part id)
+
+-- the resource that the report of an id is on, where it is there
+abbrev pub resource_of_report : List ℕ → Portfolio → Option Resource
+resource_of_report id p = option_and_then (λ r. at nat_cmp r.1.body.head.resource p.resources) (report_with_id id p)
+
+-- whether who sees this much may report of the event that a report names, and change the report of an id
+abbrev pub may_report : Sight → ReportIn → Portfolio → Bool
+may_report sight report p = sees_resource sight (resource_of_event report.event p)
+
+abbrev pub may_change : Sight → List ℕ → Portfolio → Bool
+may_change sight id p = sees_resource sight (resource_of_report id p)
+
+-- what is out of sight is forbidden, whether all else is there or not
+abbrev pub report_post : Limits → Sight → ℕ → ReportIn → List (MirrorKey × Mark) → Portfolio → Result ((ℕ × Report) × PortfolioChange) Refusal
+report_post limits sight n report mirror p = if may_report sight report p then report_made limits n report mirror p else Err Forbidden
+
+abbrev pub report_put : Sight → ℕ → List ℕ → ReportIn → List (MirrorKey × Mark) → Portfolio → Result ((ℕ × Report) × PortfolioChange) Refusal
+report_put sight n id report mirror p = if may_change sight id p && may_report sight report p then report_replaced n id report mirror p else Err Forbidden
+
+abbrev pub report_delete : Sight → List ℕ → Portfolio → Result ((ℕ × Report) × PortfolioChange) Refusal
+report_delete sight id p = if may_change sight id p then report_removed id p else Err Forbidden

@@ -7,6 +7,7 @@ use Rattle.std.specs.BTreeSet.{insert_key}
 use Rattle.adr_objects.specs.declared.interval.Interval.{Interval}
 use Rattle.adr_objects.specs.declared.body.EventBody.{EventBody}
 use Rattle.adr_objects.specs.declared.body.Body.TheVariants as body
+use Rattle.adr_objects.specs.declared.kind.Kind.TheVariants as kind
 use Rattle.adr_objects.specs.declared.report.UsageInterval.{UsageInterval}
 use Rattle.adr_objects.specs.declared.report.RollupInterval.{RollupInterval}
 use Rattle.adr_objects.specs.declared.report.Rollup.{Rollup}
@@ -21,7 +22,6 @@ use Rattle.adr_state.specs.Weights.{most_resources}
 use Rattle.adr_state.specs.Keys.{id_cmp, mirror_cmp, at}
 use Rattle.adr_state.specs.Participants.{participants}
 use Rattle.adr_view.specs.declared.rollup.Reporter.{Reporter}
-use Rattle.adr_view.specs.Views.{event_key}
 
 -- ---- the latest value
 
@@ -114,6 +114,10 @@ rollup_for event rs =
 -- the roll-up of an event over its participants
 abbrev pub rollup_of : Portfolio → List ℕ → EventBody → Option Rollup
 rollup_of p id event = rollup_for event (reporters (reports_of id p.reports) (participants p event))
+
+-- the upstream key of an event
+abbrev pub event_key : List ℕ → MirrorKey
+event_key id = record { kind = kind.Event; id = id }
 
 -- what an event says that is live upstream, where its body was read
 abbrev pub event_body : Option Mark → Option EventBody

@@ -1,5 +1,5 @@
--- What is shown: each live program; and for each live event that carries a setpoint, and each of its participants, that participant's parts.
-use Rattle.std.specs.Prelude.{ℕ, Bool, List, [], ◌∷◌, map, Option, None, Some, is_some, option_map, option_and_then, slice_get, if◌then◌else◌}
+-- What is shown: each live program; for each live event that carries a setpoint, and each of its participants, that participant's parts; each report; and the roll-up of each live event of which usage was reported.
+use Rattle.std.specs.Prelude.{ℕ, Bool, List, [], ◌∷◌, ◌++◌, map, Option, None, Some, is_some, option_map, option_and_then, slice_get, if◌then◌else◌}
 use Rattle.std.specs.List.{list_any, flat_map, enumerate_from}
 use Rattle.adr_split.specs.Parts.{fair_split}
 use Rattle.adr_objects.specs.declared.kind.Kind.{Kind}
@@ -8,6 +8,7 @@ use Rattle.adr_objects.specs.declared.interval.Interval.{Interval}
 use Rattle.adr_objects.specs.declared.body.EventBody.{EventBody}
 use Rattle.adr_objects.specs.declared.body.Body.{Body}
 use Rattle.adr_objects.specs.declared.body.Body.TheVariants as body
+use Rattle.adr_objects.specs.declared.report.Rollup.{Rollup}
 use Rattle.adr_objects.specs.declared.shown.ShownInterval.{ShownInterval}
 use Rattle.adr_state.specs.declared.base.Base.{Base}
 use Rattle.adr_state.specs.declared.base.Mark.{Mark}
@@ -21,6 +22,8 @@ use Rattle.adr_state.specs.declared.participants.Participant.{Participant}
 use Rattle.adr_view.specs.declared.parts.SplitInterval.{SplitInterval}
 use Rattle.adr_state.specs.Keys.{mirror_cmp, view_cmp, at, map_of}
 use Rattle.adr_state.specs.Participants.{participants}
+use Rattle.adr_state.specs.declared.portfolio.Report.{Report}
+use Rattle.adr_view.specs.Rollups.{event_key, event_body, rollup_of}
 
 abbrev pub weights_of : List Participant → List ℕ
 weights_of ps = map (λ p. p.weight) ps
@@ -73,10 +76,6 @@ abbrev pub mark_rows : Base → MirrorKey × Mark → List (ViewKey × Content)
 mark_rows base (k, Live m b) = body_rows base k.kind k.id b
 mark_rows base (k, Dead) = []
 
--- the upstream key of an event
-abbrev pub event_key : List ℕ → MirrorKey
-event_key id = record { kind = kind.Event; id = id }
-
 -- what is shown of an upstream key by what is known of it
 abbrev pub rows_known : Base → MirrorKey → Option Mark → List (ViewKey × Content)
 rows_known base k None = []
@@ -86,6 +85,28 @@ rows_known base k (Some mark) = mark_rows base (k, mark)
 abbrev pub shown_of : Base → List ℕ → List (ViewKey × Content)
 shown_of base id = rows_known base (event_key id) (at mirror_cmp (event_key id) base.mirror)
 
--- all that is shown, computed from nothing, in the order of the keys
+-- what is shown of a report
+abbrev pub report_row : ℕ × Report → ViewKey × Content
+report_row r = (key.Report r.0, content.Report r.1.body)
+
+-- what is shown of a roll-up, where there is one
+abbrev pub rolled_up : List ℕ → Option Rollup → List (ViewKey × Content)
+rolled_up id None = []
+rolled_up id (Some rollup) = (key.Rollup id, content.Rollup rollup) ∷ []
+
+-- what the mark of an upstream key says of an event
+abbrev pub event_of : Kind → Mark → Option EventBody
+event_of kind.Program mark = None
+event_of kind.Event mark = event_body (Some mark)
+
+-- the roll-up of an upstream key, where it is an event's
+abbrev pub rollup_rows : Base → MirrorKey × Mark → List (ViewKey × Content)
+rollup_rows base e = rolled_up e.0.id (option_and_then (rollup_of base.portfolio e.0.id) (event_of e.0.kind e.1))
+
+-- all that is shown: programs and events, then reports, and then roll-ups
+abbrev pub rows_shown : Base → List (ViewKey × Content)
+rows_shown base = flat_map (mark_rows base) base.mirror ++ map report_row base.portfolio.reports ++ flat_map (rollup_rows base) base.mirror
+
+-- so it is computed from nothing, in the order of the keys
 unfoldable pub view : Base → List (ViewKey × Content)
-view base = map_of view_cmp (flat_map (mark_rows base) base.mirror)
+view base = map_of view_cmp (rows_shown base)

@@ -1,13 +1,13 @@
 //! The changes between two views, and the stamps after them.
 ghost use Rattle.std.specs.Prelude.{◌≡◌, IfOk};
 ghost use Rattle.std.specs.Option.{option_copied};
-ghost use Rattle.std.specs.Cmp.Lexicographic.{pointwise};
 ghost use Rattle.adr_state.specs.Keys.{view_cmp, at};
-ghost use Rattle.adr_view.specs.Changes.{is_same_interval, is_same_head, is_same_tail, is_same_event, is_same_content, both_keys, change_by, changes, stamps_by, stamps_for, restamped};
+ghost use Rattle.adr_view.specs.Changes.{both_keys, is_change_to_go, change_by, changes, stamps_by, stamps_for, restamped};
 
+use crate::same::is_same_content;
 use crate::view::{Content, View};
 use crate::view_map::{add_key, put_row, row_at};
-use adr_objects::{ShownEvent, ShownInterval, Stamps};
+use adr_objects::Stamps;
 use adr_state::{ViewKey, fresh, modified_at, push_some};
 use adr_text::{Moment, Table};
 use std::alloc::{AllocError, Global};
@@ -31,42 +31,6 @@ pub struct Change {
     pub operation: Operation,
 }
 
-fn is_same_head(a: &ShownEvent, b: &ShownEvent) -> bool
-    ensures { result ≡ is_same_head a.now b.now }
-{
-    a.program == b.program && a.name == b.name && a.priority == b.priority && a.period == b.period
-}
-
-fn is_same_intervals(a: &[ShownInterval], b: &[ShownInterval]) -> bool
-    ensures { result ≡ pointwise is_same_interval a.now b.now }
-{
-    a == b
-}
-
-fn is_same_tail(a: &ShownEvent, b: &ShownEvent) -> bool
-    ensures { result ≡ is_same_tail a.now b.now }
-{
-    is_same_intervals(a.intervals.as_slice(), b.intervals.as_slice())
-        && a.ven_name == b.ven_name
-        && a.resource_name == b.resource_name
-}
-
-fn is_same_event(a: &ShownEvent, b: &ShownEvent) -> bool
-    ensures { result ≡ is_same_event a.now b.now }
-{
-    is_same_head(a, b) && is_same_tail(a, b)
-}
-
-fn is_same_content(a: &Content, b: &Content) -> bool
-    ensures { result ≡ is_same_content a.now b.now }
-{
-    match (a, b) {
-        (Content::Program(a), Content::Program(b)) => a == b,
-        (Content::Event(a), Content::Event(b)) => is_same_event(a, b),
-        _ => false,
-    }
-}
-
 /// The keys of two views, in order.
 fn keys_of(alloc: Global, before: &View, after: &View) -> Result<BTreeSet<ViewKey>, AllocError>
     ensures { IfOk result (λ keys. keys.keys ≡ both_keys before.now after.now) }
@@ -81,6 +45,16 @@ fn keys_of(alloc: Global, before: &View, after: &View) -> Result<BTreeSet<ViewKe
     Ok(keys)
 }
 
+/// Whether it is a change where what stands at the key goes: of a roll-up it is none.
+fn is_change_to_go(key: &ViewKey) -> bool
+    ensures { result ≡ is_change_to_go key.now }
+{
+    match key {
+        ViewKey::Program(_) | ViewKey::Event(_, _) | ViewKey::Report(_) => true,
+        ViewKey::Rollup(_) => false,
+    }
+}
+
 /// How what is shown at a key changes.
 fn change_by(
     key: &ViewKey,
@@ -92,7 +66,8 @@ fn change_by(
     let operation = match (old, new) {
         (None, None) => return Ok(None),
         (None, Some(_)) => Operation::Post,
-        (Some(_), None) => Operation::Delete,
+        (Some(_), None) if is_change_to_go(key) => Operation::Delete,
+        (Some(_), None) => return Ok(None),
         (Some(old), Some(new)) if is_same_content(old, new) => return Ok(None),
         (Some(_), Some(_)) => Operation::Put,
     };

@@ -1,5 +1,5 @@
 //! Laws of what is shown.
-ghost use Rattle.adr_view.specs.Laws.{SameContentsAreEqual, PartsSumUp, ShownIsOfTheView, LatestIsOfGreatestRevision, ReportsAreOnTheShown, RollupsCountEachOnce};
+ghost use Rattle.adr_view.specs.Laws.{SameContentsAreEqual, PartsSumUp, ShownIsOfTheView, ReportsAndRollupsAreShown, LatestIsOfGreatestRevision, ReportsAreOnTheShown, RollupsCountEachOnce};
 
 /// Two contents count as the same exactly where they are equal, so no change is missed or made up.
 pub fn same_contents_are_equal()
@@ -14,6 +14,12 @@ pub fn parts_sum_up()
 /// What is shown of an event is all that the view has at keys of it, where rows stand in order.
 pub fn shown_is_of_the_view()
     ensures { ShownIsOfTheView }
+{}
+
+/// Where rows stand in order, what the view has at the key of a report is what the report of that number says,
+/// and at the key of a roll-up the roll-up of that upstream event; it has nothing there where there is none.
+pub fn reports_and_rollups_are_shown()
+    ensures { ReportsAndRollupsAreShown }
 {}
 
 /// The latest value is that of the report of greatest revision among those that have one.

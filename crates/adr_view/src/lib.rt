@@ -2,16 +2,21 @@
 //! the stamps after them.
 #![tactic(auto)]
 
+mod all;
 mod changes;
 pub mod laws;
 mod parts;
 mod report;
 mod rollup;
+mod same;
+mod sight;
 mod view;
 mod view_map;
 
+pub use all::{event_of, put_reports, put_rollup, view_of};
 pub use changes::{Change, Operation, changes_of, restamped};
 pub use report::{Reported, fits, kept_report};
-pub use rollup::{Reporter, event_body, reporters, rollup_at, rollup_for, rollup_of};
-pub use view::{Content, View, carries, event_key, put_rows, rows_for, view_of};
+pub use rollup::{Reporter, event_body, event_key, reporters, rollup_at, rollup_for, rollup_of};
+pub use sight::{Sight, sees_ven};
+pub use view::{Content, View, carries, put_rows, rows_for};
 pub use view_map::row_at;

@@ -3,13 +3,12 @@ ghost use Rattle.std.specs.Prelude.{◌≡◌, ◌≤◌, ◌+◌, length, map, 
 ghost use Rattle.std.specs.List.{list_any};
 ghost use Rattle.adr_objects.specs.Limits.{most_setpoint};
 ghost use Rattle.adr_state.specs.Weights.{most_resources};
-ghost use Rattle.adr_view.specs.Rollups.{usage_in, value_in, later, latest_of, latest, reports_of, reports_on, reporter_of, reporters, most_sum, plus, sum_at, missing_at, rollup_interval, is_carried, has_value, is_reported, carried, rollup_for, rollup_of, event_body, rollup_at};
+ghost use Rattle.adr_view.specs.Rollups.{usage_in, value_in, later, latest_of, latest, reports_of, reports_on, reporter_of, reporters, most_sum, plus, sum_at, missing_at, rollup_interval, is_carried, has_value, is_reported, carried, rollup_for, rollup_of, event_key, event_body, rollup_at};
 ghost use Rattle.std.specs.Option.{option_copied};
 ghost use Rattle.adr_state.specs.Keys.{mirror_cmp, at};
 
-use crate::view::event_key;
 use adr_objects::{
-    Body, EventBody, Interval, Number, Rollup, RollupInterval, Usage, UsageInterval,
+    Body, EventBody, Interval, Kind, Number, Rollup, RollupInterval, Usage, UsageInterval,
 };
 use adr_state::{Base, Mark, MirrorKey, Participant, Portfolio, Report, participants_of};
 use adr_text::{Name, ObjectId, Rows, Table};
@@ -281,6 +280,16 @@ pub fn rollup_of(
     let reports = reports_of(alloc, id, &portfolio.reports)?;
     let rs = reporters(alloc, &reports, &ps)?;
     rollup_for(alloc, event, &rs)
+}
+
+/// The upstream key of an event.
+pub fn event_key(id: &ObjectId) -> Result<MirrorKey, AllocError>
+    ensures { IfOk result (λ key. key ≡ event_key id.now) }
+{
+    Ok(MirrorKey {
+        kind: Kind::Event,
+        id: id.clone()?,
+    })
 }
 
 /// What an event says that is live upstream, where its body was read.

@@ -1,13 +1,13 @@
-//! All that is shown.
+//! What is shown of an upstream key.
 ghost use Rattle.std.specs.Prelude.{◌≡◌, ◌≤◌, [], ◌∷◌, map, length, slice_get, option_and_then, IfOk, OnOk};
 ghost use Rattle.std.specs.List.{enumerate_from};
 ghost use Rattle.adr_state.specs.Weights.{most_resources};
 ghost use Rattle.adr_state.specs.Keys.{view_cmp, with_rows};
-ghost use Rattle.adr_view.specs.Views.{interval_at, event_row, rows_for, event_key, carries, event_rows, program_rows, body_rows, mark_rows, view};
+ghost use Rattle.adr_view.specs.Views.{interval_at, event_row, rows_for, carries, event_rows, program_rows, body_rows, mark_rows};
 
 use crate::parts::{SplitInterval, split_intervals, weights_of};
 use crate::view_map::put_row;
-use adr_objects::{Body, EventBody, Kind, ShownEvent, ShownInterval};
+use adr_objects::{Body, EventBody, Kind, ReportBody, Rollup, ShownEvent, ShownInterval};
 use adr_state::{Base, Mark, MirrorKey, Participant, ViewKey, participants_of};
 use adr_text::{Name, ObjectId, Rows, Table};
 use std::alloc::{AllocError, Global};
@@ -18,6 +18,8 @@ pub enum Content {
     /// A program's name.
     Program(Name),
     Event(ShownEvent),
+    Report(ReportBody),
+    Rollup(Rollup),
 }
 
 /// All that is shown, in the order of the keys.
@@ -147,16 +149,6 @@ pub fn put_rows(view: &mut View, rows: Rows<(ViewKey, Content)>) -> Result<(), A
     Ok(())
 }
 
-/// The upstream key of an event.
-pub fn event_key(id: &ObjectId) -> Result<MirrorKey, AllocError>
-    ensures { IfOk result (λ key. key ≡ event_key id.now) }
-{
-    Ok(MirrorKey {
-        kind: Kind::Event,
-        id: id.clone()?,
-    })
-}
-
 /// Whether some interval of an event carries a setpoint.
 pub fn carries(event: &EventBody) -> bool
     ensures { result ≡ carries event.now }
@@ -196,7 +188,7 @@ fn put_program(view: &mut View, id: &ObjectId, name: &Name) -> Result<(), AllocE
 }
 
 /// Puts what is shown of an upstream key.
-fn put_mark(
+pub(crate) fn put_mark(
     alloc: Global,
     view: &mut View,
     base: &Base,
@@ -212,16 +204,4 @@ fn put_mark(
         }
         _ => Ok(()),
     }
-}
-
-/// All that is shown, computed from nothing.
-#[tactic(auto, unfolding(crate::specs::Views::view))]
-pub fn view_of(alloc: Global, base: &Base) -> Result<View, AllocError>
-    ensures { IfOk result (λ all. all ≡ view base.now) }
-{
-    let mut all = Table::new(alloc);
-    for (key, mark) in base.mirror.iter() {
-        put_mark(alloc, &mut all, base, key, mark)?;
-    }
-    Ok(all)
 }

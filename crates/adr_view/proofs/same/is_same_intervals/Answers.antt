@@ -2,8 +2,8 @@ use Rattle.std.proofs.Common.{◌≡◌, ◌∙◌, rules}
 use Rattle.std.specs.Cmp.Lexicographic.{pointwise}
 use Rattle.adr_objects.specs.declared.shown.ShownInterval.{ShownInterval}
 use Rattle.adr_objects.specs.contracts.shown.ShownIntervalPartialEq.TheImpl as interval
-use Rattle.adr_view.specs.Changes.{is_same_interval}
-use Rattle.adr_view.proofs.changes.is_same_intervals.Goals as goal
+use Rattle.adr_view.specs.Same.{is_same_interval}
+use Rattle.adr_view.proofs.same.is_same_intervals.Goals as goal
 
 same : (a b : ShownInterval) → interval.eq-value.it a b ≡ is_same_interval a b
 same a b = search rules
