@@ -1,9 +1,8 @@
 -- The statements on the table `resource`.
 use Rattle.std.proofs.Common.{ℕ, List, [], ◌∷◌, codes, refl}
-use Rattle.adr_db.proofs.Common.{Null, lit, col, end, understood, everything, Resource, AreValues, IsUpsertText, IsRemoveText, IsCountText, IsSelectText, first_columns, whole_rows, equalities, is_text}
+use Rattle.adr_db.proofs.Common.{Null, lit, col, end, understood, everything, IsCountText, IsSelectText, first_columns, is_text}
 use Rattle.adr_db.specs.declared.resource.TheConstants.{PUT, REMOVE, READ_ONE, READ_ALL, READ_NAMED, COUNT}
 use Rattle.adr_db.specs.Tables.{schema}
-use Rattle.adr_db.specs.Rows.{resource_row}
 use Rattle.adr_db.proofs.Tables.{resource}
 use Rattle.adr_db.proofs.Maps.{resource_map}
 use Rattle.adr_db.proofs.KeptMaps.{HasTexts}

@@ -1,9 +1,8 @@
 -- The statements on the table `share`.
 use Rattle.std.proofs.Common.{ℕ, List, [], ◌∷◌, codes, refl}
-use Rattle.adr_db.proofs.Common.{Null, lit, col, end, understood, everything, ShareKey, AreValues, IsUpsertText, IsRemoveText, IsCountText, IsSelectText, whole_rows, equalities}
+use Rattle.adr_db.proofs.Common.{Null, lit, col, understood, everything, IsCountText}
 use Rattle.adr_db.specs.declared.share.TheConstants.{PUT, REMOVE, READ_ONE, READ_ALL, COUNT}
 use Rattle.adr_db.specs.Tables.{schema}
-use Rattle.adr_db.specs.Rows.{share_row}
 use Rattle.adr_db.proofs.Tables.{share}
 use Rattle.adr_db.proofs.Maps.{share_map}
 use Rattle.adr_db.proofs.KeptMaps.{HasTexts}

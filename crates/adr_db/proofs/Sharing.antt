@@ -1,7 +1,7 @@
 -- The join of the shares in a program with their resources and vens.
-use Rattle.std.proofs.Common.{◌≡◌, ◌≤◌, ℕ, pos, negsuc, Bool, true, false, ◌&&◌, cond, None, Some, Option, List, [], ◌∷◌, ◌++◌, codes, map, filter, flat_map, length, refl, sym, ap, ap₂, subst, ◌∙◌, arith, is_eq}
+use Rattle.std.proofs.Common.{◌≡◌, ◌≤◌, ℕ, pos, Bool, true, false, ◌&&◌, cond, None, Some, Option, List, [], ◌∷◌, ◌++◌, codes, map, filter, flat_map, length, refl, sym, ap, ap₂, subst, ◌∙◌, arith, is_eq}
 use Rattle.std.specs.Prelude.{option_map, option_and_then, option_to_list}
-use Rattle.adr_db.proofs.Common.{list_all, filter_map, cons_option, option_map_or, nat_cmp, Null, Int, Text, Row, value_cmp, value_cmp-Int, value_cmp-Text, flat_map-map, flat_map_none, all_of, all-map, Query, Join, inner, end, matches, Term, Env, lit, col, op2, holds, eval_all, State, Shown, understood, everything, Ven, Resource, ShareKey, Participant, at, and_true, equal_is, seen, IsSelectText, order_from, join_runs, named_is, selection}
+use Rattle.adr_db.proofs.Common.{list_all, filter_map, cons_option, option_map_or, nat_cmp, Null, Text, Row, value_cmp, value_cmp-Int, value_cmp-Text, flat_map-map, flat_map_none, all_of, all-map, Query, Join, inner, end, matches, Term, Env, col, op2, holds, eval_all, State, Shown, understood, everything, Ven, Resource, ShareKey, Participant, at, and_true, equal_is, seen, IsSelectText, order_from, join_runs, named_is, selection}
 use Rattle.sqlite_value.specs.declared.keys.Collation.TheVariants.{Binary}
 use Rattle.sqlite_sql.specs.declared.ops.BinaryOp.TheVariants.{Compare}
 use Rattle.sqlite_sql.specs.declared.ops.CompareOp.TheVariants.{Eq}

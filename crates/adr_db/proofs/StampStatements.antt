@@ -1,10 +1,7 @@
 -- The statements on the table `stamp`.
 use Rattle.std.proofs.Common.{ℕ, List, [], ◌∷◌, codes, refl}
-use Rattle.adr_db.proofs.Common.{Null, lit, col, end, understood, everything, ViewKey, Stamps, AreValues, IsUpsertText, IsRemoveText, IsSelectText, whole_rows, equalities}
+use Rattle.adr_db.proofs.Common.{Null, lit, col, understood, everything}
 use Rattle.adr_db.specs.declared.stamp.TheConstants.{PUT, REMOVE, READ_ONE, READ_ALL}
-use Rattle.adr_db.specs.Tables.{schema}
-use Rattle.adr_db.specs.Rows.{stamp_row}
-use Rattle.adr_db.proofs.Tables.{stamp}
 use Rattle.adr_db.proofs.Maps.{stamp_map}
 use Rattle.adr_db.proofs.KeptMaps.{HasTexts}
 

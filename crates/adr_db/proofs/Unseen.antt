@@ -1,5 +1,5 @@
 -- The selection of the live keys that were not polled.
-use Rattle.std.proofs.Common.{◌≡◌, ℕ, ℤ, pos, negsuc, Bool, false, not, ◌&&◌, ◌||◌, None, Some, Option, List, [], ◌∷◌, codes, take, map, filter, refl, sym, ap, ap₂, ◌∙◌, is_eq}
+use Rattle.std.proofs.Common.{◌≡◌, ℕ, ℤ, pos, negsuc, Bool, not, ◌&&◌, ◌||◌, None, Some, Option, List, [], ◌∷◌, codes, take, map, filter, refl, sym, ap, ap₂, ◌∙◌, is_eq}
 use Rattle.adr_db.proofs.Common.{list_any, take-map, Null, Int, Row, column, value_cmp, value_cmp-Int, filter-map, map-map, Query, Join, inner, counted, end, lit, col, op1, op2, State, Shown, understood, everything, Mark, Live, Dead, MirrorKey, mirror_cmp, cells, has_key, key_order, and_true, equal_is, seen, IsSelectText, order_from, selection, is_found, select_runs, pairs_from, absent_key, is_live, probes}
 use Rattle.sqlite_value.specs.declared.keys.Collation.TheVariants.{Binary}
 use Rattle.sqlite_sql.specs.declared.ops.BinaryOp.TheVariants.{Compare}
