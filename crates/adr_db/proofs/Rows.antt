@@ -11,7 +11,7 @@ use Rattle.adr_objects.specs.declared.report.ReportHead.{ReportHead}
 use Rattle.adr_objects.specs.declared.report.UsageInterval.{UsageInterval}
 use Rattle.adr_db.specs.declared.meta.Meta.{Meta}
 use Rattle.adr_db.specs.declared.report.ReportColumns.{ReportColumns}
-use Rattle.adr_db.specs.Rows.{number, kind_number, meta_row, key_row, mark_columns, mark_row, number_row, ven_columns, resource_columns, share_key_row, share_row, stamps_columns, view_kind, view_id, view_resource, view_key_row, stamp_row, participant_row, name_cell, head_columns, report_columns_row, usage_cell, interval_columns}
+use Rattle.adr_db.specs.Rows.{number, kind_number, meta_row, key_row, mark_columns, mark_row, number_row, ven_columns, resource_columns, share_key_row, share_row, stamps_columns, view_kind, view_id, view_number, view_key_row, stamp_row, participant_row, name_cell, head_columns, report_columns_row, usage_cell, interval_columns}
 use Rattle.adr_db.specs.ReadBack.{number_of, text_of, integer_of, name_of, usage_of, flag_of, kind_of, meta_in, key_in, ven_in, resource_in, share_key_in, view_key_in, stamps_in, head_in}
 
 -- ---- keys
@@ -72,6 +72,9 @@ numbers_as_values j k = sym (int_cmp_is (pos j) (pos k) (nat_cmp j k) (go (nat_c
 pub number_same_is : (j k : ℕ) → nat_cmp j k ≡ Equal → j ≡ k
 number_same_is j k h = ranked j k Equal (sym h)
 
+value_same : (j k : ℕ) → int_cmp (pos j) (pos k) ≡ Equal → j ≡ k
+value_same j k h = number_same_is j k (sym (numbers_as_values j k) ∙ h)
+
 pub numbers_as_rows : (j k : ℕ) (a b : Row) → key_order 1 (number j ∷ a) (number k ∷ b) ≡ nat_cmp j k
 numbers_as_rows j k a b = number_key (pos j) (pos k) a b ∙ numbers_as_values j k
 
@@ -97,30 +100,6 @@ share_codec = record {
   same = λ j k v e. ap (λ key. share_row (key, v)) (share_same j k e);
 }
 
--- ---- the stamps of what is shown
-
-views_as_numbers : (j k : ViewKey) → ordering_then (int_cmp (pos (view_kind j)) (pos (view_kind k))) (ordering_then (id_cmp (view_id j) (view_id k)) (int_cmp (pos (view_resource j)) (pos (view_resource k)))) ≡ view_cmp j k
-views_as_numbers (view.Program a) (view.Program b) = then_none (id_cmp a b)
-views_as_numbers (view.Program a) (view.Event b n) = refl
-views_as_numbers (view.Event a m) (view.Program b) = refl
-views_as_numbers (view.Event a m) (view.Event b n) = ap (ordering_then (id_cmp a b)) (numbers_as_values m n)
-
-views_as_rows : (j k : ViewKey) (a b : Row) → key_order 3 (view_key_row j ++ a) (view_key_row k ++ b) ≡ view_cmp j k
-views_as_rows j k a b = number_text_number_key (pos (view_kind j)) (pos (view_kind k)) (view_id j) (view_id k) (pos (view_resource j)) (pos (view_resource k)) a b ∙ views_as_numbers j k
-
-view_same : (j k : ViewKey) → view_cmp k j ≡ Equal → k ≡ j
-view_same (view.Program a) (view.Program b) h = ap view.Program (text_same a b h)
-view_same (view.Program a) (view.Event b n) h = absurd cc
-view_same (view.Event a m) (view.Program b) h = absurd cc
-view_same (view.Event a m) (view.Event b n) h = let both = both_tie (id_cmp b a) (nat_cmp n m) h in ap₂ view.Event (text_same a b both.0) (number_same_is n m both.1)
-
-pub stamp_codec : IsCodec 3 view_cmp stamp_row view_key_row
-stamp_codec = record {
-  named = λ k e. views_as_rows k e.0 [] (stamps_columns e.1);
-  keyed = λ k v e. views_as_rows k e.0 (stamps_columns v) (stamps_columns e.1);
-  same = λ j k v e. ap (λ key. stamp_row (key, v)) (view_same j k e);
-}
-
 -- ---- a row is read back
 
 flag_again : (b : Bool) → flag_of (Int (cond b (pos 1) (pos 0))) ≡ b
@@ -140,6 +119,8 @@ key_again key = ap (λ kind. record key { kind = kind }) (kind_again key.kind)
 pub view_key_again : (key : ViewKey) → view_key_in (view_key_row key) ≡ key
 view_key_again (view.Program id) = refl
 view_key_again (view.Event id resource) = refl
+view_key_again (view.Report n) = refl
+view_key_again (view.Rollup id) = refl
 
 name_again : (name : Option (List ℕ)) → name_of (name_cell name) ≡ name
 name_again None = refl
@@ -198,6 +179,44 @@ stamps_kept = stands_for_one stamps_columns stamps_in (λ _. refl)
 
 pub participant_kept : (p q : Participant) → participant_row p ≡ participant_row q → p ≡ q
 participant_kept p q h = λ i. record { resource = number_of (column (h i) 0); weight = number_of (column (h i) 1); name = text_of (column (h i) 2); ven_name = text_of (column (h i) 3) }
+
+-- ---- the stamps of what is shown
+
+-- by kind, then by id and then by number
+views_as_numbers : (j k : ViewKey) → ordering_then (int_cmp (pos (view_kind j)) (pos (view_kind k))) (ordering_then (id_cmp (view_id j) (view_id k)) (int_cmp (pos (view_number j)) (pos (view_number k)))) ≡ view_cmp j k
+views_as_numbers (view.Program a) (view.Program b) = then_none (id_cmp a b)
+views_as_numbers (view.Program a) (view.Event b n) = refl
+views_as_numbers (view.Program a) (view.Report n) = refl
+views_as_numbers (view.Program a) (view.Rollup b) = refl
+views_as_numbers (view.Event a m) (view.Program b) = refl
+views_as_numbers (view.Event a m) (view.Event b n) = ap (ordering_then (id_cmp a b)) (numbers_as_values m n)
+views_as_numbers (view.Event a m) (view.Report n) = refl
+views_as_numbers (view.Event a m) (view.Rollup b) = refl
+views_as_numbers (view.Report m) (view.Program b) = refl
+views_as_numbers (view.Report m) (view.Event b n) = refl
+views_as_numbers (view.Report m) (view.Report n) = numbers_as_values m n
+views_as_numbers (view.Report m) (view.Rollup b) = refl
+views_as_numbers (view.Rollup a) (view.Program b) = refl
+views_as_numbers (view.Rollup a) (view.Event b n) = refl
+views_as_numbers (view.Rollup a) (view.Report n) = refl
+views_as_numbers (view.Rollup a) (view.Rollup b) = then_none (id_cmp a b)
+
+views_as_rows : (j k : ViewKey) (a b : Row) → key_order 3 (view_key_row j ++ a) (view_key_row k ++ b) ≡ view_cmp j k
+views_as_rows j k a b = number_text_number_key (pos (view_kind j)) (pos (view_kind k)) (view_id j) (view_id k) (pos (view_number j)) (pos (view_number k)) a b ∙ views_as_numbers j k
+
+-- so keys that tie have the same kind, id and number
+view_same : (j k : ViewKey) → view_cmp k j ≡ Equal → k ≡ j
+view_same j k h =
+    let whole = both_tie (int_cmp (pos (view_kind k)) (pos (view_kind j))) _ (views_as_numbers k j ∙ h) in
+    let rest = both_tie (id_cmp (view_id k) (view_id j)) (int_cmp (pos (view_number k)) (pos (view_number j))) whole.1 in
+    view_key_kept k j (λ i. number (value_same (view_kind k) (view_kind j) whole.0 i) ∷ Text (text_same (view_id j) (view_id k) rest.0 i) ∷ number (value_same (view_number k) (view_number j) rest.1 i) ∷ [])
+
+pub stamp_codec : IsCodec 3 view_cmp stamp_row view_key_row
+stamp_codec = record {
+  named = λ k e. views_as_rows k e.0 [] (stamps_columns e.1);
+  keyed = λ k v e. views_as_rows k e.0 (stamps_columns v) (stamps_columns e.1);
+  same = λ j k v e. ap (λ key. stamp_row (key, v)) (view_same j k e);
+}
 
 -- ---- a row as it is read
 

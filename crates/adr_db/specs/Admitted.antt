@@ -13,6 +13,7 @@ use Rattle.adr_state.specs.declared.base.Mark.{Mark}
 use Rattle.adr_state.specs.declared.keys.MirrorKey.{MirrorKey}
 use Rattle.adr_state.specs.declared.keys.ShareKey.{ShareKey}
 use Rattle.adr_state.specs.declared.keys.ViewKey.{ViewKey}
+use Rattle.adr_state.specs.declared.keys.ViewKey.TheVariants as view
 use Rattle.adr_state.specs.declared.portfolio.Ven.{Ven}
 use Rattle.adr_state.specs.declared.portfolio.Resource.{Resource}
 use Rattle.adr_state.specs.declared.participants.Participant.{Participant}
@@ -23,7 +24,7 @@ use Rattle.adr_db.specs.declared.mirror.MarkColumns.{MarkColumns}
 use Rattle.adr_db.specs.declared.mirror.MirrorRow.{MirrorRow}
 use Rattle.adr_db.specs.declared.report.ReportColumns.{ReportColumns}
 use Rattle.adr_sql.specs.Keys.{cells}
-use Rattle.adr_db.specs.Rows.{number, meta_row, key_row, columns_row, mark_from, mirror_row, ven_columns, resource_columns, share_key_row, view_id, view_key_row, stamps_columns, participant_row, report_columns_row, interval_columns}
+use Rattle.adr_db.specs.Rows.{number, meta_row, key_row, columns_row, mark_from, mirror_row, ven_columns, resource_columns, share_key_row, view_key_row, stamps_columns, participant_row, report_columns_row, interval_columns}
 
 abbrev pub IsNumber : ℕ → Type 0
 IsNumber n = ⊤
@@ -64,8 +65,12 @@ IsResource resource = IsResourceNameText resource.name × AreStamps resource.sta
 abbrev pub IsShareKey : ShareKey → Type 0
 IsShareKey key = IsIdText key.program
 
+-- the key of a report has no id
 abbrev pub IsViewKey : ViewKey → Type 0
-IsViewKey key = IsIdText (view_id key)
+IsViewKey (view.Program id) = IsIdText id
+IsViewKey (view.Event id resource) = IsIdText id
+IsViewKey (view.Report n) = IsNumber n
+IsViewKey (view.Rollup id) = IsIdText id
 
 abbrev pub IsStamped : ViewKey × Stamps → Type 0
 IsStamped e = IsViewKey e.0 × AreStamps e.1

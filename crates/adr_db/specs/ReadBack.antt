@@ -133,9 +133,12 @@ share_key_in row = record { program = text_of (column row 0); resource = number_
 abbrev pub share_in : Row → ShareKey × ℕ
 share_in row = (share_key_in row, number_of (column row 2))
 
--- a key of what is shown: 2 is what a resource is shown of an event
+-- a key of what is shown, from its kind, its id and its number: 2 is what a resource is shown of an event, 3 a report, 4 the roll-up of an event
+abbrev pub view_key_of : ℕ → List ℕ → ℕ → ViewKey
+view_key_of kind id n = if kind == 2 then view.Event id n else (if kind == 3 then view.Report n else (if kind == 4 then view.Rollup id else view.Program id))
+
 abbrev pub view_key_in : Row → ViewKey
-view_key_in row = if number_of (column row 0) == 2 then view.Event (text_of (column row 1)) (number_of (column row 2)) else view.Program (text_of (column row 1))
+view_key_in row = view_key_of (number_of (column row 0)) (text_of (column row 1)) (number_of (column row 2))
 
 -- a key of what is shown with its stamps
 abbrev pub stamped_in : Row → ViewKey × Stamps

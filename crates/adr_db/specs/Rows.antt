@@ -139,22 +139,29 @@ value_rows e = value_rows_from e.0 0 e.1.body.intervals
 
 -- ---- the stamps of what is shown
 
--- 1 a program, 2 what a resource is shown of an event
+-- 1 a program, 2 what a resource is shown of an event, 3 a report, 4 the roll-up of an event
 abbrev pub view_kind : ViewKey → ℕ
 view_kind (view.Program id) = 1
 view_kind (view.Event id resource) = 2
+view_kind (view.Report n) = 3
+view_kind (view.Rollup id) = 4
 
+-- the upstream id; of a report the empty text
 abbrev pub view_id : ViewKey → List ℕ
 view_id (view.Program id) = id
 view_id (view.Event id resource) = id
+view_id (view.Report n) = []
+view_id (view.Rollup id) = id
 
--- the resource's number; 0 of a program
-abbrev pub view_resource : ViewKey → ℕ
-view_resource (view.Program id) = 0
-view_resource (view.Event id resource) = resource
+-- the number of the resource that is shown an event, and that of a report; else 0
+abbrev pub view_number : ViewKey → ℕ
+view_number (view.Program id) = 0
+view_number (view.Event id resource) = resource
+view_number (view.Report n) = n
+view_number (view.Rollup id) = 0
 
 abbrev pub view_key_row : ViewKey → Row
-view_key_row key = number (view_kind key) ∷ Text (view_id key) ∷ number (view_resource key) ∷ []
+view_key_row key = number (view_kind key) ∷ Text (view_id key) ∷ number (view_number key) ∷ []
 
 -- the stamps of a key behind it
 abbrev pub stamp_row : ViewKey × Stamps → Row

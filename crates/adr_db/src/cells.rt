@@ -85,13 +85,21 @@ pub(crate) fn as_stored<T>(read: Result<T, Refusal>) -> Result<T, Refusal>
     }
 }
 
+/// The id that this text is.
+pub(crate) fn id_of(alloc: Global, text: &str) -> Result<ObjectId, Refusal>
+    ensures id { IfOk result (λ id. id ≡ text.now) }
+    ensures refused { IfErr result (CannotRead IsIdText (λ text id. id ≡ text) text.now) }
+{
+    as_stored(ObjectId::new(alloc, text))
+}
+
 /// The id in a column.
 pub(crate) fn id_in(alloc: Global, row: &Row, at: usize) -> Result<ObjectId, Refusal>
     ensures id { IfOk result (λ id. column row.now at ≡ Text id) }
     ensures refused { IfErr result (CannotRead IsIdText (λ value id. value ≡ Text id) (column row.now at)) }
 {
     let text: String = column(row, at)?;
-    as_stored(ObjectId::new(alloc, text.as_str()))
+    id_of(alloc, text.as_str())
 }
 
 /// The name in a column.

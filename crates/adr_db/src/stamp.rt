@@ -1,22 +1,20 @@
 //! The table `stamp`: the stamps of what is shown.
 ghost use Rattle.std.specs.Prelude.{◌≡◌, [], ◌∷◌, IfOk, IfErr};
 ghost use Rattle.sqlite.specs.declared.types.Value.TheVariants.{Text};
-ghost use Rattle.adr_text.specs.declared.refusal.Refusal.TheVariants.{Store};
-ghost use Rattle.adr_state.specs.declared.keys.ViewKey.{ViewKey as KeyOf};
 ghost use Rattle.adr_state.specs.Keys.{view_cmp, at};
 ghost use Rattle.adr_sql.specs.Calls.{Stays};
 ghost use Rattle.adr_db.specs.Kept.{with_stamps, without_stamps};
-ghost use Rattle.adr_db.specs.Rows.{number, kind_number, view_kind, view_id, view_resource, view_key_row, stamp_row};
-ghost use Rattle.adr_db.specs.Refusals.{RefusesToPut, RefusesToShow, CannotReadAll, CannotReadFirst};
+ghost use Rattle.adr_db.specs.Rows.{number, view_kind, view_id, view_number, view_key_row, stamp_row};
+ghost use Rattle.adr_db.specs.Refusals.{RefusesToPut, RefusesToShow, CannotRead, CannotReadAll, CannotReadFirst};
 ghost use Rattle.adr_db.specs.Admitted.{IsViewKey, AreStamps, IsStamped, ReadsViewKey, ReadsStamps, ReadsStamped};
 ghost use Rattle.adr_db.specs.Calls.{LeavesKept, Finds, IsOfStore};
 
-use crate::cells::{column, number, stamps_in};
+use crate::cells::{column, id_of, number, stamps_in};
 use crate::reading::{FromRow, all_of, first_in, table_of};
 use crate::statement::{rows_of, run};
-use adr_objects::{Kind, Number, Stamps};
-use adr_state::{MirrorKey, ViewKey};
-use adr_text::{ObjectId, Refusal, Table};
+use adr_objects::{Number, Stamps};
+use adr_state::ViewKey;
+use adr_text::{Refusal, Table};
 use sqlite::types::ToSql;
 use sqlite::{Alter, Row, Transaction};
 use std::alloc::Global;
@@ -31,33 +29,39 @@ const READ_ONE: &str =
 
 const READ_ALL: &str = "SELECT kind, a, b, created, modified FROM stamp ORDER BY kind, a, b";
 
-/// 1 a program, 2 what a resource is shown of an event.
+/// 1 a program, 2 what a resource is shown of an event, 3 a report, 4 the roll-up of an event.
 fn view_kind(key: &ViewKey) -> u32
     ensures { result ≡ view_kind key.now }
 {
     match key {
         ViewKey::Program(_) => 1,
         ViewKey::Event(_, _) => 2,
+        ViewKey::Report(_) => 3,
+        ViewKey::Rollup(_) => 4,
     }
 }
 
-/// The upstream id.
-fn view_id(key: &ViewKey) -> &ObjectId
+/// The upstream id; of a report the empty text.
+fn view_id(key: &ViewKey) -> &str
     ensures { result.now ≡ view_id key.now }
 {
     match key {
-        ViewKey::Program(id) => id,
-        ViewKey::Event(id, _) => id,
+        ViewKey::Program(id) => id.as_str(),
+        ViewKey::Event(id, _) => id.as_str(),
+        ViewKey::Report(_) => "",
+        ViewKey::Rollup(id) => id.as_str(),
     }
 }
 
-/// The resource's number; 0 of a program.
-fn view_resource(key: &ViewKey) -> u64
-    ensures { result ≡ view_resource key.now }
+/// The number of the resource that is shown an event, and that of a report; else 0.
+fn view_number(key: &ViewKey) -> u64
+    ensures { result ≡ view_number key.now }
 {
     match key {
         ViewKey::Program(_) => 0,
         ViewKey::Event(_, resource) => resource.get(),
+        ViewKey::Report(report) => report.get(),
+        ViewKey::Rollup(_) => 0,
     }
 }
 
@@ -78,8 +82,8 @@ pub fn put_stamps<S: Alter>(
         PUT,
         &[
             view_kind(key).to_sql(),
-            view_id(key).as_str().to_sql(),
-            number(view_resource(key))?,
+            view_id(key).to_sql(),
+            number(view_number(key))?,
             number(stamps.created.nanos())?,
             number(stamps.modified.nanos())?,
         ],
@@ -94,27 +98,25 @@ pub fn remove_stamps<S: Alter>(tx: &mut Transaction<'_, S>, key: &ViewKey) -> Re
     ensures refused { IfErr result IsOfStore }
     ensures fails { RefusesToPut S.Store tx.old.conn.now tx.new.conn.now REMOVE.now (view_key_row key.now) result }
 {
-    let resource = number(view_resource(key))?;
+    let n = number(view_number(key))?;
     run(
         tx,
         REMOVE,
-        &[
-            view_kind(key).to_sql(),
-            view_id(key).as_str().to_sql(),
-            resource,
-        ],
+        &[view_kind(key).to_sql(), view_id(key).to_sql(), n],
     )
 }
 
-/// The key of this kind and id, and of this resource: a program has the number 0.
-fn key_from(upstream: MirrorKey, resource: u64) -> Result<ViewKey, Refusal>
-    ensures key { IfOk result (λ key. view_key_row key ≡ number (kind_number upstream.kind) ∷ Text upstream.id ∷ number resource ∷ []) }
-    ensures refused { IfErr result (λ refusal. (refusal ≡ Store) × ((key : KeyOf) → ¬ (view_key_row key ≡ number (kind_number upstream.kind) ∷ Text upstream.id ∷ number resource ∷ []))) }
+/// The key of this kind, id and number: a program and a roll-up have the number 0, and a report has no id.
+fn key_from(alloc: Global, kind: u32, id: &str, n: u64) -> Result<ViewKey, Refusal>
+    ensures key { IfOk result (λ key. view_key_row key ≡ number kind ∷ Text id.now ∷ number n ∷ []) }
+    ensures refused { IfErr result (CannotRead IsViewKey (λ row key. view_key_row key ≡ row) (number kind ∷ Text id.now ∷ number n ∷ [])) }
 {
-    match (upstream.kind, resource) {
-        (Kind::Program, 0) => Ok(ViewKey::Program(upstream.id)),
-        (Kind::Program, _) => Err(Refusal::Store),
-        (Kind::Event, _) => Ok(ViewKey::Event(upstream.id, Number::new(resource))),
+    match (kind, n) {
+        (1, 0) => Ok(ViewKey::Program(id_of(alloc, id)?)),
+        (2, _) => Ok(ViewKey::Event(id_of(alloc, id)?, Number::new(n))),
+        (3, _) if id.is_empty() => Ok(ViewKey::Report(Number::new(n))),
+        (4, 0) => Ok(ViewKey::Rollup(id_of(alloc, id)?)),
+        _ => Err(Refusal::Store),
     }
 }
 
@@ -124,7 +126,8 @@ impl FromRow for ViewKey {
     ghost admits = { IsViewKey };
 
     fn from_row(alloc: Global, row: &Row) -> Result<ViewKey, Refusal> {
-        key_from(MirrorKey::from_row(alloc, row)?, column(row, 2)?)
+        let id: String = column(row, 1)?;
+        key_from(alloc, column(row, 0)?, id.as_str(), column(row, 2)?)
     }
 }
 
@@ -149,21 +152,17 @@ pub fn read_stamps_of<S: Alter>(
     ensures refused { IfErr result IsOfStore }
     ensures fails { RefusesToShow S.Store tx.old.conn.now tx.new.conn.now READ_ONE.now (view_key_row key.now) (CannotReadFirst AreStamps ReadsStamps) result }
 {
-    let resource = number(view_resource(key))?;
+    let n = number(view_number(key))?;
     let rows = rows_of(
         tx,
         READ_ONE,
-        &[
-            view_kind(key).to_sql(),
-            view_id(key).as_str().to_sql(),
-            resource,
-        ],
+        &[view_kind(key).to_sql(), view_id(key).to_sql(), n],
     )?;
     first_in(*rows.allocator(), &rows)
 }
 
-/// The stamps of all that is shown: programs before events, each by the bytes of its id, and events then by
-/// their resource's number.
+/// The stamps of all that is shown: programs by the bytes of their ids, then events so, and each by the numbers of
+/// its resources, then reports by their numbers, and last roll-ups by the bytes of their ids.
 pub fn read_stamps<S: Alter>(
     alloc: Global,
     tx: &mut Transaction<'_, S>,

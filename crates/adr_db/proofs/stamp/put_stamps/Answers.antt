@@ -9,4 +9,4 @@ pub returns-clause-leaves : goal.returns-clause-leaves
 returns-clause-leaves g c =
     let e : ViewKey × Stamps = (c.args.key.now, c.args.stamps) in
     put_leaves stamp_map g.S.Store c.args.tx.now.conn.now c.run.new.tx.conn.now _ _ c.args.key.now c.args.stamps _ (texts.puts e) (texts.fit e) (λ kept are. are)
-    (rw (c.to_sql.ensures, c.view_kind.ensures, c.to_sql-2.ensures, c.as_str.ensures.text, c.view_id.ensures, c.in_ok-number.ensures.value, c.view_resource.ensures, c.in_ok-number-2.ensures.value, c.nanos.ensures.value, c.in_ok-number-3.ensures.value, c.nanos-2.ensures.value) at c.run.ensures.runs)
+    (rw (c.to_sql.ensures, c.view_kind.ensures, c.to_sql-2.ensures, c.view_id.ensures, c.in_ok-number.ensures.value, c.view_number.ensures, c.in_ok-number-2.ensures.value, c.nanos.ensures.value, c.in_ok-number-3.ensures.value, c.nanos-2.ensures.value) at c.run.ensures.runs)
