@@ -185,21 +185,10 @@ participant_kept p q h = λ i. record { resource = number_of (column (h i) 0); w
 -- by kind, then by id and then by number
 views_as_numbers : (j k : ViewKey) → ordering_then (int_cmp (pos (view_kind j)) (pos (view_kind k))) (ordering_then (id_cmp (view_id j) (view_id k)) (int_cmp (pos (view_number j)) (pos (view_number k)))) ≡ view_cmp j k
 views_as_numbers (view.Program a) (view.Program b) = then_none (id_cmp a b)
-views_as_numbers (view.Program a) (view.Event b n) = refl
-views_as_numbers (view.Program a) (view.Report n) = refl
-views_as_numbers (view.Program a) (view.Rollup b) = refl
-views_as_numbers (view.Event a m) (view.Program b) = refl
 views_as_numbers (view.Event a m) (view.Event b n) = ap (ordering_then (id_cmp a b)) (numbers_as_values m n)
-views_as_numbers (view.Event a m) (view.Report n) = refl
-views_as_numbers (view.Event a m) (view.Rollup b) = refl
-views_as_numbers (view.Report m) (view.Program b) = refl
-views_as_numbers (view.Report m) (view.Event b n) = refl
 views_as_numbers (view.Report m) (view.Report n) = numbers_as_values m n
-views_as_numbers (view.Report m) (view.Rollup b) = refl
-views_as_numbers (view.Rollup a) (view.Program b) = refl
-views_as_numbers (view.Rollup a) (view.Event b n) = refl
-views_as_numbers (view.Rollup a) (view.Report n) = refl
 views_as_numbers (view.Rollup a) (view.Rollup b) = then_none (id_cmp a b)
+views_as_numbers j k = refl
 
 views_as_rows : (j k : ViewKey) (a b : Row) → key_order 3 (view_key_row j ++ a) (view_key_row k ++ b) ≡ view_cmp j k
 views_as_rows j k a b = number_text_number_key (pos (view_kind j)) (pos (view_kind k)) (view_id j) (view_id k) (pos (view_number j)) (pos (view_number k)) a b ∙ views_as_numbers j k

@@ -161,8 +161,8 @@ pub fn read_stamps_of<S: Alter>(
     first_in(*rows.allocator(), &rows)
 }
 
-/// The stamps of all that is shown: programs by the bytes of their ids, then events so, and each by the numbers of
-/// its resources, then reports by their numbers, and last roll-ups by the bytes of their ids.
+/// The stamps of all that is shown: programs by the bytes of their ids; then events so too, and those of one id
+/// by the numbers of their resources; then reports by their numbers; last roll-ups by the bytes of their ids.
 pub fn read_stamps<S: Alter>(
     alloc: Global,
     tx: &mut Transaction<'_, S>,
