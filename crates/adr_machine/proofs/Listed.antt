@@ -1,11 +1,11 @@
 -- That the machine refuses only as is listed.
-use Rattle.std.proofs.Common.{◌≡◌, ◌≢◌, ℕ, ◌+◌, not, Bool, true, false, cond, List, [], ◌∷◌, ◌++◌, Contains, Option, Some, None, Result, Ok, Err, IfErr, refl, arith}
+use Rattle.std.proofs.Common.{◌≡◌, ◌≢◌, ℕ, ◌+◌, not, ◌&&◌, Bool, true, false, cond, List, [], ◌∷◌, ◌++◌, Contains, Option, Some, None, Result, Ok, Err, IfErr, IfOk, refl, subst, arith}
 use Rattle.std.specs.List.{list_all}
 use Rattle.std.proofs.lemmas.Bool.{cond_both}
 use Rattle.std.proofs.lemmas.Result.{IfErr-at_err}
 use Rattle.adr_text.specs.Refusals.{◌>>=◌, or_else, IsRefusalOf}
 use Rattle.adr_text.specs.declared.refusal.Refusal.{Refusal}
-use Rattle.adr_text.specs.declared.refusal.Refusal.TheVariants.{OutOfMemory, Store, Exhausted, NotFound, Conflict, Forbidden, BadShare, LimitReached, NoScan}
+use Rattle.adr_text.specs.declared.refusal.Refusal.TheVariants.{OutOfMemory, Store, Exhausted, NotFound, Conflict, Forbidden, BadShare, LimitReached, ResourceNotOfEvent, NoScan}
 use Rattle.adr_state.specs.declared.base.Base.{Base}
 use Rattle.adr_state.specs.declared.state.State.{State}
 use Rattle.adr_state.specs.declared.limits.Limits.{Limits}
@@ -13,6 +13,12 @@ use Rattle.adr_state.specs.declared.limits.Settings.{Settings}
 use Rattle.adr_state.specs.declared.base.Mark.{Mark}
 use Rattle.adr_state.specs.declared.base.Mark.TheVariants.{Dead}
 use Rattle.adr_state.specs.declared.keys.MirrorKey.{MirrorKey}
+use Rattle.adr_objects.specs.declared.report.Rollup.{Rollup}
+use Rattle.adr_objects.specs.declared.shown.Stamps.{Stamps}
+use Rattle.adr_objects.specs.declared.site.ReportIn.{ReportIn}
+use Rattle.adr_state.specs.declared.keys.ViewKey.{ViewKey}
+use Rattle.adr_state.specs.declared.keys.ViewKey.TheVariants as key
+use Rattle.adr_state.specs.declared.portfolio.Report.{Report}
 use Rattle.adr_state.specs.declared.portfolio.Resource.{Resource}
 use Rattle.adr_state.specs.declared.portfolio.Ven.{Ven}
 use Rattle.adr_state.specs.declared.keys.ShareKey.{ShareKey}
@@ -20,28 +26,37 @@ use Rattle.adr_state.specs.Evidence.{joining, scan_with, evidence, gone, open_sc
 use Rattle.adr_state.specs.Mirror.{evidence_of}
 use Rattle.adr_state.specs.Names.{ven_name, resource_name, is_taken, is_taken_by_another, is_full, if_new, if_free}
 use Rattle.adr_state.specs.Portfolios.{PortfolioChange}
+use Rattle.adr_state.specs.BaseChanges.{ChangePortfolio}
 use Rattle.adr_state.specs.Serials.{drawn}
 use Rattle.adr_state.specs.Shares.{weight_set, share_of, share_set}
 use Rattle.adr_state.specs.Resources.{is_under, resource_at, resource_under, resource_add, resource_put, resource_remove}
 use Rattle.adr_state.specs.Vens.{ven_with_id, ven_at, ven_add, ven_put, ven_remove}
 use Rattle.adr_machine.specs.declared.answer.Answer.{Answer}
+use Rattle.adr_machine.specs.declared.answer.Answer.TheVariants as answer
 use Rattle.adr_machine.specs.declared.answer.Object.{Object}
 use Rattle.adr_machine.specs.declared.command.Command.{Command}
-use Rattle.adr_machine.specs.declared.command.Command.TheVariants.{Evidence, Gone, ScanBegin, ScanEnd, VenAdd, VenPut, VenRemove, ResourceAdd, ResourcePut, ResourceRemove, ShareSet}
+use Rattle.adr_machine.specs.declared.command.Command.TheVariants.{Evidence, Gone, ScanBegin, ScanEnd, VenAdd, VenPut, VenRemove, ResourceAdd, ResourcePut, ResourceRemove, ShareSet, ReportPost, ReportPut, ReportDelete}
 use Rattle.adr_machine.specs.declared.query.Query.{Query}
 use Rattle.adr_machine.specs.declared.query.Query.TheVariants as query
 use Rattle.adr_machine.specs.declared.query.Page.{Page}
-use Rattle.adr_machine.specs.declared.sight.Sight.{Sight}
+use Rattle.adr_view.specs.declared.sight.Sight.{Sight}
+use Rattle.adr_machine.specs.declared.outcome.Outcome.{Outcome}
+use Rattle.adr_machine.specs.declared.outcome.Outcome.TheVariants as outcome
 use Rattle.adr_machine.specs.declared.role.Role.{Role}
 use Rattle.adr_machine.specs.declared.role.Role.TheVariants as role
-use Rattle.adr_machine.specs.Roles.{sight_by, sight_of}
-use Rattle.adr_machine.specs.Edits.{is_allowed, draws_number, of_portfolio, decided, edit_of, edit}
+use Rattle.adr_machine.specs.Roles.{is_operator, sight_by, sight_of}
+use Rattle.adr_machine.specs.Edits.{Decision, is_allowed, draws_number, counted, answered, of_portfolio, ven_outcome, resource_outcome, share_outcome, post_decided, put_decided, delete_decided, decided, edit_of, edit}
 use Rattle.adr_machine.specs.Listed.{listed, listed_for, is_of_machine, IsListed}
 use Rattle.adr_state.specs.ShownIds.{resource_part, event_part, resource_named}
-use Rattle.adr_machine.specs.Shown.{told, event_shown, event_told, event_named}
-use Rattle.adr_machine.specs.Listings.{sees_ven, ven_told, resources_told, resource_told}
+use Rattle.adr_machine.specs.Shown.{object_at, told, event_shown, event_told, event_named}
+use Rattle.adr_view.specs.declared.view.Content.TheVariants as content
+use Rattle.adr_view.specs.Reports.{reported, fits, report_on, report_with_id, may_report, may_change, report_post, report_put, report_delete}
+use Rattle.adr_view.specs.Rollups.{rollup_at}
+use Rattle.adr_view.specs.Sights.{sees_ven}
+use Rattle.adr_machine.specs.Listings.{ven_told, resources_told, resource_told}
+use Rattle.adr_machine.specs.Reported.{sees_report, report_told, rollup_reply, rollup_told}
 use Rattle.adr_machine.specs.Runs.{AreListed}
-use Rattle.adr_machine.specs.Steps.{committed, step, reply, probes_reply}
+use Rattle.adr_machine.specs.Steps.{answered_by, changed, committed, step, reply, probes_reply}
 
 -- ---- tests that refuse
 
@@ -80,7 +95,7 @@ module _ (P : Refusal → Type 0) (limits : Limits) (base : Base) where
   joined_so : (marks : List (MirrorKey × Mark)) (scan : Option (List MirrorKey)) → P LimitReached → Refuses P (joining limits base marks scan)
   joined_so marks scan limit = tested P _ LimitReached (Ok _) limit (never P _)
 
-  portfolio_so : {A : Type 0} (told : A → Answer) (r : Result (A × PortfolioChange) Refusal) → Refuses P r → Refuses P (of_portfolio told r)
+  portfolio_so : {A : Type 0} (told : A → Outcome) (r : Result (A × PortfolioChange) Refusal) → Refuses P r → Refuses P (of_portfolio told r)
   portfolio_so told r first = first_then P r _ first (λ d. never P _)
 
   share_so : (key : ShareKey) (weight : ℕ) → P BadShare → P LimitReached → Refuses P (share_of limits key weight base.portfolio)
@@ -90,6 +105,40 @@ module _ (P : Refusal → Type 0) (limits : Limits) (base : Base) where
   scan_so : (scan : Option (List MirrorKey)) → P NoScan → Refuses P (open_scan scan)
   scan_so None no_scan = record { so = no_scan }
   scan_so (Some polled) no_scan = never P polled
+
+-- what is out of sight
+module _ (P : Refusal → Type 0) (base : Base) (forbidden : P Forbidden) where
+  sight_so : (role : Role) → Refuses P (sight_of base role)
+  sight_so role.Operator = never P _
+  sight_so (role.Ven id) = by (ven_at id base.portfolio)
+    where
+      by : (o : Option ℕ) → Refuses P (sight_by o)
+      by None = record { so = forbidden }
+      by (Some n) = never P _
+  sight_so role.Utility = record { so = forbidden }
+
+module _ (P : Refusal → Type 0) (limits : Limits) (base : Base) (forbidden : P Forbidden) (missing : P NotFound) where
+  delete_so : (role : Role) (id : List ℕ) → Refuses P (delete_decided role id base)
+  delete_so role id =
+      first_then P (sight_of base role) _ (sight_so P base forbidden role)
+      (λ sight. portfolio_so P limits base _ (report_delete sight id base.portfolio) (either P (may_change sight id base.portfolio) _ _ (found_then P NotFound (report_with_id id base.portfolio) _ missing (λ r. never P _)) (record { so = forbidden })))
+
+  module _ (unfit : P ResourceNotOfEvent) where
+    on_so : (report : ReportIn) → Refuses P (report_on report base.mirror base.portfolio)
+    on_so report = found_then P NotFound (reported base.mirror base.portfolio report.event) _ missing (λ on. either P (fits on report) _ _ (never P _) (record { so = unfit }))
+
+    post_so : (n : ℕ) (role : Role) (report : ReportIn) → P LimitReached → Refuses P (post_decided limits n role report base)
+    post_so n role report limit =
+        first_then P (sight_of base role) _ (sight_so P base forbidden role)
+        (λ sight. portfolio_so P limits base _ (report_post limits sight n report base.mirror base.portfolio)
+        (either P (may_report sight report base.portfolio) _ _ (first_then P (report_on report base.mirror base.portfolio) _ (on_so report) (λ on. tested P (is_full limits.reports base.portfolio.reports) LimitReached _ limit (never P _))) (record { so = forbidden })))
+
+    put_so : (n : ℕ) (role : Role) (id : List ℕ) (report : ReportIn) → Refuses P (put_decided n role id report base)
+    put_so n role id report =
+        first_then P (sight_of base role) _ (sight_so P base forbidden role)
+        (λ sight. portfolio_so P limits base _ (report_put sight n id report base.mirror base.portfolio)
+        (either P (may_change sight id base.portfolio && may_report sight report base.portfolio) _ _
+        (found_then P NotFound (report_with_id id base.portfolio) _ missing (λ old. first_then P (report_on report base.mirror base.portfolio) _ (on_so report) (λ on. never P _))) (record { so = forbidden })))
 
 decided_listed : (limits : Limits) (now n : ℕ) (base : Base) (c : Command) → Refuses (Contains (listed c)) (decided limits now n base c)
 decided_listed limits now n base (Evidence founds polled) = first_then _ (evidence limits founds polled base) _ (joined_so _ limits base (evidence_of founds) (scan_with base.scan founds polled) (0, omega arith, refl)) (λ change. never _ _)
@@ -114,10 +163,15 @@ decided_listed limits now n base (ResourceRemove role ven id) = portfolio_so _ l
 decided_listed limits now n base (ShareSet role program resource share) =
     portfolio_so _ limits base _ (share_set limits program resource share.share base.portfolio)
     (found_then _ NotFound (resource_at resource base.portfolio) _ (1, omega arith, refl) (λ m. share_so _ limits base (record { program = program; resource = m }) share.share (2, omega arith, refl) (3, omega arith, refl)))
+decided_listed limits now n base (ReportPost role report) = post_so (Contains (listed (ReportPost role report))) limits base (0, omega arith, refl) (1, omega arith, refl) (2, omega arith, refl) n role report (3, omega arith, refl)
+decided_listed limits now n base (ReportPut role id report) = put_so (Contains (listed (ReportPut role id report))) limits base (0, omega arith, refl) (1, omega arith, refl) (2, omega arith, refl) n role id report
+decided_listed limits now n base (ReportDelete role id) = delete_so (Contains (listed (ReportDelete role id))) limits base (0, omega arith, refl) (1, omega arith, refl) role id
 
 exhausted_listed : (c : Command) → draws_number c ≡ true → Contains (listed c) Exhausted
 exhausted_listed (VenAdd role ven) draws = (3, omega arith, refl)
 exhausted_listed (ResourceAdd role ven resource) draws = (4, omega arith, refl)
+exhausted_listed (ReportPost role report) draws = (4, omega arith, refl)
+exhausted_listed (ReportPut role id report) draws = (3, omega arith, refl)
 exhausted_listed c draws = absurd (let no : false ≡ true = draws in cc)
 
 pub forbidden_listed : (c : Command) → is_allowed c ≡ false → Contains (listed c) Forbidden
@@ -125,6 +179,9 @@ forbidden_listed (Evidence founds polled) is = absurd (let yes : true ≡ false 
 forbidden_listed (Gone kind id) is = absurd (let yes : true ≡ false = is in cc)
 forbidden_listed ScanBegin is = absurd (let yes : true ≡ false = is in cc)
 forbidden_listed ScanEnd is = absurd (let yes : true ≡ false = is in cc)
+forbidden_listed (ReportPost role report) is = absurd (let yes : true ≡ false = is in cc)
+forbidden_listed (ReportPut role id report) is = absurd (let yes : true ≡ false = is in cc)
+forbidden_listed (ReportDelete role id) is = absurd (let yes : true ≡ false = is in cc)
 forbidden_listed c is = (0, omega arith, refl)
 
 drawn_so : (P : Refusal → Type 0) (limits : Limits) (serial : ℕ) (draws : Bool) → (draws ≡ true → P Exhausted) → Refuses P (drawn limits serial draws)
@@ -139,27 +196,84 @@ edit_so limits now base c =
     (λ allowed. first_then P _ _ (decided_listed limits now (base.serial + 1) base c) (λ d. first_then P _ _ (drawn_so P limits base.serial (draws_number c) (exhausted_listed c)) (λ serial. never P _)))
     (λ other. record { so = forbidden_listed c other })
 
+-- ---- answers
+
+-- what comes of a command is answered, or refused as is listed: a report that lacks stamps counts as not there
+abbrev IsAnswered : Command → Outcome → Type 0
+IsAnswered c comes = (before : List (ViewKey × Stamps)) (after : ℕ × List (ViewKey × Stamps)) → Refuses (Contains (listed c)) (answered_by comes before after)
+
+answered_so : (P : Refusal → Type 0) → P NotFound → (comes : Outcome) (before : List (ViewKey × Stamps)) (after : ℕ × List (ViewKey × Stamps)) → Refuses P (answered_by comes before after)
+answered_so P missing (outcome.Told a) before after = never P a
+answered_so P missing outcome.Counted before after = never P _
+answered_so P missing (outcome.ReportKept n body) before after = by (object_at after.1 (key.Report n, content.Report body))
+  where
+    by : (o : Option Object) → Refuses P (told o)
+    by None = record { so = missing }
+    by (Some o) = never P _
+answered_so P missing (outcome.ReportGone n body) before after = by (object_at before (key.Report n, content.Report body))
+  where
+    by : (o : Option Object) → Refuses P (told o)
+    by None = record { so = missing }
+    by (Some o) = never P _
+
+any : {A : Type 0} (Q : A → Type 0) (r : Result A Refusal) → ((x : A) → Q x) → IfOk r Q
+any Q (Ok x) h = h x
+any Q (Err e) h = tt
+
+module _ {A B : Type 0} (Q : A → Type 0) where
+  made : (r : Result B Refusal) (f : B → A) → ((x : B) → Q (f x)) → IfOk (r >>= λ x. Ok (f x)) Q
+  made (Ok x) f h = h x
+  made (Err e) f h = tt
+
+  made_with : (P : B → Type 0) (r : Result B Refusal) (f : B → Result A Refusal) → IfOk r P → ((x : B) → P x → IfOk (f x) Q) → IfOk (r >>= f) Q
+  made_with P (Ok x) f first h = h x first
+  made_with P (Err e) f first h = tt
+
+then_with : {A B : Type 0} (P : Refusal → Type 0) (Q : B → Type 0) (r : Result B Refusal) (f : B → Result A Refusal) → Refuses P r → IfOk r Q → ((x : B) → Q x → Refuses P (f x)) → Refuses P (r >>= f)
+then_with P Q (Ok x) f first is others = others x is
+then_with P Q (Err e) f first is others = record { so = first.so }
+
+decided_answered : (limits : Limits) (now n : ℕ) (base : Base) (c : Command) → IfOk (decided limits now n base c) (λ d. IsAnswered c d.outcome)
+decided_answered limits now n base (Evidence founds polled) = made (λ d. IsAnswered (Evidence founds polled) d.outcome) (evidence limits founds polled base) (λ change. counted change) (λ x before after. never (Contains (listed (Evidence founds polled))) _)
+decided_answered limits now n base (Gone kind id) = made (λ d. IsAnswered (Gone kind id) d.outcome) (gone limits (record { kind = kind; id = id }) base) (λ change. counted change) (λ x before after. never (Contains (listed (Gone kind id))) _)
+decided_answered limits now n base ScanBegin = λ before after. never _ _
+decided_answered limits now n base ScanEnd = made (λ d. IsAnswered ScanEnd d.outcome) (scan_end base) (λ d. answered (answer.Probes d.0) d.1) (λ x before after. never (Contains (listed ScanEnd)) _)
+decided_answered limits now n base (VenAdd role ven) = made (λ d. IsAnswered (VenAdd role ven) d.outcome) (ven_add limits now n ven.name base.portfolio) (λ d. record { outcome = ven_outcome d.0; change = ChangePortfolio d.1 }) (λ x before after. never (Contains (listed (VenAdd role ven))) _)
+decided_answered limits now n base (VenPut role id ven) = made (λ d. IsAnswered (VenPut role id ven) d.outcome) (ven_put now id ven.name base.portfolio) (λ d. record { outcome = ven_outcome d.0; change = ChangePortfolio d.1 }) (λ x before after. never (Contains (listed (VenPut role id ven))) _)
+decided_answered limits now n base (VenRemove role id) = made (λ d. IsAnswered (VenRemove role id) d.outcome) (ven_remove id base.portfolio) (λ d. record { outcome = ven_outcome d.0; change = ChangePortfolio d.1 }) (λ x before after. never (Contains (listed (VenRemove role id))) _)
+decided_answered limits now n base (ResourceAdd role ven resource) = made (λ d. IsAnswered (ResourceAdd role ven resource) d.outcome) (resource_add limits now n ven resource.name base.portfolio) (λ d. record { outcome = resource_outcome d.0; change = ChangePortfolio d.1 }) (λ x before after. never (Contains (listed (ResourceAdd role ven resource))) _)
+decided_answered limits now n base (ResourcePut role ven id resource) = made (λ d. IsAnswered (ResourcePut role ven id resource) d.outcome) (resource_put now ven id resource.name base.portfolio) (λ d. record { outcome = resource_outcome d.0; change = ChangePortfolio d.1 }) (λ x before after. never (Contains (listed (ResourcePut role ven id resource))) _)
+decided_answered limits now n base (ResourceRemove role ven id) = made (λ d. IsAnswered (ResourceRemove role ven id) d.outcome) (resource_remove ven id base.portfolio) (λ d. record { outcome = resource_outcome d.0; change = ChangePortfolio d.1 }) (λ x before after. never (Contains (listed (ResourceRemove role ven id))) _)
+decided_answered limits now n base (ShareSet role program resource share) = made (λ d. IsAnswered (ShareSet role program resource share) d.outcome) (share_set limits program resource share.share base.portfolio) (λ d. record { outcome = share_outcome d.0; change = ChangePortfolio d.1 }) (λ x before after. never (Contains (listed (ShareSet role program resource share))) _)
+decided_answered limits now n base (ReportPost role report) = any (λ d. IsAnswered (ReportPost role report) d.outcome) _ (λ d. answered_so (Contains (listed (ReportPost role report))) (1, omega arith, refl) d.outcome)
+decided_answered limits now n base (ReportPut role id report) = any (λ d. IsAnswered (ReportPut role id report) d.outcome) _ (λ d. answered_so (Contains (listed (ReportPut role id report))) (1, omega arith, refl) d.outcome)
+decided_answered limits now n base (ReportDelete role id) = any (λ d. IsAnswered (ReportDelete role id) d.outcome) _ (λ d. answered_so (Contains (listed (ReportDelete role id))) (1, omega arith, refl) d.outcome)
+
+edit_answered : (limits : Limits) (now : ℕ) (base : Base) (c : Command) → IfOk (edit limits now base c) (λ e. IsAnswered c e.0)
+unfolding edit
+edit_answered limits now base c =
+    cond_both (is_allowed c) (edit_of limits now base c) (Err Forbidden) (λ r. IfOk r (λ e. IsAnswered c e.0))
+    (λ allowed. made_with (λ e. IsAnswered c e.0) (λ d. IsAnswered c d.outcome) (decided limits now (base.serial + 1) base c) _ (decided_answered limits now (base.serial + 1) base c) (λ d is. made _ (drawn limits base.serial (draws_number c)) _ (λ serial. is)))
+    (λ other. tt)
+
 pub drawn_listed : (limits : Limits) (serial : ℕ) (c : Command) → IfErr (drawn limits serial (draws_number c)) (Contains (listed c))
 drawn_listed limits serial c = (drawn_so _ limits serial (draws_number c) (exhausted_listed c)).so
 
 pub edit_listed : (limits : Limits) (now : ℕ) (base : Base) (c : Command) → IfErr (edit limits now base c) (Contains (listed c))
 edit_listed limits now base c = (edit_so limits now base c).so
 
+-- the commit of what an edit makes
+pub committed_listed : (limits : Limits) (s : State) (now : ℕ) (base after : Base) (c : Command) (comes : Outcome) → edit limits now base c ≡ Ok (comes, after) → IfErr (committed s now comes after) (Contains (listed c))
+committed_listed limits s now base after c comes is =
+    (first_then _ (answered_by comes s.stamps (changed s now after)) _ (subst (λ r. IfOk r (λ e. IsAnswered c e.0)) is (edit_answered limits now base c) s.stamps (changed s now after)) (λ a. never (Contains (listed c)) _)).so
+
 pub step_listed : (settings : Settings) (s : State) (now : ℕ) (c : Command) → IfErr (step settings s now c) (Contains (listed c))
-step_listed settings s now c = (first_then _ _ _ (edit_so settings.limits now s.base c) (λ e. never _ (committed s now e.0 e.1))).so
+step_listed settings s now c =
+    (then_with (Contains (listed c)) (λ e. IsAnswered c e.0) (edit settings.limits now s.base c) _ (edit_so settings.limits now s.base c) (edit_answered settings.limits now s.base c) (λ e is. first_then _ _ _ (is s.stamps (changed s now e.1)) (λ a. never _ _))).so
 
 -- ---- queries
 
 module _ (P : Refusal → Type 0) (base : Base) (forbidden : P Forbidden) where
-  sight_so : (role : Role) → Refuses P (sight_of base role)
-  sight_so role.Operator = never P _
-  sight_so (role.Ven id) = by (ven_at id base.portfolio)
-    where
-      by : (o : Option ℕ) → Refuses P (sight_by o)
-      by None = record { so = forbidden }
-      by (Some n) = never P _
-  sight_so role.Utility = record { so = forbidden }
-
   shown : {A : Type 0} (sees : Bool) (x : A) → Refuses P (cond sees (Ok x) (Err Forbidden))
   shown sees x = either P sees (Ok x) (Err Forbidden) (never P x) (record { so = forbidden })
 
@@ -176,6 +290,10 @@ module _ (P : Refusal → Type 0) (base : Base) (forbidden : P Forbidden) where
         by None = record { so = missing }
         by (Some (n, r)) = either P (sees_ven sight r.ven) _ _ (told_so (event_shown s n event)) (record { so = forbidden })
 
+    report_so : (s : State) (o : Option (ℕ × Report)) → Refuses P (report_told s sight o)
+    report_so s None = record { so = missing }
+    report_so s (Some r) = either P (sees_report s.base sight r) _ _ (told_so _) (record { so = forbidden })
+
     ven_so : (o : Option (ℕ × Ven)) → Refuses P (ven_told sight o)
     ven_so None = record { so = missing }
     ven_so (Some (n, ven)) = shown _ _
@@ -187,6 +305,10 @@ module _ (P : Refusal → Type 0) (base : Base) (forbidden : P Forbidden) where
     resource_so : (ven : List ℕ) (o : Option (ℕ × Resource)) → Refuses P (resource_told base ven sight o)
     resource_so ven None = record { so = missing }
     resource_so ven (Some (n, resource)) = tested P (not (sees_ven sight resource.ven)) Forbidden _ forbidden (either P (is_under ven base.portfolio resource) _ _ (never P _) (record { so = missing }))
+
+rollup_so : {P : Refusal → Type 0} → P NotFound → (event : List ℕ) (o : Option Rollup) → Refuses P (rollup_told event o)
+rollup_so missing event None = record { so = missing }
+rollup_so missing event (Some rollup) = never _ _
 
 scan_told : (limit : ℕ) (base : Base) (scan : Option (List MirrorKey)) → Refuses (Contains (NoScan ∷ [])) (probes_reply limit base scan)
 scan_told limit base None = record { so = (0, omega arith, refl) }
@@ -203,6 +325,9 @@ reply_so s (query.Ven role id) = first_then _ _ _ (sight_so _ s.base (0, omega a
 reply_so s (query.Resources role ven page) = first_then _ _ _ (sight_so _ s.base (0, omega arith, refl) role) (λ sight. resources_so _ s.base (0, omega arith, refl) (1, omega arith, refl) sight page _)
 reply_so s (query.Resource role ven id) = first_then _ _ _ (sight_so _ s.base (0, omega arith, refl) role) (λ sight. resource_so _ s.base (0, omega arith, refl) (1, omega arith, refl) sight ven _)
 reply_so s (query.Shares role program) = shown _ s.base (0, omega arith, refl) _ _
+reply_so s (query.Reports role filter page) = first_then _ _ _ (sight_so _ s.base (0, omega arith, refl) role) (λ sight. never _ _)
+reply_so s (query.Report role id) = first_then _ _ _ (sight_so _ s.base (0, omega arith, refl) role) (λ sight. report_so _ s.base (0, omega arith, refl) (1, omega arith, refl) sight s (report_with_id id s.base.portfolio))
+reply_so s (query.Rollup role event) = either _ (is_operator role) _ _ (rollup_so (1, omega arith, refl) event (rollup_at s.base.mirror s.base.portfolio event)) (record { so = (0, omega arith, refl) })
 reply_so s (query.Probes limit) = scan_told limit s.base s.base.scan
 
 pub reply_listed : (s : State) (q : Query) → IfErr (reply s q) (Contains (listed_for q))
@@ -222,6 +347,9 @@ listed_of_machine (ResourceAdd role ven resource) = refl
 listed_of_machine (ResourcePut role ven id resource) = refl
 listed_of_machine (ResourceRemove role ven id) = refl
 listed_of_machine (ShareSet role program resource share) = refl
+listed_of_machine (ReportPost role report) = refl
+listed_of_machine (ReportPut role id report) = refl
+listed_of_machine (ReportDelete role id) = refl
 
 pub listed_for_of_machine : (q : Query) → list_all is_of_machine (listed_for q) ≡ true
 listed_for_of_machine (query.Programs role page) = refl
@@ -233,6 +361,9 @@ listed_for_of_machine (query.Ven role id) = refl
 listed_for_of_machine (query.Resources role ven page) = refl
 listed_for_of_machine (query.Resource role ven id) = refl
 listed_for_of_machine (query.Shares role program) = refl
+listed_for_of_machine (query.Reports role filter page) = refl
+listed_for_of_machine (query.Report role id) = refl
+listed_for_of_machine (query.Rollup role event) = refl
 listed_for_of_machine (query.Probes limit) = refl
 
 -- ---- desks

@@ -1,4 +1,4 @@
--- Which events a query wants.
+-- Which events and which reports a query wants.
 use Rattle.std.specs.Prelude.{ℕ, Bool, true, false, ◌&&◌, List, filter, Option, None, Some}
 use Rattle.std.specs.List.{list_any}
 use Rattle.std.specs.Str.{bytes_eq}
@@ -6,6 +6,7 @@ use Rattle.adr_objects.specs.declared.shown.ShownEvent.{ShownEvent}
 use Rattle.adr_machine.specs.declared.answer.Object.{Object}
 use Rattle.adr_machine.specs.declared.answer.Object.TheVariants as object
 use Rattle.adr_machine.specs.declared.filter.EventFilter.{EventFilter}
+use Rattle.adr_machine.specs.declared.filter.ReportFilter.{ReportFilter}
 use Rattle.adr_machine.specs.declared.filter.TargetFilter.{TargetFilter}
 use Rattle.adr_machine.specs.declared.filter.TargetFilter.TheVariants.{Any, VenName, ResourceName, Other}
 
@@ -31,3 +32,11 @@ is_wanted f _ = false
 
 abbrev pub wanted_of : EventFilter → List Object → List Object
 wanted_of f objects = filter (is_wanted f) objects
+
+-- whether an object is a report of the programs and of the clients that are wanted
+abbrev pub is_wanted_report : ReportFilter → Object → Bool
+is_wanted_report f (object.Report r) = is_among_all f.programs r.body.head.program && is_among_all f.clients r.body.head.client
+is_wanted_report f _ = false
+
+abbrev pub wanted_reports : ReportFilter → List Object → List Object
+wanted_reports f objects = filter (is_wanted_report f) objects

@@ -2,9 +2,9 @@
 use Rattle.std.specs.Prelude.{Bool, true, false, List, [], ◌∷◌}
 use Rattle.std.specs.List.{Contains}
 use Rattle.adr_text.specs.declared.refusal.Refusal.{Refusal}
-use Rattle.adr_text.specs.declared.refusal.Refusal.TheVariants.{OutOfMemory, Store, Exhausted, TrailFull, NotFound, Conflict, Forbidden, BadShare, LimitReached, NoScan, Stale}
+use Rattle.adr_text.specs.declared.refusal.Refusal.TheVariants.{OutOfMemory, Store, Exhausted, TrailFull, NotFound, Conflict, Forbidden, BadShare, LimitReached, ResourceNotOfEvent, NoScan, Stale}
 use Rattle.adr_machine.specs.declared.command.Command.{Command}
-use Rattle.adr_machine.specs.declared.command.Command.TheVariants.{Evidence, Gone, ScanBegin, ScanEnd, VenAdd, VenPut, VenRemove, ResourceAdd, ResourcePut, ResourceRemove, ShareSet}
+use Rattle.adr_machine.specs.declared.command.Command.TheVariants.{Evidence, Gone, ScanBegin, ScanEnd, VenAdd, VenPut, VenRemove, ResourceAdd, ResourcePut, ResourceRemove, ShareSet, ReportPost, ReportPut, ReportDelete}
 use Rattle.adr_machine.specs.declared.query.Query.{Query}
 use Rattle.adr_machine.specs.declared.query.Query.TheVariants as query
 
@@ -21,6 +21,9 @@ listed (ResourceAdd role ven resource) = Forbidden ∷ NotFound ∷ Conflict ∷
 listed (ResourcePut role ven id resource) = Forbidden ∷ NotFound ∷ Conflict ∷ []
 listed (ResourceRemove role ven id) = Forbidden ∷ NotFound ∷ []
 listed (ShareSet role program resource share) = Forbidden ∷ NotFound ∷ BadShare ∷ LimitReached ∷ []
+listed (ReportPost role report) = Forbidden ∷ NotFound ∷ ResourceNotOfEvent ∷ LimitReached ∷ Exhausted ∷ []
+listed (ReportPut role id report) = Forbidden ∷ NotFound ∷ ResourceNotOfEvent ∷ Exhausted ∷ []
+listed (ReportDelete role id) = Forbidden ∷ NotFound ∷ []
 
 -- what a query may be refused by
 abbrev pub listed_for : Query → List Refusal
@@ -33,6 +36,9 @@ listed_for (query.Ven role id) = Forbidden ∷ NotFound ∷ []
 listed_for (query.Resources role ven page) = Forbidden ∷ NotFound ∷ []
 listed_for (query.Resource role ven id) = Forbidden ∷ NotFound ∷ []
 listed_for (query.Shares role program) = Forbidden ∷ []
+listed_for (query.Reports role filter page) = Forbidden ∷ []
+listed_for (query.Report role id) = Forbidden ∷ NotFound ∷ []
+listed_for (query.Rollup role event) = Forbidden ∷ NotFound ∷ []
 listed_for (query.Probes limit) = NoScan ∷ []
 
 -- whether a refusal is the machine's: want of memory and the store's stand only in place of its answer, and it keeps no trail and takes no pass

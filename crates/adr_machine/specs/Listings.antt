@@ -8,8 +8,8 @@ use Rattle.adr_state.specs.declared.base.Base.{Base}
 use Rattle.adr_state.specs.declared.portfolio.Ven.{Ven}
 use Rattle.adr_state.specs.declared.portfolio.Resource.{Resource}
 use Rattle.adr_machine.specs.declared.role.Role.{Role}
-use Rattle.adr_machine.specs.declared.sight.Sight.{Sight}
-use Rattle.adr_machine.specs.declared.sight.Sight.TheVariants.{All, Of}
+use Rattle.adr_view.specs.declared.sight.Sight.{Sight}
+use Rattle.adr_view.specs.Sights.{sees_ven}
 use Rattle.adr_machine.specs.declared.query.Page.{Page}
 use Rattle.adr_machine.specs.declared.answer.Object.{Object}
 use Rattle.adr_machine.specs.declared.answer.Answer.{Answer}
@@ -23,11 +23,6 @@ use Rattle.adr_state.specs.Shares.{share_object}
 -- after the first ones, at most so many
 abbrev pub page_of : Page → List Object → List Object
 page_of page objects = take page.limit (drop page.skip objects)
-
--- whether a ven, and what is its own, is in sight
-abbrev pub sees_ven : Sight → ℕ → Bool
-sees_ven All n = true
-sees_ven (Of ven) n = n == ven
 
 -- ---- vens
 

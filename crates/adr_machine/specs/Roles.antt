@@ -5,8 +5,8 @@ use Rattle.adr_text.specs.declared.refusal.Refusal.TheVariants.{Forbidden}
 use Rattle.adr_state.specs.declared.base.Base.{Base}
 use Rattle.adr_machine.specs.declared.role.Role.{Role}
 use Rattle.adr_machine.specs.declared.role.Role.TheVariants.{Operator, Ven, Utility}
-use Rattle.adr_machine.specs.declared.sight.Sight.{Sight}
-use Rattle.adr_machine.specs.declared.sight.Sight.TheVariants.{All, Of}
+use Rattle.adr_view.specs.declared.sight.Sight.{Sight}
+use Rattle.adr_view.specs.declared.sight.Sight.TheVariants.{All, Of}
 use Rattle.adr_state.specs.Vens.{ven_at}
 
 abbrev pub is_operator : Role → Bool

@@ -1,4 +1,4 @@
--- What a role is told of programs and events.
+-- What a role is told of programs and events, and of what is shown in all.
 use Rattle.std.specs.Prelude.{ℕ, Bool, true, false, ◌&&◌, ◌==◌, List, filter, Option, None, Some, option_map, option_and_then, Result, Ok, Err, if◌then◌else◌}
 use Rattle.std.specs.List.{filter_map}
 use Rattle.std.specs.Option.{option_map_or}
@@ -17,8 +17,8 @@ use Rattle.adr_state.specs.declared.keys.ViewKey.TheVariants as key
 use Rattle.adr_view.specs.declared.view.Content.{Content}
 use Rattle.adr_view.specs.declared.view.Content.TheVariants as content
 use Rattle.adr_machine.specs.declared.role.Role.{Role}
-use Rattle.adr_machine.specs.declared.sight.Sight.{Sight}
-use Rattle.adr_machine.specs.declared.sight.Sight.TheVariants.{All, Of}
+use Rattle.adr_view.specs.declared.sight.Sight.{Sight}
+use Rattle.adr_view.specs.declared.sight.Sight.TheVariants.{All, Of}
 use Rattle.adr_machine.specs.declared.filter.EventFilter.{EventFilter}
 use Rattle.adr_machine.specs.declared.query.Page.{Page}
 use Rattle.adr_machine.specs.declared.answer.Object.{Object}
@@ -30,7 +30,8 @@ use Rattle.adr_state.specs.ShownIds.{resource_part, event_part, id_in, resource_
 use Rattle.adr_view.specs.Views.{view}
 use Rattle.adr_machine.specs.Filters.{wanted_of}
 use Rattle.adr_machine.specs.Roles.{sight_of}
-use Rattle.adr_machine.specs.Listings.{page_of, sees_ven}
+use Rattle.adr_view.specs.Sights.{sees_ven}
+use Rattle.adr_machine.specs.Listings.{page_of}
 
 -- ---- what is in sight
 
@@ -38,18 +39,24 @@ use Rattle.adr_machine.specs.Listings.{page_of, sees_ven}
 abbrev pub owner_of : Base → ℕ → Option ℕ
 owner_of base resource = option_map (λ r. r.ven) (at nat_cmp resource base.portfolio.resources)
 
--- whether what stands at a key is in sight: every ven sees the programs
+-- whether what a resource is shown, and what is reported of it, is in sight
+abbrev pub sees_owned : Base → Sight → ℕ → Bool
+sees_owned base All resource = true
+sees_owned base (Of ven) resource = option_map_or (λ owner. owner == ven) (owner_of base resource) false
+
+-- whether what stands at a key is in sight: every ven sees the programs, and the operator alone the roll-ups
 abbrev pub sees : Base → Sight → ViewKey → Bool
-sees base All key = true
+sees base All k = true
 sees base (Of ven) (key.Program id) = true
-sees base (Of ven) (key.Event event resource) = option_map_or (λ owner. owner == ven) (owner_of base resource) false
+sees base (Of ven) (key.Event event resource) = sees_owned base (Of ven) resource
+sees base (Of ven) (key.Report n) = option_map_or (λ r. sees_owned base (Of ven) r.body.head.resource) (at nat_cmp n base.portfolio.reports) false
+sees base (Of ven) (key.Rollup id) = false
 
 -- whether something of the kind stands at a key
 abbrev pub is_of : Kind → ViewKey → Bool
 is_of kind.Program (key.Program id) = true
-is_of kind.Program (key.Event event resource) = false
-is_of kind.Event (key.Program id) = false
 is_of kind.Event (key.Event event resource) = true
+is_of _ _ = false
 
 -- of what is shown, the rows of a kind that are in sight
 abbrev pub rows_seen : Base → List (ViewKey × Content) → Kind → Sight → List (ViewKey × Content)
@@ -59,10 +66,11 @@ rows_seen base shown kind sight = filter (λ r. is_of kind r.0 && sees base sigh
 abbrev pub rows_in_sight : Base → Kind → Sight → List (ViewKey × Content)
 rows_in_sight base kind sight = rows_seen base (view base) kind sight
 
--- what is shown at a key, as an object
+-- what is shown at a key, as an object; a roll-up is none
 abbrev pub object_of : ViewKey → Content → Stamps → Option Object
 object_of (key.Program id) (content.Program name) stamps = Some (object.Program (record { id = id; name = name; stamps = stamps }))
 object_of (key.Event event resource) (content.Event shown) stamps = Some (object.Event (record { resource = resource; event = event; shown = shown; stamps = stamps }))
+object_of (key.Report n) (content.Report body) stamps = Some (object.Report (record { number = n; body = body; stamps = stamps }))
 object_of _ _ stamps = None
 
 abbrev pub object_at : List (ViewKey × Stamps) → ViewKey × Content → Option Object

@@ -1,13 +1,16 @@
 //! What the machine answers.
-use adr_objects::{EventObject, ProgramObject, ResourceObject, ShareObject, VenObject};
+use adr_objects::{
+    EventObject, ProgramObject, ReportObject, ResourceObject, Rollup, ShareObject, VenObject,
+};
 use adr_state::MirrorKey;
-use adr_text::Rows;
+use adr_text::{ObjectId, Rows};
 
 /// An object as it is shown.
 #[derive(Drop)]
 pub enum Object {
     Program(ProgramObject),
     Event(EventObject),
+    Report(ReportObject),
     Ven(VenObject),
     Resource(ResourceObject),
     Share(ShareObject),
@@ -24,4 +27,6 @@ pub enum Answer {
     Object(Object),
     List(Rows<Object>),
     Share(ShareObject),
+    /// The roll-up of the upstream event of that id.
+    Rollup(ObjectId, Rollup),
 }

@@ -3,7 +3,7 @@ ghost use Rattle.std.specs.Prelude.{◌≡◌};
 ghost use Rattle.std.specs.Option.{option_copied};
 
 use crate::role::{Role, is_operator};
-use adr_objects::{Found, Kind, ResourceIn, ShareIn, VenIn};
+use adr_objects::{Found, Kind, ReportIn, ResourceIn, ShareIn, VenIn};
 use adr_text::{ObjectId, Rows};
 
 /// A command. Each is one step, at a moment.
@@ -37,7 +37,7 @@ pub enum Command {
         id: ObjectId,
         ven: VenIn,
     },
-    /// Removes the ven of that id, with its resources and their shares. Refused for another role than
+    /// Removes the ven of that id, with its resources and their shares and reports. Refused for another role than
     /// the operator, and where the ven isn't there.
     VenRemove {
         role: Role,
@@ -57,7 +57,7 @@ pub enum Command {
         id: ObjectId,
         resource: ResourceIn,
     },
-    /// Removes the resource of that id, with its shares. Refused as for a ven; a resource of another
+    /// Removes the resource of that id, with its shares and reports. Refused as for a ven; a resource of another
     /// ven than that of the path isn't there.
     ResourceRemove {
         role: Role,
@@ -73,6 +73,26 @@ pub enum Command {
         resource: ObjectId,
         share: ShareIn,
     },
+    /// Posts a report. Refused for the utility, for a ven that isn't enrolled, and where the report's
+    /// event is of another ven's resource; where the event isn't shown, where the report names another
+    /// resource or program than the event's, at the limit of reports, and where the serial is used up.
+    ReportPost {
+        role: Role,
+        report: ReportIn,
+    },
+    /// The report of that id says this from now on; it may be on another event. Refused as a new one,
+    /// save at the limit of reports, and where the report is on another ven's resource or isn't there.
+    ReportPut {
+        role: Role,
+        id: ObjectId,
+        report: ReportIn,
+    },
+    /// Removes the report of that id. Refused for the utility, for a ven that isn't enrolled, and where the
+    /// report is on another ven's resource or isn't there.
+    ReportDelete {
+        role: Role,
+        id: ObjectId,
+    },
 }
 
 impl Command {
@@ -86,7 +106,10 @@ impl Command {
             Command::Evidence { .. }
             | Command::Gone { .. }
             | Command::ScanBegin
-            | Command::ScanEnd => None,
+            | Command::ScanEnd
+            | Command::ReportPost { .. }
+            | Command::ReportPut { .. }
+            | Command::ReportDelete { .. } => None,
             Command::VenAdd { role, .. }
             | Command::VenPut { role, .. }
             | Command::VenRemove { role, .. }
@@ -97,7 +120,7 @@ impl Command {
         }
     }
 
-    /// Whether who gives it may.
+    /// Whether who gives it may, where that is told by the role alone.
     pub fn is_allowed(&self) -> bool
         ensures { result ≡ is_allowed self.now }
     {
@@ -107,10 +130,16 @@ impl Command {
         }
     }
 
-    /// Whether what it makes is new, so that the next number is drawn for it.
+    /// Whether the next number is drawn for it: what it makes is new, or a report is given another revision.
     pub fn draws_number(&self) -> bool
         ensures { result ≡ draws_number self.now }
     {
-        matches!(self, Command::VenAdd { .. } | Command::ResourceAdd { .. })
+        matches!(
+            self,
+            Command::VenAdd { .. }
+                | Command::ResourceAdd { .. }
+                | Command::ReportPost { .. }
+                | Command::ReportPut { .. }
+        )
     }
 }

@@ -1,27 +1,19 @@
 //! Steps: an edit, and then its commit.
-ghost use Rattle.std.specs.Prelude.{◌≡◌, Ok, IfOk, IfErr};
+ghost use Rattle.std.specs.Prelude.{◌≡◌, ◌≢◌, Ok, Err, IfOk, IfErr};
+ghost use Rattle.adr_text.specs.declared.refusal.Refusal.TheVariants.{Store};
 ghost use Rattle.adr_machine.specs.Listed.{listed, IsListed};
-ghost use Rattle.adr_machine.specs.Steps.{answer_or_count, changed, committed, step};
+ghost use Rattle.adr_machine.specs.Steps.{changed, committed, step};
 ghost use Rattle.adr_text.specs.Refusals.{IsRefusalOf};
 
 use crate::answer::Answer;
 use crate::command::Command;
 use crate::edit::edited;
+use crate::outcome::{Outcome, answered_by};
 use adr_objects::Stamps;
 use adr_state::{Base, Settings, State, ViewKey};
 use adr_text::{Moment, Refusal, Table};
 use adr_view::{changes_of, restamped, view_of};
 use std::alloc::{AllocError, Global};
-
-/// The answer, or how many keys of the view changed where there is none yet.
-pub fn answer_or_count(answer: Option<Answer>, count: usize) -> Answer
-    ensures { result ≡ answer_or_count answer count }
-{
-    match answer {
-        Some(answer) => answer,
-        None => Answer::Changes(count as u64),
-    }
-}
 
 /// How many keys of the view changed, and the stamps after the changes.
 fn changed(
@@ -44,13 +36,16 @@ fn committed(
     alloc: Global,
     state: &State,
     now: Moment,
-    answer: Option<Answer>,
+    comes: Outcome,
     base: Base,
-) -> Result<(Answer, State), AllocError>
-    ensures { IfOk result (λ next. next ≡ committed state.now now answer base) }
+) -> Result<(Answer, State), Refusal>
+    ensures ok { IfOk result (λ next. committed state.now now comes base ≡ Ok next) }
+    ensures refused { IfErr result (λ refusal. IsRefusalOf refusal (committed state.now now comes base)) }
+    ensures no_store { result ≢ Err Store }
 {
     let (count, stamps) = changed(alloc, state, now, &base)?;
-    Ok((answer_or_count(answer, count), State { base, stamps }))
+    let answer = answered_by(comes, &state.stamps, count, &stamps)?;
+    Ok((answer, State { base, stamps }))
 }
 
 /// What a step answers and leaves, aside.
@@ -66,6 +61,6 @@ pub(crate) fn next(
     ensures listed { IfErr result (IsListed ⊥ (listed command.now)) }
 {
     let mut base = state.base.copy()?;
-    let answer = edited(alloc, &settings.limits, now, &mut base, command)?;
-    Ok(committed(alloc, state, now, answer, base)?)
+    let comes = edited(alloc, &settings.limits, now, &mut base, command)?;
+    committed(alloc, state, now, comes, base)
 }

@@ -4,30 +4,93 @@ ghost use Rattle.adr_text.specs.declared.refusal.Refusal.TheVariants.{Store};
 ghost use Rattle.adr_text.specs.Refusals.{IsRefusalOf};
 ghost use Rattle.adr_machine.specs.declared.answer.Answer.TheVariants as answer;
 ghost use Rattle.adr_state.specs.Evidence.{scan_begin};
-ghost use Rattle.adr_machine.specs.Edits.{answered, decided, carried_out_on};
+ghost use Rattle.adr_machine.specs.Edits.{answered, post_decided, put_decided, delete_decided, decided, carried_out_on};
 
 use crate::answer::Answer;
 use crate::command::Command;
 use crate::evidence::{take_deletion, take_evidence};
+use crate::outcome::Outcome;
+use crate::report::{report_delete, report_post, report_put};
 use crate::resource::{resource_add, resource_put, resource_remove};
+use crate::role::Role;
 use crate::scan::{begin_scan, end_scan};
 use crate::share::share_set;
-use crate::told::{counted, of_resource, of_scan, of_share, of_ven};
+use crate::sight::sight_of;
+use crate::told::{counted, of_report, of_report_gone, of_resource, of_scan, of_share, of_ven};
 use crate::ven::{ven_add, ven_put, ven_remove};
-use adr_objects::Number;
+use adr_objects::{Number, ReportIn};
 use adr_state::{Base, Limits};
-use adr_text::{Moment, Refusal};
+use adr_text::{Moment, ObjectId, Refusal};
 use std::alloc::Global;
 
-fn begun(alloc: Global, base: &mut Base) -> Option<Answer>
+fn begun(alloc: Global, base: &mut Base) -> Outcome
     ensures { carried_out_on base.old (Ok (answered answer.Done scan_begin)) ≡ Ok (result, base.new) }
 {
     begin_scan(alloc, base);
-    Some(Answer::Done)
+    Outcome::Told(Answer::Done)
 }
 
-/// What the command decides, where that is the next number: the answer, or none where it is the number of
-/// changes.
+/// A new report of who has the role.
+fn posted(
+    alloc: Global,
+    limits: &Limits,
+    number: Number,
+    base: &mut Base,
+    role: &Role,
+    report: &ReportIn,
+) -> Result<Outcome, Refusal>
+    ensures ok { IfOk result (λ comes. carried_out_on base.old (post_decided limits.now number role.now report.now base.old) ≡ Ok (comes, base.new)) }
+    ensures refused { IfErr result (λ refusal. IsRefusalOf refusal (post_decided limits.now number role.now report.now base.old)) }
+    ensures no_store { result ≢ Err Store }
+{
+    let sight = sight_of(base, role)?;
+    of_report(report_post(
+        alloc,
+        limits,
+        sight,
+        number,
+        &base.mirror,
+        &mut base.portfolio,
+        report,
+    ))
+}
+
+/// The report of an id is replaced by who has the role.
+fn put_again(
+    alloc: Global,
+    revision: Number,
+    base: &mut Base,
+    role: &Role,
+    id: &ObjectId,
+    report: &ReportIn,
+) -> Result<Outcome, Refusal>
+    ensures ok { IfOk result (λ comes. carried_out_on base.old (put_decided revision role.now id.now report.now base.old) ≡ Ok (comes, base.new)) }
+    ensures refused { IfErr result (λ refusal. IsRefusalOf refusal (put_decided revision role.now id.now report.now base.old)) }
+    ensures no_store { result ≢ Err Store }
+{
+    let sight = sight_of(base, role)?;
+    of_report(report_put(
+        alloc,
+        sight,
+        revision,
+        id,
+        &base.mirror,
+        &mut base.portfolio,
+        report,
+    ))
+}
+
+/// The report of an id is removed by who has the role.
+fn removed(base: &mut Base, role: &Role, id: &ObjectId) -> Result<Outcome, Refusal>
+    ensures ok { IfOk result (λ comes. carried_out_on base.old (delete_decided role.now id.now base.old) ≡ Ok (comes, base.new)) }
+    ensures refused { IfErr result (λ refusal. IsRefusalOf refusal (delete_decided role.now id.now base.old)) }
+    ensures no_store { result ≢ Err Store }
+{
+    let sight = sight_of(base, role)?;
+    of_report_gone(report_delete(sight, id, &mut base.portfolio))
+}
+
+/// What the command decides, where that is the next number, and what comes of it.
 pub(crate) fn carry_out(
     alloc: Global,
     limits: &Limits,
@@ -35,8 +98,8 @@ pub(crate) fn carry_out(
     number: Number,
     base: &mut Base,
     command: &Command,
-) -> Result<Option<Answer>, Refusal>
-    ensures ok { IfOk result (λ answer. carried_out_on base.old (decided limits.now now number base.old command.now) ≡ Ok (answer, base.new)) }
+) -> Result<Outcome, Refusal>
+    ensures ok { IfOk result (λ comes. carried_out_on base.old (decided limits.now now number base.old command.now) ≡ Ok (comes, base.new)) }
     ensures refused { IfErr result (λ refusal. IsRefusalOf refusal (decided limits.now now number base.old command.now)) }
     ensures no_store { result ≢ Err Store }
 {
@@ -78,5 +141,8 @@ pub(crate) fn carry_out(
             share,
             ..
         } => of_share(share_set(limits, &mut base.portfolio, program, resource, share.share)),
+        Command::ReportPost { role, report } => posted(alloc, limits, number, base, role, report),
+        Command::ReportPut { role, id, report } => put_again(alloc, number, base, role, id, report),
+        Command::ReportDelete { role, id } => removed(base, role, id),
     }
 }

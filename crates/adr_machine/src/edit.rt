@@ -4,9 +4,9 @@ ghost use Rattle.adr_text.specs.declared.refusal.Refusal.TheVariants.{Store};
 ghost use Rattle.adr_text.specs.Refusals.{IsRefusalOf};
 ghost use Rattle.adr_machine.specs.Edits.{edit_of, edit};
 
-use crate::answer::Answer;
 use crate::command::Command;
 use crate::decided::carry_out;
+use crate::outcome::Outcome;
 use adr_state::{Base, Limits};
 use adr_text::{Moment, Refusal};
 use std::alloc::Global;
@@ -18,18 +18,18 @@ fn numbered(
     now: Moment,
     base: &mut Base,
     command: &Command,
-) -> Result<Option<Answer>, Refusal>
-    ensures ok { IfOk result (λ answer. edit_of limits.now now base.old command.now ≡ Ok (answer, base.new)) }
+) -> Result<Outcome, Refusal>
+    ensures ok { IfOk result (λ comes. edit_of limits.now now base.old command.now ≡ Ok (comes, base.new)) }
     ensures refused { IfErr result (λ refusal. IsRefusalOf refusal (edit_of limits.now now base.old command.now)) }
     ensures no_store { result ≢ Err Store }
 {
     let number = base.serial.next();
-    let answer = carry_out(alloc, limits, now, number, base, command)?;
+    let comes = carry_out(alloc, limits, now, number, base, command)?;
     base.serial.draw(limits, command.draws_number())?;
-    Ok(answer)
+    Ok(comes)
 }
 
-/// What the command makes of the base: the answer, or none where it is the number of changes.
+/// What the command makes of the base, and what comes of it.
 #[tactic(auto, unfolding(crate::specs::Edits::edit))]
 pub(crate) fn edited(
     alloc: Global,
@@ -37,8 +37,8 @@ pub(crate) fn edited(
     now: Moment,
     base: &mut Base,
     command: &Command,
-) -> Result<Option<Answer>, Refusal>
-    ensures ok { IfOk result (λ answer. edit limits.now now base.old command.now ≡ Ok (answer, base.new)) }
+) -> Result<Outcome, Refusal>
+    ensures ok { IfOk result (λ comes. edit limits.now now base.old command.now ≡ Ok (comes, base.new)) }
     ensures refused { IfErr result (λ refusal. IsRefusalOf refusal (edit limits.now now base.old command.now)) }
     ensures no_store { result ≢ Err Store }
 {

@@ -11,11 +11,11 @@ use crate::page::page_of;
 use crate::query::Page;
 use crate::role::Role;
 use crate::shown::{object_shown, objects_in_sight, told};
-use crate::sight::{Sight, sight_of};
-use crate::ven::sees_ven;
+use crate::sight::sight_of;
 use adr_objects::{Kind, Number};
 use adr_state::{State, ViewKey, id_in, id_parts, resource_named};
 use adr_text::{ObjectId, Refusal, Rows};
+use adr_view::{Sight, sees_ven};
 use std::alloc::{AllocError, Global};
 
 /// The events that a role sees and the filter wants, or `Forbidden`.

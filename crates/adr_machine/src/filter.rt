@@ -1,6 +1,6 @@
-//! Which events are wanted.
+//! Which events and which reports are wanted.
 ghost use Rattle.std.specs.Prelude.{◌≡◌, IfOk};
-ghost use Rattle.adr_machine.specs.Filters.{is_among, is_among_all, has_target, is_wanted, wanted_of};
+ghost use Rattle.adr_machine.specs.Filters.{is_among, is_among_all, has_target, is_wanted, wanted_of, is_wanted_report, wanted_reports};
 
 use crate::answer::Object;
 use adr_objects::ShownEvent;
@@ -25,6 +25,15 @@ pub struct EventFilter {
     /// Those of one of these programs, or of any (OpenADR 3.0, programID).
     pub programs: Option<Rows<ObjectId>>,
     pub target: TargetFilter,
+}
+
+/// Which reports are wanted.
+#[derive(Clone, Drop)]
+pub struct ReportFilter {
+    /// Those of one of these programs, or of any (OpenADR 3.0, programID).
+    pub programs: Option<Rows<ObjectId>>,
+    /// Those of one of these clients, or of any (OpenADR 3.0, clientName).
+    pub clients: Option<Rows<Name>>,
 }
 
 fn is_named(names: &Rows<Name>, name: &Name) -> bool
@@ -81,5 +90,40 @@ pub fn wanted_of(
     objects
         .into_iter()
         .filter(|object| is_wanted(filter, object))
+        .collect(alloc)
+}
+
+/// Whether it is one of the clients, where there are any.
+fn is_from(clients: &Option<Rows<Name>>, client: &Name) -> bool
+    ensures { result ≡ is_among_all clients.now client.now }
+{
+    match clients {
+        Some(clients) => is_named(clients, client),
+        None => true,
+    }
+}
+
+/// Whether the object is a report that is wanted.
+fn is_wanted_report(filter: &ReportFilter, object: &Object) -> bool
+    ensures { result ≡ is_wanted_report filter.now object.now }
+{
+    let Object::Report(report) = object else {
+        return false;
+    };
+    let head = &report.body.head;
+    is_of(&filter.programs, &head.program) && is_from(&filter.clients, &head.client)
+}
+
+/// The reports among the objects that are wanted, in their order.
+pub fn wanted_reports(
+    alloc: Global,
+    filter: &ReportFilter,
+    objects: Vec<Object>,
+) -> Result<Vec<Object>, AllocError>
+    ensures { IfOk result (λ wanted. wanted.items ≡ wanted_reports filter.now objects.items) }
+{
+    objects
+        .into_iter()
+        .filter(|object| is_wanted_report(filter, object))
         .collect(alloc)
 }

@@ -1,5 +1,5 @@
 //! What the machine is asked.
-use crate::filter::EventFilter;
+use crate::filter::{EventFilter, ReportFilter};
 use crate::role::Role;
 use adr_text::ObjectId;
 
@@ -63,6 +63,23 @@ pub enum Query {
     Shares {
         role: Role,
         program: ObjectId,
+    },
+    /// The reports that the role sees and the filter wants, by number.
+    Reports {
+        role: Role,
+        filter: ReportFilter,
+        page: Page,
+    },
+    /// The report of an id. Refused where it isn't there, and where it is on another ven's resource.
+    Report {
+        role: Role,
+        id: ObjectId,
+    },
+    /// The roll-up of an upstream event. Refused for another role than the operator, and where there is
+    /// none.
+    Rollup {
+        role: Role,
+        event: ObjectId,
     },
     /// The first keys that the end of the scan would answer. Refused where no scan is open.
     Probes {

@@ -8,6 +8,7 @@ use crate::answer::Answer;
 use crate::event::{event_reply, events_reply};
 use crate::program::{program_reply, programs_reply};
 use crate::query::Query;
+use crate::reported::{report_reply, reports_reply, rollup_reply};
 use crate::resource::{resource_reply, resources_reply};
 use crate::scan::probes_reply;
 use crate::share::shares_reply;
@@ -35,6 +36,9 @@ pub fn reply(alloc: Global, state: &State, query: &Query) -> Result<Answer, Refu
         }
         Query::Resource { role, ven, id } => resource_reply(&state.base, role, ven, id),
         Query::Shares { role, program } => shares_reply(alloc, &state.base, role, program),
+        Query::Reports { role, filter, page } => reports_reply(alloc, state, role, filter, *page),
+        Query::Report { role, id } => report_reply(state, role, id),
+        Query::Rollup { role, event } => rollup_reply(alloc, &state.base, role, event),
         Query::Probes { limit } => probes_reply(alloc, &state.base, *limit),
     }
 }

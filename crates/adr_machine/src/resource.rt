@@ -11,13 +11,14 @@ use crate::page::page_of;
 use crate::query::Page;
 use crate::role::Role;
 use crate::sight::sight_of;
-use crate::ven::{sees_ven, ven_at};
+use crate::ven::ven_at;
 use adr_objects::{Number, ResourceName, ResourceObject};
 use adr_state::{
     Base, Limits, Portfolio, Resource, check_free, check_new, fresh, is_taken, is_taken_by_another,
     modified_at, number_in, resource_with_id,
 };
 use adr_text::{Moment, ObjectId, Refusal, Rows};
+use adr_view::sees_ven;
 use std::alloc::{AllocError, Global};
 
 /// The number of the resource of that id.

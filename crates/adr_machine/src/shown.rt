@@ -4,11 +4,11 @@ ghost use Rattle.std.specs.Option.{option_copied};
 ghost use Rattle.adr_machine.specs.Shown.{is_of, object_of, object_at, objects_seen, objects_in_sight, object_shown, told};
 
 use crate::answer::{Answer, Object};
-use crate::sight::{Sight, sees};
-use adr_objects::{EventObject, Kind, ProgramObject, Stamps};
+use crate::sight::sees;
+use adr_objects::{EventObject, Kind, ProgramObject, ReportObject, Stamps};
 use adr_state::{Base, State, ViewKey, push_some};
 use adr_text::{Refusal, Table};
-use adr_view::{Content, View, row_at, view_of};
+use adr_view::{Content, Sight, View, row_at, view_of};
 use std::alloc::{AllocError, Global};
 
 /// Whether something of the kind stands at the key.
@@ -21,7 +21,7 @@ fn is_of(kind: Kind, key: &ViewKey) -> bool
     }
 }
 
-/// What is shown at a key, as an object.
+/// What is shown at a key, as an object. A roll-up is none.
 fn object_of(key: &ViewKey, content: &Content, stamps: Stamps) -> Result<Option<Object>, AllocError>
     ensures { IfOk result (λ object. object ≡ object_of key.now content.now stamps) }
 {
@@ -38,6 +38,13 @@ fn object_of(key: &ViewKey, content: &Content, stamps: Stamps) -> Result<Option<
                 resource: *resource,
                 event: event.clone()?,
                 shown: shown.clone()?,
+                stamps,
+            })))
+        }
+        (ViewKey::Report(number), Content::Report(body)) => {
+            Ok(Some(Object::Report(ReportObject {
+                number: *number,
+                body: body.clone()?,
                 stamps,
             })))
         }

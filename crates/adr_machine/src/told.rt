@@ -1,53 +1,71 @@
-//! The answers of what was decided, for whoever carries it out.
-ghost use Rattle.std.specs.Prelude.{◌≡◌, None, Some};
+//! What comes of what was decided, for whoever carries it out.
+ghost use Rattle.std.specs.Prelude.{◌≡◌};
 ghost use Rattle.adr_machine.specs.declared.answer.Answer.TheVariants as answer;
-ghost use Rattle.adr_machine.specs.Edits.{ven_answer, resource_answer, told_by};
+ghost use Rattle.adr_machine.specs.declared.outcome.Outcome.TheVariants as outcome;
+ghost use Rattle.adr_machine.specs.Edits.{ven_outcome, resource_outcome, share_outcome, report_kept, report_gone, told_by};
 
 use crate::answer::{Answer, Object};
-use adr_objects::{ResourceObject, ShareObject, VenObject};
-use adr_state::MirrorKey;
+use crate::outcome::Outcome;
+use adr_objects::{Number, ResourceObject, ShareObject, VenObject};
+use adr_state::{MirrorKey, Report};
 use adr_text::{Refusal, Rows};
 
-/// None yet: the number of changes is the answer.
-pub fn counted<T: Drop>(decided: Result<T, Refusal>) -> Result<Option<Answer>, Refusal>
-    ensures { result ≡ told_by (λ _. None) decided }
+/// The number of changes.
+pub fn counted<T: Drop>(decided: Result<T, Refusal>) -> Result<Outcome, Refusal>
+    ensures { result ≡ told_by (λ _. outcome.Counted) decided }
 {
     let _ = decided?;
-    Ok(None)
+    Ok(Outcome::Counted)
 }
 
 /// That it was done.
-pub fn done(decided: Result<(), Refusal>) -> Result<Option<Answer>, Refusal>
-    ensures { result ≡ told_by (λ _. Some answer.Done) decided }
+pub fn done(decided: Result<(), Refusal>) -> Result<Outcome, Refusal>
+    ensures { result ≡ told_by (λ _. outcome.Told answer.Done) decided }
 {
     decided?;
-    Ok(Some(Answer::Done))
+    Ok(Outcome::Told(Answer::Done))
 }
 
 /// The keys that a scan missed.
-pub fn of_scan(decided: Result<Rows<MirrorKey>, Refusal>) -> Result<Option<Answer>, Refusal>
-    ensures { result ≡ told_by (λ keys. Some (answer.Probes keys)) decided }
+pub fn of_scan(decided: Result<Rows<MirrorKey>, Refusal>) -> Result<Outcome, Refusal>
+    ensures { result ≡ told_by (λ keys. outcome.Told (answer.Probes keys)) decided }
 {
-    Ok(Some(Answer::Probes(decided?)))
+    Ok(Outcome::Told(Answer::Probes(decided?)))
 }
 
 /// The ven.
-pub fn of_ven(decided: Result<VenObject, Refusal>) -> Result<Option<Answer>, Refusal>
-    ensures { result ≡ told_by (λ ven. Some (ven_answer ven)) decided }
+pub fn of_ven(decided: Result<VenObject, Refusal>) -> Result<Outcome, Refusal>
+    ensures { result ≡ told_by ven_outcome decided }
 {
-    Ok(Some(Answer::Object(Object::Ven(decided?))))
+    Ok(Outcome::Told(Answer::Object(Object::Ven(decided?))))
 }
 
 /// The resource.
-pub fn of_resource(decided: Result<ResourceObject, Refusal>) -> Result<Option<Answer>, Refusal>
-    ensures { result ≡ told_by (λ resource. Some (resource_answer resource)) decided }
+pub fn of_resource(decided: Result<ResourceObject, Refusal>) -> Result<Outcome, Refusal>
+    ensures { result ≡ told_by resource_outcome decided }
 {
-    Ok(Some(Answer::Object(Object::Resource(decided?))))
+    Ok(Outcome::Told(Answer::Object(Object::Resource(decided?))))
 }
 
 /// The share, as it was set.
-pub fn of_share(decided: Result<ShareObject, Refusal>) -> Result<Option<Answer>, Refusal>
-    ensures { result ≡ told_by (λ share. Some (answer.Share share)) decided }
+pub fn of_share(decided: Result<ShareObject, Refusal>) -> Result<Outcome, Refusal>
+    ensures { result ≡ told_by share_outcome decided }
 {
-    Ok(Some(Answer::Share(decided?)))
+    Ok(Outcome::Told(Answer::Share(decided?)))
+}
+
+/// The report, as it is kept.
+pub fn of_report(decided: Result<(Number, Report), Refusal>) -> Result<Outcome, Refusal>
+    ensures { result ≡ told_by report_kept decided }
+{
+    let (number, report) = decided?;
+    Ok(Outcome::ReportKept(number, report.body))
+}
+
+/// The report that went.
+pub fn of_report_gone(decided: Result<(Number, Report), Refusal>) -> Result<Outcome, Refusal>
+    ensures { result ≡ told_by report_gone decided }
+{
+    let (number, report) = decided?;
+    Ok(Outcome::ReportGone(number, report.body))
 }

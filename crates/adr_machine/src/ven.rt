@@ -4,19 +4,20 @@ ghost use Rattle.adr_text.specs.declared.refusal.Refusal.TheVariants.{Store};
 ghost use Rattle.adr_text.specs.Refusals.{IsRefusalOf};
 ghost use Rattle.adr_state.specs.Portfolios.{carried_out};
 ghost use Rattle.adr_state.specs.Vens.{ven_with_id, ven_at, ven_object, ven_add, ven_put, ven_remove};
-ghost use Rattle.adr_machine.specs.Listings.{sees_ven, vens_in_sight, vens_reply, ven_reply};
+ghost use Rattle.adr_machine.specs.Listings.{vens_in_sight, vens_reply, ven_reply};
 
 use crate::answer::{Answer, Object};
 use crate::page::page_of;
 use crate::query::Page;
 use crate::role::Role;
-use crate::sight::{Sight, sight_of};
+use crate::sight::sight_of;
 use adr_objects::{Number, VenObject};
 use adr_state::{
     Base, Limits, Portfolio, Ven, check_free, check_new, fresh, is_taken, is_taken_by_another,
     modified_at, number_in,
 };
 use adr_text::{Moment, Name, ObjectId, Refusal, Rows};
+use adr_view::{Sight, sees_ven};
 use std::alloc::{AllocError, Global};
 
 /// The ven of that id, with its number.
@@ -115,16 +116,6 @@ pub(crate) fn ven_remove(portfolio: &mut Portfolio, id: &ObjectId) -> Result<Ven
     let object = ven_object(number, &ven)?;
     portfolio.remove_ven(number);
     Ok(object)
-}
-
-/// Whether the ven, and what is its own, is in sight.
-pub(crate) fn sees_ven(sight: Sight, number: Number) -> bool
-    ensures { result ≡ sees_ven sight number }
-{
-    match sight {
-        Sight::All => true,
-        Sight::Of(ven) => number == ven,
-    }
 }
 
 /// The vens in sight, by number.

@@ -16,7 +16,9 @@ mod view_map;
 pub use all::{event_of, put_reports, put_rollup, view_of};
 pub use changes::{Change, Operation, changes_of, restamped};
 pub use report::{Reported, fits, kept_report};
-pub use rollup::{Reporter, event_body, event_key, reporters, rollup_at, rollup_for, rollup_of};
+pub use rollup::{
+    Reporter, event_body, event_key, mark_at, reporters, rollup_at, rollup_for, rollup_of,
+};
 pub use sight::{Sight, sees_ven};
 pub use view::{Content, View, carries, put_rows, rows_for};
 pub use view_map::row_at;

@@ -303,7 +303,7 @@ pub fn event_body(mark: Option<&Mark>) -> Option<&EventBody>
 }
 
 /// What is known of an upstream key.
-fn mark_at<'m>(mirror: &'m Table<MirrorKey, Mark>, key: &MirrorKey) -> Option<&'m Mark>
+pub fn mark_at<'m>(mirror: &'m Table<MirrorKey, Mark>, key: &MirrorKey) -> Option<&'m Mark>
     ensures { option_copied result ≡ at mirror_cmp key.now mirror.now }
 {
     mirror.get(key)

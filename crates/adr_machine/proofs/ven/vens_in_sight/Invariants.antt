@@ -1,7 +1,8 @@
 use Rattle.std.proofs.Common.{◌≡◌, ◌++◌, map, filter}
 use Rattle.adr_machine.specs.declared.answer.Object.TheVariants as object
 use Rattle.adr_state.specs.Vens.{ven_object}
-use Rattle.adr_machine.specs.Listings.{sees_ven, vens_in_sight}
+use Rattle.adr_view.specs.Sights.{sees_ven}
+use Rattle.adr_machine.specs.Listings.{vens_in_sight}
 use Rattle.adr_machine.proofs.ven.vens_in_sight.Given as goal
 
 -- the vens so far, and those that are left
