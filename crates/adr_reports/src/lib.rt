@@ -5,6 +5,7 @@
 mod on;
 mod posting;
 mod rolled_up;
+mod sight;
 
 pub use posting::{delete, post, put};
 pub use rolled_up::rollup;

@@ -42,8 +42,8 @@ fn resource_with_id<S: Alter>(
     Ok(numbered(number, found))
 }
 
-// The resource whose id the text is, with its number.
-fn resource_named<S: Alter>(
+/// The resource whose id the text is, with its number.
+pub(crate) fn resource_named<S: Alter>(
     alloc: Global,
     tx: &mut Transaction<'_, S>,
     text: &str,

@@ -1,22 +1,24 @@
 //! Reports are posted, replaced and removed.
 ghost use Rattle.std.specs.Prelude.{◌≡◌, [], ◌∷◌, option_map, IfErr};
-ghost use Rattle.adr_text.specs.declared.refusal.Refusal.TheVariants.{NotFound, ResourceNotOfEvent, LimitReached};
+ghost use Rattle.std.specs.Option.{option_copied};
+ghost use Rattle.adr_text.specs.declared.refusal.Refusal.TheVariants.{Forbidden, NotFound, ResourceNotOfEvent, LimitReached};
 ghost use Rattle.adr_state.specs.Names.{is_full};
 ghost use Rattle.adr_state.specs.Portfolios.{with_report};
-ghost use Rattle.adr_view.specs.Reports.{kept_report, report_on, report_with_id, report_post, report_put, report_delete};
+ghost use Rattle.adr_view.specs.Reports.{kept_report, report_on, report_with_id, report_made, report_post, report_put, report_delete};
 ghost use Rattle.adr_sql.specs.Calls.{Stays};
 ghost use Rattle.adr_db.specs.Kept.{with_portfolio};
-ghost use Rattle.adr_db.specs.Calls.{LeavesKept, Finds, IsOfStore};
+ghost use Rattle.adr_db.specs.Calls.{Turns, Finds, IsOfStore};
 ghost use Rattle.adr_db.specs.BaseCalls.{Carries, Refuses};
 ghost use Rattle.adr_portfolio.specs.Refusals.{IsOneOf};
-ghost use Rattle.adr_reports.specs.Decided.{FindsOr, Decides, number_alone, put_again};
+ghost use Rattle.adr_reports.specs.Decided.{FindsOr, Decides, put_again, replaced, removed};
 
 use crate::on::reported;
+use crate::sight::{may_change, may_put, may_report};
 use adr_db::{count_reports, put_report, read_report, remove_report};
 use adr_objects::{Number, ReportIn};
 use adr_state::{Limits, Report, number_in};
 use adr_text::{ObjectId, Refusal};
-use adr_view::{Reported, fits, kept_report};
+use adr_view::{Reported, Sight, fits, kept_report};
 use sqlite::{Alter, Transaction};
 use std::alloc::Global;
 
@@ -52,37 +54,36 @@ fn is_full<S: Alter>(tx: &mut Transaction<'_, S>, limits: &Limits) -> Result<boo
     Ok(limits.reports.get() <= count)
 }
 
-// Puts a report at a number, with its revision.
+// Puts a report at a number, with its revision, and answers it.
 fn put_kept<S: Alter>(
     tx: &mut Transaction<'_, S>,
     number: Number,
     revision: Number,
     on: &Reported,
     report: &ReportIn,
-) -> Result<(), Refusal>
+) -> Result<(Number, Report), Refusal>
     ensures same_reference { tx.new.conn.ghost_name ≡ tx.old.conn.ghost_name }
     ensures stays { Stays S.Store tx.old.conn.now tx.new.conn.now result }
-    ensures leaves { LeavesKept S.Store tx.old.conn.now tx.new.conn.now (with_portfolio (with_report number (kept_report revision on.now report.now))) result }
+    ensures turns { Turns S.Store tx.old.conn.now tx.new.conn.now (with_portfolio (with_report number (kept_report revision on.now report.now))) (λ kept put. put ≡ (number, kept_report revision on.now report.now)) result }
     ensures refused { IfErr result IsOfStore }
 {
     let kept = kept_report(revision, on, report)?;
-    put_report(tx, number, &kept)
+    put_report(tx, number, &kept)?;
+    Ok((number, kept))
 }
 
-/// Posts a report under the number that is handed in, which is its revision too, and answers the number.
-/// Refused with `NotFound` where the shown event isn't there, with `ResourceNotOfEvent` where the report names
-/// another resource or program than the event's, and with `LimitReached`.
-pub fn post<S: Alter>(
+// Posts a report on the event that it names, whoever may.
+fn make<S: Alter>(
     alloc: Global,
     tx: &mut Transaction<'_, S>,
     limits: &Limits,
     number: Number,
     report: &ReportIn,
-) -> Result<Number, Refusal>
+) -> Result<(Number, Report), Refusal>
     ensures same_reference { tx.new.conn.ghost_name ≡ tx.old.conn.ghost_name }
     ensures stays { Stays S.Store tx.old.conn.now tx.new.conn.now result }
-    ensures decides { Decides S.Store tx.old.conn.now tx.new.conn.now (report_post limits.now number report.now) result }
-    ensures refuses { Refuses S.Store tx.old.conn.now tx.new.conn.now (λ kept. report_post limits.now number report.now kept.mirror kept.portfolio) result }
+    ensures decides { Decides S.Store tx.old.conn.now tx.new.conn.now (report_made limits.now number report.now) result }
+    ensures refuses { Refuses S.Store tx.old.conn.now tx.new.conn.now (λ kept. report_made limits.now number report.now kept.mirror kept.portfolio) result }
     ensures refused { IfErr result (IsOneOf (NotFound ∷ ResourceNotOfEvent ∷ LimitReached ∷ [])) }
 {
     let on = report_on(alloc, tx, report)?;
@@ -90,36 +91,60 @@ pub fn post<S: Alter>(
     if full {
         return Err(Refusal::LimitReached);
     }
-    put_kept(tx, number, number, &on, report)?;
-    Ok(number)
+    put_kept(tx, number, number, &on, report)
 }
 
-// The number, where there is a report of it.
-fn number_if(number: Number, found: Option<Report>) -> Option<Number>
-    ensures { result ≡ number_alone (option_map (λ report. (number, report)) found) }
+/// Posts a report under the number that is handed in, which is its revision too, and answers it with the
+/// number. Refused with `Forbidden` where the resource that the event names is there and out of sight, before
+/// all else; with `NotFound` where the shown event isn't there, with `ResourceNotOfEvent` where the report
+/// names another resource or program than the event's, and with `LimitReached`.
+pub fn post<S: Alter>(
+    alloc: Global,
+    tx: &mut Transaction<'_, S>,
+    limits: &Limits,
+    sight: Sight,
+    number: Number,
+    report: &ReportIn,
+) -> Result<(Number, Report), Refusal>
+    ensures same_reference { tx.new.conn.ghost_name ≡ tx.old.conn.ghost_name }
+    ensures stays { Stays S.Store tx.old.conn.now tx.new.conn.now result }
+    ensures decides { Decides S.Store tx.old.conn.now tx.new.conn.now (report_post limits.now sight number report.now) result }
+    ensures refuses { Refuses S.Store tx.old.conn.now tx.new.conn.now (λ kept. report_post limits.now sight number report.now kept.mirror kept.portfolio) result }
+    ensures refused { IfErr result (IsOneOf (Forbidden ∷ NotFound ∷ ResourceNotOfEvent ∷ LimitReached ∷ [])) }
+{
+    let may = may_report(alloc, tx, sight, report)?;
+    if !may {
+        return Err(Refusal::Forbidden);
+    }
+    make(alloc, tx, limits, number, report)
+}
+
+// With its number, where it is there.
+fn numbered(number: Number, found: Option<Report>) -> Option<(Number, Report)>
+    ensures { result ≡ option_map (λ report. (number, report)) found }
 {
     match found {
-        Some(_) => Some(number),
+        Some(report) => Some((number, report)),
         None => None,
     }
 }
 
-/// The number of the report of an id, where it is there.
-fn report_at<S: Alter>(
+/// The report of an id with its number, where it is there.
+fn report_with_id<S: Alter>(
     alloc: Global,
     tx: &mut Transaction<'_, S>,
     id: &ObjectId,
-) -> Result<Option<Number>, Refusal>
+) -> Result<Option<(Number, Report)>, Refusal>
     ensures same_reference { tx.new.conn.ghost_name ≡ tx.old.conn.ghost_name }
     ensures stays { Stays S.Store tx.old.conn.now tx.new.conn.now result }
-    ensures finds { Finds S.Store tx.old.conn.now tx.new.conn.now (λ kept found. found ≡ number_alone (report_with_id id.now kept.portfolio)) result }
+    ensures finds { Finds S.Store tx.old.conn.now tx.new.conn.now (λ kept found. found ≡ report_with_id id.now kept.portfolio) result }
     ensures refused { IfErr result IsOfStore }
 {
     let Some(number) = number_in(b'p', id) else {
         return Ok(None);
     };
     let found = read_report(alloc, tx, number)?;
-    Ok(number_if(number, found))
+    Ok(numbered(number, found))
 }
 
 /// Puts a report in the place of that of a number.
@@ -129,7 +154,7 @@ fn put_at<S: Alter>(
     revision: Number,
     number: Number,
     report: &ReportIn,
-) -> Result<Number, Refusal>
+) -> Result<(Number, Report), Refusal>
     ensures same_reference { tx.new.conn.ghost_name ≡ tx.old.conn.ghost_name }
     ensures stays { Stays S.Store tx.old.conn.now tx.new.conn.now result }
     ensures decides { Decides S.Store tx.old.conn.now tx.new.conn.now (put_again revision number report.now) result }
@@ -137,47 +162,92 @@ fn put_at<S: Alter>(
     ensures refused { IfErr result (IsOneOf (NotFound ∷ ResourceNotOfEvent ∷ [])) }
 {
     let on = report_on(alloc, tx, report)?;
-    put_kept(tx, number, revision, &on, report)?;
-    Ok(number)
+    put_kept(tx, number, revision, &on, report)
+}
+
+// Puts a report in the place of one that was found.
+fn put_found<S: Alter>(
+    alloc: Global,
+    tx: &mut Transaction<'_, S>,
+    sight: Sight,
+    revision: Number,
+    found: Option<&(Number, Report)>,
+    report: &ReportIn,
+) -> Result<(Number, Report), Refusal>
+    ensures same_reference { tx.new.conn.ghost_name ≡ tx.old.conn.ghost_name }
+    ensures stays { Stays S.Store tx.old.conn.now tx.new.conn.now result }
+    ensures decides { Decides S.Store tx.old.conn.now tx.new.conn.now (replaced sight revision (option_copied found.entry) report.now) result }
+    ensures refuses { Refuses S.Store tx.old.conn.now tx.new.conn.now (λ kept. replaced sight revision (option_copied found.entry) report.now kept.mirror kept.portfolio) result }
+    ensures refused { IfErr result (IsOneOf (Forbidden ∷ NotFound ∷ ResourceNotOfEvent ∷ [])) }
+{
+    let may = may_put(alloc, tx, sight, found, report)?;
+    if !may {
+        return Err(Refusal::Forbidden);
+    }
+    let Some(old) = found else {
+        return Err(Refusal::NotFound);
+    };
+    put_at(alloc, tx, revision, old.0, report)
 }
 
 /// Puts a report in the place of that of an id, with the number that is handed in as its revision, and answers
-/// the report's number. It may be on another event. Refused with `NotFound` where the report or the shown
-/// event isn't there, and with `ResourceNotOfEvent` as a new one.
+/// it with its number. It may be on another event. Refused with `Forbidden` where the resource that the
+/// report is on, or the one that the event names, is there and out of sight, before all else; with
+/// `NotFound` where the report or the shown event isn't there, and with `ResourceNotOfEvent` as a new one.
 pub fn put<S: Alter>(
     alloc: Global,
     tx: &mut Transaction<'_, S>,
+    sight: Sight,
     revision: Number,
     id: &ObjectId,
     report: &ReportIn,
-) -> Result<Number, Refusal>
+) -> Result<(Number, Report), Refusal>
     ensures same_reference { tx.new.conn.ghost_name ≡ tx.old.conn.ghost_name }
     ensures stays { Stays S.Store tx.old.conn.now tx.new.conn.now result }
-    ensures decides { Decides S.Store tx.old.conn.now tx.new.conn.now (report_put revision id.now report.now) result }
-    ensures refuses { Refuses S.Store tx.old.conn.now tx.new.conn.now (λ kept. report_put revision id.now report.now kept.mirror kept.portfolio) result }
-    ensures refused { IfErr result (IsOneOf (NotFound ∷ ResourceNotOfEvent ∷ [])) }
+    ensures decides { Decides S.Store tx.old.conn.now tx.new.conn.now (report_put sight revision id.now report.now) result }
+    ensures refuses { Refuses S.Store tx.old.conn.now tx.new.conn.now (λ kept. report_put sight revision id.now report.now kept.mirror kept.portfolio) result }
+    ensures refused { IfErr result (IsOneOf (Forbidden ∷ NotFound ∷ ResourceNotOfEvent ∷ [])) }
 {
-    let Some(number) = report_at(alloc, tx, id)? else {
-        return Err(Refusal::NotFound);
-    };
-    put_at(alloc, tx, revision, number, report)
+    let found = report_with_id(alloc, tx, id)?;
+    put_found(alloc, tx, sight, revision, found.as_ref(), report)
 }
 
-/// Removes the report of an id, and answers its number. Refused with `NotFound` where it isn't there.
+// Removes a report that was found.
+fn remove<S: Alter>(
+    tx: &mut Transaction<'_, S>,
+    found: Option<(Number, Report)>,
+) -> Result<(Number, Report), Refusal>
+    ensures same_reference { tx.new.conn.ghost_name ≡ tx.old.conn.ghost_name }
+    ensures stays { Stays S.Store tx.old.conn.now tx.new.conn.now result }
+    ensures carries { Carries S.Store tx.old.conn.now tx.new.conn.now (removed found) result }
+    ensures refuses { Refuses S.Store tx.old.conn.now tx.new.conn.now (λ kept. removed found kept.portfolio) result }
+    ensures refused { IfErr result (IsOneOf (NotFound ∷ [])) }
+{
+    let Some(old) = found else {
+        return Err(Refusal::NotFound);
+    };
+    remove_report(tx, old.0)?;
+    Ok(old)
+}
+
+/// Removes the report of an id, and answers it with its number. Refused with `Forbidden` where the resource
+/// that it is on is out of sight, and with `NotFound` where it isn't there.
 pub fn delete<S: Alter>(
     alloc: Global,
     tx: &mut Transaction<'_, S>,
+    sight: Sight,
     id: &ObjectId,
-) -> Result<Number, Refusal>
+) -> Result<(Number, Report), Refusal>
     ensures same_reference { tx.new.conn.ghost_name ≡ tx.old.conn.ghost_name }
     ensures stays { Stays S.Store tx.old.conn.now tx.new.conn.now result }
-    ensures carries { Carries S.Store tx.old.conn.now tx.new.conn.now (report_delete id.now) result }
-    ensures refuses { Refuses S.Store tx.old.conn.now tx.new.conn.now (λ kept. report_delete id.now kept.portfolio) result }
-    ensures refused { IfErr result (IsOneOf (NotFound ∷ [])) }
+    ensures carries { Carries S.Store tx.old.conn.now tx.new.conn.now (report_delete sight id.now) result }
+    ensures refuses { Refuses S.Store tx.old.conn.now tx.new.conn.now (λ kept. report_delete sight id.now kept.portfolio) result }
+    ensures refused { IfErr result (IsOneOf (Forbidden ∷ NotFound ∷ [])) }
 {
-    let Some(number) = report_at(alloc, tx, id)? else {
-        return Err(Refusal::NotFound);
-    };
-    remove_report(tx, number)?;
-    Ok(number)
+    let found = report_with_id(alloc, tx, id)?;
+    let may = may_change(alloc, tx, sight, found.as_ref())?;
+    if !may {
+        return Err(Refusal::Forbidden);
+    }
+    remove(tx, found)
 }

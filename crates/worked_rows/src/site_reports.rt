@@ -5,8 +5,9 @@ use adr_db::{create, put_mark};
 use adr_objects::{Kind, Number, Rollup, RollupObject};
 use adr_reports::{delete, post, put, rollup};
 use adr_schema::{read_page, read_report, write_rollup};
-use adr_state::{Limits, key_of, mark_of};
+use adr_state::{Limits, Report, key_of, mark_of};
 use adr_text::{Name, ObjectId, Refusal};
+use adr_view::Sight;
 use sqlite::{Alter, Connection, Transaction};
 use std::alloc::Global;
 
@@ -112,7 +113,7 @@ fn rolled_up<S: Alter>(alloc: Global, tx: &mut Transaction<'_, S>) -> Result<Str
 fn is_told<S: Alter>(
     alloc: Global,
     tx: &mut Transaction<'_, S>,
-    outcome: Result<Number, Refusal>,
+    outcome: Result<(Number, Report), Refusal>,
     told: &str,
 ) -> Result<bool, Refusal> {
     match outcome {
@@ -130,7 +131,7 @@ fn posts<S: Alter>(
     told: &str,
 ) -> Result<bool, Refusal> {
     let report = read_report(alloc, text.as_bytes())?;
-    let outcome = post(alloc, tx, limits, Number::new(number), &report);
+    let outcome = post(alloc, tx, limits, Sight::All, Number::new(number), &report);
     is_told(alloc, tx, outcome, told)
 }
 
@@ -144,7 +145,7 @@ fn puts<S: Alter>(
 ) -> Result<bool, Refusal> {
     let report = read_report(alloc, text.as_bytes())?;
     let id = ObjectId::new(alloc, id)?;
-    let outcome = put(alloc, tx, Number::new(revision), &id, &report);
+    let outcome = put(alloc, tx, Sight::All, Number::new(revision), &id, &report);
     is_told(alloc, tx, outcome, told)
 }
 
@@ -155,7 +156,7 @@ fn deletes<S: Alter>(
     told: &str,
 ) -> Result<bool, Refusal> {
     let id = ObjectId::new(alloc, id)?;
-    let outcome = delete(alloc, tx, &id);
+    let outcome = delete(alloc, tx, Sight::All, &id);
     is_told(alloc, tx, outcome, told)
 }
 
