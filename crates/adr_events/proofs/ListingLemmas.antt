@@ -14,7 +14,7 @@ use Rattle.adr_machine.specs.declared.filter.EventFilter.{EventFilter}
 use Rattle.adr_machine.specs.declared.query.Page.{Page}
 use Rattle.adr_machine.specs.declared.role.Role.{Role}
 use Rattle.adr_machine.specs.declared.role.Role.TheVariants as role
-use Rattle.adr_machine.specs.declared.sight.Sight.{Sight}
+use Rattle.adr_view.specs.declared.sight.Sight.{Sight}
 use Rattle.adr_machine.specs.Filters.{wanted_of}
 use Rattle.adr_machine.specs.Listed.{IsListed}
 use Rattle.adr_machine.specs.Listings.{page_of}

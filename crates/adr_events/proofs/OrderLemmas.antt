@@ -3,7 +3,7 @@ use Rattle.std.proofs.Common.{◌≡◌, ℕ, List, [], ◌∷◌, Ordering, Les
 use Rattle.std.specs.Map.{keys_of}
 use Rattle.adr_db.proofs.Common.{AllByRecursion, Base, IsAscending, State, mirror_cmp, nat_cmp}
 use Rattle.adr_state.specs.declared.keys.ViewKey.{ViewKey}
-use Rattle.adr_db.proofs.Rises.{mirror_rises, resources_rise}
+use Rattle.adr_db.proofs.Rises.{mirror_rises, resources_rise, reports_rise}
 use Rattle.adr_db.specs.Bases.{Beside, kept_beside, HoldsBeside}
 use Rattle.adr_view.proofs.Common.{IsStrictlySortedBy}
 use Rattle.adr_view.proofs.ShownLemmas.{shown_is_of_view}
@@ -28,6 +28,7 @@ module _ (beside : Beside) (base : Base) (s : State) (held : HoldsBeside beside 
   held_in_order = record {
     upstream_keys = keys_in_order mirror_cmp base.mirror (mirror_rises (kept_beside beside base) s held);
     resources = keys_in_order nat_cmp base.portfolio.resources (resources_rise (kept_beside beside base) s held);
+    reports = keys_in_order nat_cmp base.portfolio.reports (reports_rise (kept_beside beside base) s held);
   }
 
   pub is_shown : (id : List ℕ) (rows : List (ViewKey × Content)) → rows ≡ shown_of base id → IsShown id base rows

@@ -1,59 +1,38 @@
 //! All that is shown.
-ghost use Rattle.std.specs.Prelude.{◌≡◌, IfErr};
-ghost use Rattle.std.specs.List.{flat_map};
+ghost use Rattle.std.specs.Prelude.{◌≡◌, IfOk, IfErr};
 ghost use Rattle.adr_sql.specs.Calls.{Stays};
-ghost use Rattle.adr_state.specs.Keys.{view_cmp, with_rows, map_of};
-ghost use Rattle.adr_view.specs.Views.{mark_rows, view};
+ghost use Rattle.adr_state.specs.declared.base.Base.{Base as BaseOf};
+ghost use Rattle.adr_view.specs.Views.{view};
 ghost use Rattle.adr_db.specs.Calls.{IsOfStore};
 ghost use Rattle.adr_db.specs.BaseCalls.{FindsOn};
 
-use crate::mark::mark_rows;
-use adr_db::read_mirror;
-use adr_state::{Mark, MirrorKey};
+use adr_db::{read_mirror, read_portfolio};
+use adr_state::{Base, Mark, MirrorKey, Portfolio, Serial};
 use adr_text::{Refusal, Table};
-use adr_view::{View, put_rows};
+use adr_view::{View, view_of};
 use sqlite::{Alter, Transaction};
-use std::alloc::Global;
+use std::alloc::{AllocError, Global};
 
-// What is shown of one upstream key is put with what is shown of others.
-fn put_mark<S: Alter>(
+// What is shown of a mirror and a portfolio, which are all that it depends on.
+fn view_by(
     alloc: Global,
-    tx: &mut Transaction<'_, S>,
-    key: &MirrorKey,
-    mark: &Mark,
-    all: &mut View,
-) -> Result<(), Refusal>
-    ensures same_reference { tx.new.conn.ghost_name ≡ tx.old.conn.ghost_name }
-    ensures stays { Stays S.Store tx.old.conn.now tx.new.conn.now result }
-    ensures finds { FindsOn S.Store tx.old.conn.now tx.new.conn.now (λ base _. all.new ≡ with_rows view_cmp all.old (mark_rows base (key.now, mark.now))) result }
-    ensures refused { IfErr result IsOfStore }
+    mirror: Table<MirrorKey, Mark>,
+    portfolio: Portfolio,
+) -> Result<View, AllocError>
+    ensures { IfOk result (λ all. (base : BaseOf) → base.mirror ≡ mirror → base.portfolio ≡ portfolio → all ≡ view base) }
 {
-    let rows = mark_rows(alloc, tx, key, mark)?;
-    put_rows(all, rows)?;
-    Ok(())
+    let base = Base {
+        mirror,
+        scan: None,
+        portfolio,
+        serial: Serial::new(),
+    };
+    view_of(alloc, &base)
 }
 
-/// What is shown of a mirror, one upstream key after another.
-fn put_each<S: Alter>(
-    alloc: Global,
-    tx: &mut Transaction<'_, S>,
-    mirror: &Table<MirrorKey, Mark>,
-) -> Result<View, Refusal>
-    ensures same_reference { tx.new.conn.ghost_name ≡ tx.old.conn.ghost_name }
-    ensures stays { Stays S.Store tx.old.conn.now tx.new.conn.now result }
-    ensures finds { FindsOn S.Store tx.old.conn.now tx.new.conn.now (λ base all. all ≡ map_of view_cmp (flat_map (mark_rows base) mirror.now)) result }
-    ensures refused { IfErr result IsOfStore }
-{
-    let mut all = Table::new(alloc);
-    'marks: for (key, mark) in mirror.iter() {
-        put_mark(alloc, tx, key, mark, &mut all)?;
-    }
-    Ok(all)
-}
-
-/// All that is shown, in the order of the keys: each live program with its name, and what those who take part are
-/// shown of each live event. The mirror is read once, and for each live event with a setpoint those who share in
-/// its program.
+/// All that is shown, in the order of the keys: each live program with its name; what those who take part are
+/// shown of each live event; each report; and the roll-up of each event of which usage was reported. The mirror
+/// and the portfolio, with all reports, are read once.
 pub fn view<S: Alter>(alloc: Global, tx: &mut Transaction<'_, S>) -> Result<View, Refusal>
     ensures same_reference { tx.new.conn.ghost_name ≡ tx.old.conn.ghost_name }
     ensures stays { Stays S.Store tx.old.conn.now tx.new.conn.now result }
@@ -61,5 +40,6 @@ pub fn view<S: Alter>(alloc: Global, tx: &mut Transaction<'_, S>) -> Result<View
     ensures refused { IfErr result IsOfStore }
 {
     let mirror = read_mirror(alloc, tx)?;
-    put_each(alloc, tx, &mirror)
+    let portfolio = read_portfolio(alloc, tx)?;
+    Ok(view_by(alloc, mirror, portfolio)?)
 }
