@@ -7,12 +7,21 @@ use Rattle.adr_state.specs.declared.portfolio.Portfolio.{Portfolio}
 use Rattle.adr_state.specs.declared.state.State.{State}
 use Rattle.sqlite.specs.State as sql
 use Rattle.adr_db.specs.declared.meta.Meta.{Meta}
-use Rattle.adr_db.specs.Bases.{beside_of, meta_of, kept_beside, HoldsBeside}
+use Rattle.adr_db.specs.Bases.{Beside, beside_of, meta_of, kept_beside, HoldsBeside}
 use Rattle.adr_db.specs.BaseCalls.{Carries, Makes, Refuses, RefusesOn}
 use Rattle.adr_db.specs.Calls.{IsOfStore}
-use Rattle.adr_machine.specs.declared.answer.Answer.{Answer}
+use Rattle.adr_machine.specs.declared.outcome.Outcome.{Outcome}
+use Rattle.adr_machine.specs.declared.outcome.Outcome.TheVariants as outcome
 use Rattle.adr_mirror.specs.Missed.{closing}
 use Rattle.adr_portfolio.proofs.Decisions.{refused_so}
+use Rattle.sqlite.specs.State.{HasCleanDisk}
+use Rattle.adr_db.specs.Images.{image_kept}
+use Rattle.adr_reports.specs.Decided.{Decides}
+use Rattle.adr_state.specs.declared.base.Mark.{Mark}
+use Rattle.adr_view.specs.declared.sight.Sight.{Sight}
+use Rattle.adr_machine.specs.declared.role.Role.{Role}
+use Rattle.adr_machine.specs.declared.role.Role.TheVariants as role
+use Rattle.adr_machine.specs.Roles.{sight_of}
 use Rattle.adr_machine.specs.declared.answer.Answer.TheVariants as answer
 use Rattle.adr_state.specs.Serials.{drawn}
 use Rattle.adr_machine.specs.Edits.{draws_number, Decision, counted, answered, of_portfolio, decided, told_by, numbered, edit_of}
@@ -42,25 +51,25 @@ of_store e r (inr is) = subst (λ (d : Refusal). IsRefusalOf d r) (sym is) tt
 
 module _ {S : Type 0} (g : Ghosts S) (old new : Held S) where
   -- a decision of the portfolio
-  pub portfolio_carries : {A : Type 0} (told : A → Answer) (decide : Portfolio → Result (A × PortfolioChange) Refusal) (meta : Meta) (r : Result A Refusal)
-      → Carries g old new decide r → Refuses g old new (λ kept. decide kept.portfolio) r → CarriesOut g old new (λ base. of_portfolio told (decide base.portfolio)) meta meta (told_by (λ x. Some (told x)) r)
-  portfolio_carries told decide meta (Ok x) carries refuses = record {
+  pub portfolio_carries : {A : Type 0} (comes : A → Outcome) (decide : Portfolio → Result (A × PortfolioChange) Refusal) (meta : Meta) (r : Result A Refusal)
+      → Carries g old new decide r → Refuses g old new (λ kept. decide kept.portfolio) r → CarriesOut g old new (λ base. of_portfolio comes (decide base.portfolio)) meta meta (told_by comes r)
+  portfolio_carries comes decide meta (Ok x) carries refuses = record {
     decides = λ clean beside base was same. let it = carries clean (kept_beside beside base) was in record {
       change = ChangePortfolio it.change;
-      decided = ap (of_portfolio told) it.decided;
+      decided = ap (of_portfolio comes) it.decided;
       holds = it.keeps;
       counted = same;
     };
     refuses = λ clean. tt;
   }
-  portfolio_carries told decide meta (Err e) carries refuses = record {
+  portfolio_carries comes decide meta (Err e) carries refuses = record {
     decides = λ clean. tt;
     refuses = λ clean beside base was same. then_refused e (decide base.portfolio) _ (refuses clean (kept_beside beside base) was);
   }
 
   -- one whose change is decided by itself, and whose answer follows
-  module _ {A : Type 0} (tell : A → Option Answer) (part : Base → Result BaseChange Refusal) (whole : Base → Result Decision Refusal) (before after : Meta) (IsRight : Base → Base → A → Type 0)
-      (follows : (base : Base) (change : BaseChange) (x : A) → part base ≡ Ok change → IsRight base (changed change base) x → whole base ≡ Ok (record { answer = tell x; change = change }))
+  module _ {A : Type 0} (tell : A → Outcome) (part : Base → Result BaseChange Refusal) (whole : Base → Result Decision Refusal) (before after : Meta) (IsRight : Base → Base → A → Type 0)
+      (follows : (base : Base) (change : BaseChange) (x : A) → part base ≡ Ok change → IsRight base (changed change base) x → whole base ≡ Ok (record { outcome = tell x; change = change }))
       (refused : (base : Base) (e : Refusal) → IsRefusalOf e (part base) → IsRefusalOf e (whole base)) where
     base_carries : (r : Result A Refusal) → Makes g old new part before after IsRight r → RefusesOn g old new part before r → CarriesOut g old new whole before after (told_by tell r)
     base_carries (Ok x) makes refuses = record {
@@ -76,26 +85,67 @@ module _ {S : Type 0} (g : Ghosts S) (old new : Held S) where
 
   -- the number of changes is the answer
   pub counted_carries : {A : Type 0} (decide : Base → Result BaseChange Refusal) (before after : Meta) (IsRight : Base → Base → A → Type 0) (r : Result A Refusal) → Makes g old new decide before after IsRight r → RefusesOn g old new decide before r
-      → CarriesOut g old new (λ base. decide base >>= λ change. Ok (counted change)) before after (told_by (λ x. None) r)
+      → CarriesOut g old new (λ base. decide base >>= λ change. Ok (counted change)) before after (told_by (λ x. outcome.Counted) r)
   counted_carries decide before after IsRight =
-      base_carries (λ x. None) decide _ before after IsRight (λ base change x is right. ap (λ (r : Result BaseChange Refusal). r >>= λ change. Ok (counted change)) is) (λ base e h. then_refused e (decide base) _ h)
+      base_carries (λ x. outcome.Counted) decide _ before after IsRight (λ base change x is right. ap (λ (r : Result BaseChange Refusal). r >>= λ change. Ok (counted change)) is) (λ base e h. then_refused e (decide base) _ h)
 
   -- a scan is opened
   pub begun_carries : (before after : Meta) (r : Result Unit Refusal) → Makes g old new (λ base. Ok scan_begin) before after (λ base made x. Unit {0}) r → IfErr r IsOfStore
-      → CarriesOut g old new (λ base. Ok (answered answer.Done scan_begin)) before after (told_by (λ x. Some answer.Done) r)
+      → CarriesOut g old new (λ base. Ok (answered answer.Done scan_begin)) before after (told_by (λ x. outcome.Told answer.Done) r)
   begun_carries before after r makes refused =
-      base_carries (λ x. Some answer.Done) (λ base. Ok scan_begin) _ before after _ (λ base change x is right. ap (λ (r : Result BaseChange Refusal). r >>= λ change. Ok (answered answer.Done change)) is)
+      base_carries (λ x. outcome.Told answer.Done) (λ base. Ok scan_begin) _ before after _ (λ base change x is right. ap (λ (r : Result BaseChange Refusal). r >>= λ change. Ok (answered answer.Done change)) is)
       (λ base e h. then_refused e (Ok scan_begin) (λ change. Ok (answered answer.Done change)) h) r makes (λ clean. IfErr-weaker r IsOfStore _ (λ e h beside base was same. of_store e _ h) refused)
 
   -- a scan is closed
   pub ended_carries : (before after : Meta) (r : Result (List MirrorKey) Refusal) → Makes g old new closing before after (λ base made keys. scan_end base ≡ Ok (keys, SetScan None)) r → RefusesOn g old new closing before r
-      → CarriesOut g old new (λ base. scan_end base >>= λ d. Ok (answered (answer.Probes d.0) d.1)) before after (told_by (λ keys. Some (answer.Probes keys)) r)
+      → CarriesOut g old new (λ base. scan_end base >>= λ d. Ok (answered (answer.Probes d.0) d.1)) before after (told_by (λ keys. outcome.Told (answer.Probes keys)) r)
   ended_carries before after =
-      base_carries (λ keys. Some (answer.Probes keys)) closing _ before after _ (λ base change keys is right.
+      base_carries (λ keys. outcome.Told (answer.Probes keys)) closing _ before after _ (λ base change keys is right.
       let two : ◌≡◌ {A = Result BaseChange Refusal} (Ok (SetScan None)) (Ok change) = sym (ap (λ (r : Result (List MirrorKey × BaseChange) Refusal). r >>= λ d. Ok d.1) right) ∙ is in
       let same : SetScan None ≡ change = cc two in
       ap (λ (r : Result (List MirrorKey × BaseChange) Refusal). r >>= λ d. Ok (answered (answer.Probes d.0) d.1)) right ∙ ap (λ (change : BaseChange). Ok (answered (answer.Probes keys) change)) same)
       (λ base e h. told_refused e (scan_end base) (λ d. d.1) (λ d. answered (answer.Probes d.0) d.1) h)
+
+-- a decision on reports, by who sees this much
+module _ {S : Type 0} (g : Ghosts S) (old mid new : Held S) {A : Type 0} (comes : A → Outcome) (decide : Sight → List (MirrorKey × Mark) → Portfolio → Result (A × PortfolioChange) Refusal) (role : Role) where
+  abbrev whole : Base → Result Decision Refusal
+  whole base = sight_of base role >>= λ sight. of_portfolio comes (decide sight base.mirror base.portfolio)
+
+  -- of the base nothing is looked at but its vens
+  sight_kept : (r : Role) (beside : Beside) (base : Base) → sight_of (image_kept (kept_beside beside base)).base r ≡ sight_of base r
+  sight_kept role.Operator beside base = refl
+  sight_kept (role.Ven id) beside base = refl
+  sight_kept role.Utility beside base = refl
+
+  pub sight_carries : (sight : Sight) (meta : Meta) (r : Result A Refusal) → (HasCleanDisk (state g new) → HasCleanDisk (state g mid))
+      → (HasCleanDisk (state g mid) → (kept : Kept) → Keeps kept (state g old) → (sight_of (image_kept kept).base role ≡ Ok sight) × Keeps kept (state g mid))
+      → Decides g mid new (decide sight) r → Refuses g mid new (λ kept. decide sight kept.mirror kept.portfolio) r → CarriesOut g old new whole meta meta (told_by comes r)
+  sight_carries sight meta (Ok x) early sees decides refuses = record {
+    decides = λ clean beside base was same.
+        let seen = sees (early clean) (kept_beside beside base) was in
+        let it = decides clean (kept_beside beside base) seen.1 in
+        record {
+          change = ChangePortfolio it.change;
+          decided = ap (λ (s : Result Sight Refusal). s >>= λ sight. of_portfolio comes (decide sight base.mirror base.portfolio)) (sym (sight_kept role beside base) ∙ seen.0) ∙ ap (of_portfolio comes) it.decided;
+          holds = it.keeps;
+          counted = same;
+        };
+    refuses = λ clean. tt;
+  }
+  sight_carries sight meta (Err e) early sees decides refuses = record {
+    decides = λ clean. tt;
+    refuses = λ clean beside base was same.
+        let seen = sees (early clean) (kept_beside beside base) was in
+        subst (λ (s : Result Sight Refusal). IsRefusalOf e (s >>= λ sight. of_portfolio comes (decide sight base.mirror base.portfolio))) (sym (sym (sight_kept role beside base) ∙ seen.0))
+        (then_refused e (decide sight base.mirror base.portfolio) _ (refuses clean (kept_beside beside base) seen.1));
+  }
+
+  -- who sees nothing is refused
+  pub unseen_carries : (meta : Meta) (e : Refusal) (r : Result Outcome Refusal) → r ≡ Err e → (HasCleanDisk (state g new) → (kept : Kept) → Keeps kept (state g old) → IsRefusalOf e (sight_of (image_kept kept).base role)) → CarriesOut g old new whole meta meta r
+  unseen_carries meta e r is refuses = subst (CarriesOut g old new whole meta meta) (sym is) (record {
+    decides = λ clean. tt;
+    refuses = λ clean beside base was same. then_refused e (sight_of base role) _ (subst (IsRefusalOf e) (sight_kept role beside base) (refuses clean (kept_beside beside base) was));
+  })
 
 -- no change draws a number
 pub serial_stays : (change : BaseChange) (base : Base) → (changed change base).serial ≡ base.serial
@@ -111,7 +161,7 @@ module _ (limits : Limits) (now : ℕ) (command : Command) (held : State) (n : �
   pub decision_refused : (e : Refusal) → IsRefusalOf e (decided limits now n base command) → IsRefusalOf e (edit_of limits now base command)
   decision_refused e h = then_refused e (decided limits now (base.serial + 1) base command) (numbered limits (draws_number command) base) (subst (λ (m : ℕ). IsRefusalOf e (decided limits now m base command)) next h)
 
-  module _ (meta : Meta) (said : Option Answer) (s : sql.State) (it : IsDecided (λ base. decided limits now n base command) (beside_of held) base meta said s) where
+  module _ (meta : Meta) (said : Outcome) (s : sql.State) (it : IsDecided (λ base. decided limits now n base command) (beside_of held) base meta said s) where
     -- the edit, when it is known what is drawn
     drawn_is : (r : Result ℕ Refusal) → drawn limits meta.serial (draws_number command) ≡ r → edit_of limits now base command ≡ (r >>= λ serial. Ok (said, record (changed it.change base) { serial = serial }))
     drawn_is r is =

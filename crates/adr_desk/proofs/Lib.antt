@@ -4,6 +4,7 @@ pub mod Applied
 pub mod Created
 pub mod DecisionLemmas
 pub mod ListedLemmas
+pub mod AnswerLemmas
 pub mod StampLemmas
 pub mod StepLemmas
 pub mod ReplyLemmas

@@ -18,6 +18,10 @@ module _ (these : List Refusal) where
   contained_listed Store h = tt
   contained_listed e h = h
 
+  pub contained_all : {A : Type 0} (r : Result A Refusal) → IfErr r (Contains these) → IfErr r Listed
+  contained_all (Ok x) h = tt
+  contained_all (Err e) h = contained_listed e h
+
   pub store_listed : (e : Refusal) → IsOfStore e → Listed e
   store_listed e (inl is) = subst Listed (sym is) tt
   store_listed e (inr is) = subst Listed (sym is) tt

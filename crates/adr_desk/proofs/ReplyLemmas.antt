@@ -8,7 +8,7 @@ use Rattle.adr_db.proofs.ReadBack.{image_again}
 use Rattle.adr_machine.specs.declared.answer.Answer.{Answer}
 use Rattle.adr_machine.specs.declared.answer.Answer.TheVariants as answer
 use Rattle.adr_machine.specs.declared.query.Query.{Query}
-use Rattle.adr_machine.specs.declared.query.Query.TheVariants.{Programs, Program, Events, Event, Vens, Ven, Resources, Resource, Shares, Probes}
+use Rattle.adr_machine.specs.declared.query.Query.TheVariants.{Programs, Program, Events, Event, Vens, Ven, Resources, Resource, Shares, Reports, Report, Rollup, Probes}
 use Rattle.adr_machine.specs.Steps.{reply, probes_reply}
 use Rattle.adr_mirror.specs.Missed.{missed}
 use Rattle.adr_desk.specs.Asks.{state_for}
@@ -25,6 +25,9 @@ reply_for (Ven role id) held = refl
 reply_for (Resources role ven page) held = refl
 reply_for (Resource role ven id) held = refl
 reply_for (Shares role program) held = refl
+reply_for (Reports role filter page) held = ap (λ (s : State). reply s (Reports role filter page)) (image_again held)
+reply_for (Report role id) held = ap (λ (s : State). reply s (Report role id)) (image_again held)
+reply_for (Rollup role event) held = ap (λ (s : State). reply s (Rollup role event)) (image_again held)
 reply_for (Probes limit) held = ap (λ (s : State). reply s (Probes limit)) (image_again held)
 
 -- the first keys that an open scan missed are told so

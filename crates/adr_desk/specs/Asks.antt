@@ -6,20 +6,16 @@ use Rattle.adr_state.specs.States.{empty}
 use Rattle.adr_db.specs.Kept.{Kept}
 use Rattle.adr_db.specs.Images.{image_kept}
 use Rattle.adr_machine.specs.declared.query.Query.{Query}
-use Rattle.adr_machine.specs.declared.query.Query.TheVariants.{Programs, Program, Events, Event, Vens, Ven, Resources, Resource, Shares, Probes}
+use Rattle.adr_machine.specs.declared.query.Query.TheVariants.{Vens, Ven, Resources, Resource, Shares}
 
 -- whether the reply is that of the vens, resources and shares alone
 abbrev pub asks_portfolio : Query → Bool
-asks_portfolio (Programs role page) = false
-asks_portfolio (Program role id) = false
-asks_portfolio (Events role filter page) = false
-asks_portfolio (Event role id) = false
 asks_portfolio (Vens role page) = true
 asks_portfolio (Ven role id) = true
 asks_portfolio (Resources role ven page) = true
 asks_portfolio (Resource role ven id) = true
 asks_portfolio (Shares role program) = true
-asks_portfolio (Probes limit) = false
+asks_portfolio _ = false
 
 -- a state of which nothing but the portfolio is known
 abbrev pub portfolio_alone : Portfolio → State

@@ -1,32 +1,42 @@
 -- What a command decides, carried out on the tables.
-use Rattle.std.specs.Prelude.{◌≡◌, Option, Result, Ok, IfOk}
+use Rattle.std.specs.Prelude.{◌≡◌, ℕ, List, Result, Ok, IfOk, IfErr}
+use Rattle.std.specs.List.{Contains}
 use Rattle.sqlite.specs.Store.{Ghosts}
 use Rattle.sqlite.specs.Held.{Held, state}
 use Rattle.sqlite.specs.State.{State, HasCleanDisk}
 use Rattle.adr_text.specs.declared.refusal.Refusal.{Refusal}
+use Rattle.adr_objects.specs.declared.shown.Stamps.{Stamps}
 use Rattle.adr_state.specs.declared.base.Base.{Base}
+use Rattle.adr_state.specs.declared.keys.ViewKey.{ViewKey}
 use Rattle.adr_state.specs.BaseChanges.{BaseChange, changed}
 use Rattle.adr_db.specs.declared.meta.Meta.{Meta}
 use Rattle.adr_db.specs.Bases.{Beside, meta_of, HoldsBeside}
 use Rattle.adr_db.specs.BaseCalls.{RefusesOn}
-use Rattle.adr_machine.specs.declared.answer.Answer.{Answer}
+use Rattle.adr_machine.specs.declared.command.Command.{Command}
+use Rattle.adr_machine.specs.declared.outcome.Outcome.{Outcome}
+use Rattle.adr_machine.specs.Listed.{listed}
+use Rattle.adr_machine.specs.Steps.{answered_by}
 use Rattle.adr_machine.specs.Edits.{Decision}
 
--- what is decided of a base is this answer with a change, which is carried out: the tables hold the base after it, beside the numbers and stamps
+-- what is decided of a base is that this comes of it, with a change, which is carried out: the tables hold the base after it, beside the numbers and stamps
 -- that they had, and the caller's numbers are those of that base
-pub record IsDecided (decide : Base → Result Decision Refusal) (beside : Beside) (base : Base) (after : Meta) (said : Option Answer) (s : State) : Type 0 where
+pub record IsDecided (decide : Base → Result Decision Refusal) (beside : Beside) (base : Base) (after : Meta) (said : Outcome) (s : State) : Type 0 where
   pub change : BaseChange
-  pub decided : decide base ≡ Ok (record { answer = said; change = change })
+  pub decided : decide base ≡ Ok (record { outcome = said; change = change })
   pub holds : HoldsBeside beside (changed change base) s
   pub counted : after ≡ meta_of (changed change base)
 
 module _ {S : Type 0} (g : Ghosts S) (old new : Held S) where
   -- after Ok, what is decided of each base that the tables held is carried out, where the caller's numbers were those of the base
-  abbrev pub Decides : (Base → Result Decision Refusal) → Meta → Meta → Result (Option Answer) Refusal → Type 0
+  abbrev pub Decides : (Base → Result Decision Refusal) → Meta → Meta → Result Outcome Refusal → Type 0
   Decides decide before after result =
       HasCleanDisk (state g new) → IfOk result (λ said. (beside : Beside) (base : Base) → HoldsBeside beside base (state g old) → before ≡ meta_of base → IsDecided decide beside base after said (state g new))
 
   -- so it is, and a refusal is that of the decision
-  pub record CarriesOut (decide : Base → Result Decision Refusal) (before after : Meta) (result : Result (Option Answer) Refusal) : Type 0 where
+  pub record CarriesOut (decide : Base → Result Decision Refusal) (before after : Meta) (result : Result Outcome Refusal) : Type 0 where
     pub decides : Decides decide before after result
     pub refuses : RefusesOn g old new decide before result
+
+-- what comes of a command is answered, whatever the stamps, or refused as is listed for it
+abbrev pub IsAnswered : Command → Outcome → Type 0
+IsAnswered command comes = (before : List (ViewKey × Stamps)) (after : ℕ × List (ViewKey × Stamps)) → IfErr (answered_by comes before after) (Contains (listed command))

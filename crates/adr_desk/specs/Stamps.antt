@@ -1,5 +1,5 @@
 -- The stamps that are kept, as the changes of a view leave them.
-use Rattle.std.specs.Prelude.{ℕ, Bool, false, ◌&&◌, ◌==◌, List, fold, Option, None, Some, is_some, if◌then◌else◌}
+use Rattle.std.specs.Prelude.{ℕ, Bool, false, ◌&&◌, ◌==◌, List, length, fold, Option, None, Some, is_some, if◌then◌else◌}
 use Rattle.std.specs.BTreeMap.{insert_entry, is_at}
 use Rattle.std.specs.Map.{remove_entry}
 use Rattle.adr_objects.specs.declared.shown.Stamps.{Stamps}
@@ -7,7 +7,8 @@ use Rattle.adr_state.specs.declared.keys.ViewKey.{ViewKey}
 use Rattle.adr_state.specs.Keys.{view_cmp, at}
 use Rattle.adr_db.specs.Kept.{Kept}
 use Rattle.adr_view.specs.declared.view.Content.{Content}
-use Rattle.adr_view.specs.Changes.{restamped}
+use Rattle.adr_view.specs.Changes.{changes, restamped}
+use Rattle.adr_desk.specs.declared.stamps.Turned.{Turned}
 
 -- a map of stamps, of which those of one key go where the key has none in the map after
 abbrev pub left_at : List (ViewKey × Stamps) → List (ViewKey × Stamps) → ViewKey → List (ViewKey × Stamps)
@@ -36,3 +37,7 @@ stamped change kept = record kept { stamps = change kept.stamps }
 -- what is kept, with the stamps after a change from one view to another
 abbrev pub with_restamped : List (ViewKey × Content) → List (ViewKey × Content) → ℕ → Kept → Kept
 with_restamped before after now = stamped (λ stamps. restamped stamps before after now)
+
+-- the stamps before and after it, and how many keys change
+abbrev pub turned_by : List (ViewKey × Stamps) → List (ViewKey × Content) → List (ViewKey × Content) → ℕ → Turned
+turned_by stamps before after now = record { before = stamps; count = length (changes before after); after = restamped stamps before after now }

@@ -1,5 +1,5 @@
 -- What a command makes of the tables, what is answered to it, and what a query is told.
-use Rattle.std.specs.Prelude.{◌≡◌, ℕ, Option, Result, Ok, IfOk, IfErr}
+use Rattle.std.specs.Prelude.{◌≡◌, ℕ, Result, Ok, IfOk, IfErr}
 use Rattle.sqlite.specs.Tree.{Trees}
 use Rattle.sqlite.specs.State.{HasCleanDisk}
 use Rattle.sqlite.specs.State as sql
@@ -11,6 +11,7 @@ use Rattle.adr_state.specs.declared.limits.Limits.{Limits}
 use Rattle.adr_db.specs.Bases.{HoldsState, AreLeftWith}
 use Rattle.adr_machine.specs.declared.answer.Answer.{Answer}
 use Rattle.adr_machine.specs.declared.command.Command.{Command}
+use Rattle.adr_machine.specs.declared.outcome.Outcome.{Outcome}
 use Rattle.adr_machine.specs.Edits.{edit}
 use Rattle.adr_machine.specs.Steps.{committed}
 
@@ -20,21 +21,21 @@ use Rattle.adr_machine.specs.Steps.{committed}
 abbrev pub with_base : Base → State → State
 with_base base held = record held { base = base }
 
--- the edit of the base that the tables held answers this, and they hold the base that it makes, with the same stamps
-pub record IsEdited (edit : Base → Result (Option Answer × Base) Refusal) (held : State) (said : Option Answer) (s : sql.State) : Type 0 where
+-- of the edit of the base that the tables held comes this, and they hold the base that it makes, with the same stamps
+pub record IsEdited (edit : Base → Result (Outcome × Base) Refusal) (held : State) (said : Outcome) (s : sql.State) : Type 0 where
   pub after : Base
   pub edited : edit held.base ≡ Ok (said, after)
   pub holds : HoldsState (with_base after held) s
 
 -- after Ok, the tables hold what the edit makes of the base of each state that they held
-abbrev pub EditsTables : (Base → Result (Option Answer × Base) Refusal) → sql.State → sql.State → Result (Option Answer) Refusal → Type 0
+abbrev pub EditsTables : (Base → Result (Outcome × Base) Refusal) → sql.State → sql.State → Result Outcome Refusal → Type 0
 EditsTables edit old new result = HasCleanDisk new → IfOk result (λ said. (held : State) → HoldsState held old → IsEdited edit held said new)
 
 -- ---- a step
 
 -- the step that an edit makes: then comes its commit
-abbrev pub step_of : (Base → Result (Option Answer × Base) Refusal) → ℕ → State → Result (Answer × State) Refusal
-step_of edit now held = edit held.base >>= λ e. Ok (committed held now e.0 e.1)
+abbrev pub step_of : (Base → Result (Outcome × Base) Refusal) → ℕ → State → Result (Answer × State) Refusal
+step_of edit now held = edit held.base >>= λ e. committed held now e.0 e.1
 
 -- the machine's step under these limits, which are all that it asks of its settings
 abbrev pub step_by : Limits → ℕ → Command → State → Result (Answer × State) Refusal

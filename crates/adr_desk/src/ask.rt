@@ -13,10 +13,11 @@ ghost use Rattle.adr_desk.specs.Transactions.{IsDropped};
 use crate::frame::begin;
 use adr_db::{read_meta, read_portfolio, read_state};
 use adr_events::page;
-use adr_machine::{Answer, EventFilter, Page, Query, Role, reply};
+use adr_machine::{Answer, EventFilter, Page, Query, Role, is_operator, reply, rollup_told};
 use adr_mirror::probes;
+use adr_reports::rollup;
 use adr_state::State;
-use adr_text::Refusal;
+use adr_text::{ObjectId, Refusal};
 use sqlite::{Alter, Connection, Transaction};
 use std::alloc::Global;
 
@@ -102,6 +103,27 @@ fn missed<S: Alter>(
     Ok(Answer::Probes(probes(alloc, tx, &meta, Some(limit))?))
 }
 
+/// The roll-up of an upstream event, by the reports on it alone; `Forbidden` for another role than the operator,
+/// and `NotFound` where there is none.
+fn rolled_up<S: Alter>(
+    alloc: Global,
+    tx: &mut Transaction<'_, S>,
+    role: &Role,
+    event: &ObjectId,
+) -> Result<Answer, Refusal>
+    ensures same_reference { tx.new.conn.ghost_name ≡ tx.old.conn.ghost_name }
+    ensures stays { Stays S.Store tx.old.conn.now tx.new.conn.now result }
+    ensures tells { TellsTables (λ held. reply held (query.Rollup role.now event.now)) (state S.Store tx.old.conn.now) (state S.Store tx.new.conn.now) result }
+    ensures refuses { RefusesAs (λ held. reply held (query.Rollup role.now event.now)) (state S.Store tx.old.conn.now) (state S.Store tx.new.conn.now) result }
+    ensures listed { IfErr result (IsListed (Unit {0}) (listed_for (query.Rollup role.now event.now))) }
+{
+    if !is_operator(role) {
+        return Err(Refusal::Forbidden);
+    }
+    let found = rollup(alloc, tx, event)?;
+    rollup_told(event.clone()?, found)
+}
+
 /// The reply to a query, on a lent transaction.
 fn asked<S: Alter>(
     alloc: Global,
@@ -116,6 +138,7 @@ fn asked<S: Alter>(
 {
     match query {
         Query::Events { role, filter, page } => events(alloc, tx, role, filter, *page),
+        Query::Rollup { role, event } => rolled_up(alloc, tx, role, event),
         Query::Probes { limit } => missed(alloc, tx, *limit),
         _ => replied(alloc, tx, query),
     }

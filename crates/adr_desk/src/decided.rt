@@ -1,13 +1,14 @@
 //! What a command decides, carried out on the tables, on a lent transaction.
-ghost use Rattle.std.specs.Prelude.{◌≡◌, IfErr};
+ghost use Rattle.std.specs.Prelude.{◌≡◌, IfOk, IfErr};
 ghost use Rattle.adr_sql.specs.Calls.{Stays};
 ghost use Rattle.adr_machine.specs.Edits.{decided};
 ghost use Rattle.adr_machine.specs.Listed.{listed, IsListed};
-ghost use Rattle.adr_desk.specs.Decisions.{CarriesOut};
+ghost use Rattle.adr_desk.specs.Decisions.{CarriesOut, IsAnswered};
 
+use crate::reports::{report_delete, report_post, report_put};
 use adr_db::Meta;
 use adr_machine::told::{counted, done, of_resource, of_scan, of_share, of_ven};
-use adr_machine::{Answer, Command};
+use adr_machine::{Command, Outcome};
 use adr_mirror::{gone, put_evidence, scan_begin, scan_end};
 use adr_objects::Number;
 use adr_portfolio::{
@@ -18,8 +19,7 @@ use adr_text::{Moment, Refusal};
 use sqlite::{Alter, Transaction};
 use std::alloc::Global;
 
-/// What the command decides, where that is the next number: the answer, or none where it is the number of
-/// changes. The numbers of the node are handed in, and are left as they have to be put; a number that is drawn
+/// What the command decides, where that is the next number, and what comes of it. The numbers of the node are handed in, and are left as they have to be put; a number that is drawn
 /// is not drawn yet.
 pub(crate) fn carry_out<S: Alter>(
     alloc: Global,
@@ -29,10 +29,11 @@ pub(crate) fn carry_out<S: Alter>(
     number: Number,
     meta: &mut Meta,
     command: &Command,
-) -> Result<Option<Answer>, Refusal>
+) -> Result<Outcome, Refusal>
     ensures same_reference { tx.new.conn.ghost_name ≡ tx.old.conn.ghost_name }
     ensures stays { Stays S.Store tx.old.conn.now tx.new.conn.now result }
     ensures carries { CarriesOut S.Store tx.old.conn.now tx.new.conn.now (λ base. decided limits.now now number base command.now) meta.old meta.new result }
+    ensures answered { IfOk result (IsAnswered command.now) }
     ensures listed { IfErr result (IsListed (Unit {0}) (listed command.now)) }
 {
     match command {
@@ -70,5 +71,10 @@ pub(crate) fn carry_out<S: Alter>(
             share,
             ..
         } => of_share(share_set(alloc, tx, limits, program, resource, share.share)),
+        Command::ReportPost { role, report } => {
+            report_post(alloc, tx, limits, number, role, report)
+        }
+        Command::ReportPut { role, id, report } => report_put(alloc, tx, number, role, id, report),
+        Command::ReportDelete { role, id } => report_delete(alloc, tx, role, id),
     }
 }

@@ -8,6 +8,7 @@ mod desk;
 mod frame;
 mod image;
 pub mod laws;
+mod reports;
 mod stamps;
 mod step;
 

@@ -1,5 +1,5 @@
 //! The stamps after a change of what is shown: those that differ are put, and those of keys that went are removed.
-ghost use Rattle.std.specs.Prelude.{◌≡◌, length, OnOk, IfErr};
+ghost use Rattle.std.specs.Prelude.{◌≡◌, OnOk, IfErr};
 ghost use Rattle.std.specs.List.Sorted.{IsStrictlySortedBy};
 ghost use Rattle.std.specs.Map.{keys_of};
 ghost use Rattle.std.specs.Option.{option_copied};
@@ -9,8 +9,7 @@ ghost use Rattle.adr_state.specs.Keys.{view_cmp};
 ghost use Rattle.adr_sql.specs.Calls.{Stays};
 ghost use Rattle.adr_db.specs.Kept.{Kept, Keeps};
 ghost use Rattle.adr_db.specs.Calls.{LeavesKept, Turns, IsOfStore};
-ghost use Rattle.adr_view.specs.Changes.{changes};
-ghost use Rattle.adr_desk.specs.Stamps.{left_at, left_of, are_those, put_at, put_all, stamped, with_restamped};
+ghost use Rattle.adr_desk.specs.Stamps.{left_at, left_of, are_those, put_at, put_all, stamped, with_restamped, turned_by};
 
 use adr_db::{put_stamps, read_stamps, remove_stamps};
 use adr_objects::Stamps;
@@ -116,23 +115,35 @@ fn turn<S: Alter>(
     put_each(tx, before, after)
 }
 
-/// The stamps after a change from one view to another, and how many keys changed. A key that appears gets both
-/// stamps now, one that differs the modified stamp, and one that goes loses its own; of the others nothing is
-/// written.
+/// The stamps before and after a change of what is shown, and how many keys changed.
+#[derive(Drop)]
+pub(crate) struct Turned {
+    pub before: Table<ViewKey, Stamps>,
+    pub count: usize,
+    pub after: Table<ViewKey, Stamps>,
+}
+
+/// The stamps become those after a change from one view to another. A key that appears gets both stamps now, one
+/// that differs the modified stamp, and one that goes loses its own; of the others nothing is written.
 pub(crate) fn restamp<S: Alter>(
     alloc: Global,
     tx: &mut Transaction<'_, S>,
     now: Moment,
     before: &View,
     after: &View,
-) -> Result<usize, Refusal>
+) -> Result<Turned, Refusal>
     ensures same_reference { tx.new.conn.ghost_name ≡ tx.old.conn.ghost_name }
     ensures stays { Stays S.Store tx.old.conn.now tx.new.conn.now result }
-    ensures turns { Turns S.Store tx.old.conn.now tx.new.conn.now (with_restamped before.now after.now now) (λ _ count. count ≡ length (changes before.now after.now)) result }
+    ensures turns { Turns S.Store tx.old.conn.now tx.new.conn.now (with_restamped before.now after.now now) (λ kept turned. turned ≡ turned_by kept.stamps before.now after.now now) result }
     ensures refused { IfErr result IsOfStore }
 {
     let old = read_stamps(alloc, tx)?;
     let new = restamped(alloc, &old, before, after, now)?;
     turn(tx, &old, &new)?;
-    Ok(changes_of(alloc, before, after)?.len())
+    let count = changes_of(alloc, before, after)?.len();
+    Ok(Turned {
+        before: old,
+        count,
+        after: new,
+    })
 }

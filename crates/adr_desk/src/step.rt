@@ -1,5 +1,5 @@
 //! A command on the tables, in one transaction.
-ghost use Rattle.std.specs.Prelude.{◌≡◌, false, IsTrue, IfErr, OnOk, OnErr};
+ghost use Rattle.std.specs.Prelude.{◌≡◌, false, IsTrue, IfOk, IfErr, OnOk, OnErr};
 ghost use Rattle.sqlite.specs.Held.{state};
 ghost use Rattle.sqlite.specs.State.{HasCleanDisk};
 ghost use Rattle.adr_state.specs.declared.state.State.{State};
@@ -9,6 +9,7 @@ ghost use Rattle.adr_db.specs.Bases.{HoldsState};
 ghost use Rattle.adr_db.specs.Calls.{IsOfStore};
 ghost use Rattle.adr_machine.specs.Edits.{told_by, edit_of};
 ghost use Rattle.adr_machine.specs.Listed.{listed, IsListed};
+ghost use Rattle.adr_desk.specs.Decisions.{IsAnswered};
 ghost use Rattle.adr_desk.specs.Steps.{step_of, step_by, EditsTables, StepsTables, RefusesAs, HoldsStepped, LeftStepped};
 
 use crate::decided::carry_out;
@@ -16,7 +17,7 @@ use crate::frame::{begin, commit};
 use crate::stamps::restamp;
 use adr_db::{Meta, put_meta, read_meta};
 use adr_events::view;
-use adr_machine::{Answer, Command, answer_or_count};
+use adr_machine::{Answer, Command, Outcome, answered_by};
 use adr_state::Limits;
 use adr_text::{Moment, Refusal};
 use sqlite::{Alter, Connection, Transaction};
@@ -47,11 +48,12 @@ fn numbered<S: Alter>(
     limits: &Limits,
     now: Moment,
     command: &Command,
-) -> Result<Option<Answer>, Refusal>
+) -> Result<Outcome, Refusal>
     ensures same_reference { tx.new.conn.ghost_name ≡ tx.old.conn.ghost_name }
     ensures stays { Stays S.Store tx.old.conn.now tx.new.conn.now result }
     ensures makes { EditsTables (λ base. edit_of limits.now now base command.now) (state S.Store tx.old.conn.now) (state S.Store tx.new.conn.now) result }
     ensures refuses { RefusesAs (λ held. edit_of limits.now now held.base command.now) (state S.Store tx.old.conn.now) (state S.Store tx.new.conn.now) result }
+    ensures answered { IfOk result (IsAnswered command.now) }
     ensures listed { IfErr result (IsListed (Unit {0}) (listed command.now)) }
 {
     let before = read_meta(tx)?;
@@ -88,8 +90,8 @@ fn committed<S: Alter>(
     let before = view(alloc, tx)?;
     let said = numbered(alloc, tx, limits, now, command)?;
     let after = view(alloc, tx)?;
-    let count = restamp(alloc, tx, now, &before, &after)?;
-    Ok(answer_or_count(said, count))
+    let turned = restamp(alloc, tx, now, &before, &after)?;
+    answered_by(said, &turned.before, turned.count, &turned.after)
 }
 
 /// The command on a lent transaction.

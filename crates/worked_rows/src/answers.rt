@@ -1,6 +1,7 @@
 //! Whether two answers are the same, with all that they hold.
+use crate::portfolio::is_same_report;
 use adr_machine::{Answer, Object};
-use adr_objects::{EventObject, ShownEvent};
+use adr_objects::{EventObject, ReportObject, Rollup, RollupInterval, ShownEvent};
 use adr_text::Refusal;
 
 fn is_same_head(event: &ShownEvent, other: &ShownEvent) -> bool {
@@ -24,11 +25,35 @@ fn is_same_event(event: &EventObject, other: &EventObject) -> bool {
         && is_same_tail(&event.shown, &other.shown)
 }
 
+fn is_same_report_object(report: &ReportObject, other: &ReportObject) -> bool {
+    report.number == other.number
+        && report.stamps == other.stamps
+        && is_same_report(&report.body, &other.body)
+}
+
+fn is_same_sum(interval: &RollupInterval, other: &RollupInterval) -> bool {
+    interval.id == other.id
+        && interval.sum == other.sum
+        && interval.missing.as_slice() == other.missing.as_slice()
+}
+
+fn is_same_rollup(rollup: &Rollup, other: &Rollup) -> bool {
+    let intervals = rollup.intervals.as_slice();
+    let others = other.intervals.as_slice();
+    rollup.program == other.program
+        && intervals.len() == others.len()
+        && intervals
+            .iter()
+            .zip(others)
+            .all(|(interval, other)| is_same_sum(interval, other))
+}
+
 /// Whether both are the same object, with the same stamps.
 fn is_same_object(object: &Object, other: &Object) -> bool {
     match (object, other) {
         (Object::Program(program), Object::Program(other)) => program == other,
         (Object::Event(event), Object::Event(other)) => is_same_event(event, other),
+        (Object::Report(report), Object::Report(other)) => is_same_report_object(report, other),
         (Object::Ven(ven), Object::Ven(other)) => ven == other,
         (Object::Resource(resource), Object::Resource(other)) => resource == other,
         (Object::Share(share), Object::Share(other)) => share == other,
@@ -55,6 +80,9 @@ fn is_same_reply(answer: &Answer, other: &Answer) -> bool {
             are_same_objects(objects.as_slice(), others.as_slice())
         }
         (Answer::Share(share), Answer::Share(other)) => share == other,
+        (Answer::Rollup(event, rollup), Answer::Rollup(id, other)) => {
+            event == id && is_same_rollup(rollup, other)
+        }
         _ => false,
     }
 }

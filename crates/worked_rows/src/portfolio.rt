@@ -1,5 +1,5 @@
 //! Whether two bases hold the same vens, resources, shares and reports.
-use adr_objects::{Number, ReportHead};
+use adr_objects::{Number, ReportBody, ReportHead};
 use adr_state::{Base, Report, Resource, Resources, ShareKey, Ven, Weight};
 use adr_text::Table;
 
@@ -49,12 +49,16 @@ fn is_same_head(head: &ReportHead, other: &ReportHead) -> bool {
         && head.resource_name == other.resource_name
 }
 
+/// Whether two reports say the same.
+pub fn is_same_report(report: &ReportBody, other: &ReportBody) -> bool {
+    is_same_head(&report.head, &other.head)
+        && report.intervals.as_slice() == other.intervals.as_slice()
+}
+
 fn has_report(reports: &Table<Number, Report>, number: &Number, report: &Report) -> bool {
     match reports.get(number) {
         Some(other) => {
-            report.revision == other.revision
-                && is_same_head(&report.body.head, &other.body.head)
-                && report.body.intervals.as_slice() == other.body.intervals.as_slice()
+            report.revision == other.revision && is_same_report(&report.body, &other.body)
         }
         None => false,
     }

@@ -50,3 +50,6 @@ returns-in_err-draw-clause-listed g c =
 
 pub returns-in_err-put_changed-clause-listed : goal.returns-in_err-put_changed-clause-listed
 returns-in_err-put_changed-clause-listed g c = handed_on _ c.from_residual-in_err-put_changed.result c.in_err-put_changed.field-0.0 c.from_residual-in_err-put_changed.ensures.1 (store_listed _ _ c.in_err-put_changed.ensures.refused)
+
+pub returns-clause-answered : goal.returns-clause-answered
+returns-clause-answered g c = c.in_ok-said.ensures.answered

@@ -1,0 +1,34 @@
+-- What comes of a command is answered, or refused as is listed for it.
+use Rattle.std.proofs.Common.{◌≡◌, ℕ, List, Contains, Option, Some, None, Result, Ok, Err, IfOk, IfErr, sym, subst}
+use Rattle.adr_text.specs.declared.refusal.Refusal.{Refusal}
+use Rattle.adr_text.specs.declared.refusal.Refusal.TheVariants.{NotFound}
+use Rattle.adr_objects.specs.declared.report.ReportBody.{ReportBody}
+use Rattle.adr_objects.specs.declared.shown.Stamps.{Stamps}
+use Rattle.adr_state.specs.declared.keys.ViewKey.{ViewKey}
+use Rattle.adr_state.specs.declared.keys.ViewKey.TheVariants as key
+use Rattle.adr_state.specs.declared.portfolio.Report.{Report}
+use Rattle.adr_view.specs.declared.view.Content.TheVariants as content
+use Rattle.adr_machine.specs.declared.answer.Object.{Object}
+use Rattle.adr_machine.specs.declared.command.Command.{Command}
+use Rattle.adr_machine.specs.declared.outcome.Outcome.{Outcome}
+use Rattle.adr_machine.specs.Edits.{told_by, report_kept, report_gone}
+use Rattle.adr_machine.specs.Listed.{listed}
+use Rattle.adr_machine.specs.Shown.{object_at, told}
+use Rattle.adr_desk.specs.Decisions.{IsAnswered}
+
+-- whatever comes of what went well
+pub all_answered : {A : Type 0} (c : Command) (comes : A → Outcome) → ((x : A) → IsAnswered c (comes x)) → (r : Result A Refusal) → IfOk (told_by comes r) (IsAnswered c)
+all_answered c comes each (Ok x) = each x
+all_answered c comes each (Err e) = tt
+
+-- a report that lacks stamps counts as not there
+module _ (c : Command) (missing : Contains (listed c) NotFound) where
+  told_so : (o : Option Object) → IfErr (told o) (Contains (listed c))
+  told_so None = missing
+  told_so (Some o) = tt
+
+  pub kept_answered : (r : ℕ × Report) → IsAnswered c (report_kept r)
+  kept_answered r before after = told_so (object_at after.1 (key.Report r.0, content.Report r.1.body))
+
+  pub gone_answered : (r : ℕ × Report) → IsAnswered c (report_gone r)
+  gone_answered r before after = told_so (object_at before (key.Report r.0, content.Report r.1.body))
