@@ -1,5 +1,5 @@
 -- What a command decides fits the base, and what a step makes of it: the one walk over the commands. The laws walk over the kinds of change.
-use Rattle.std.proofs.Common.{◌≡◌, ℕ, ◌≤◌, ◌+◌, Bool, true, false, cond, ◌==◌, ◌⊎◌, List, [], ◌∷◌, Option, Some, None, Result, Ok, Err, IfOk, refl, ap, subst, arith}
+use Rattle.std.proofs.Common.{◌≡◌, ℕ, ◌≤◌, ◌+◌, Bool, true, false, cond, ◌==◌, ◌⊎◌, inl, inr, ◌&&◌, List, [], ◌∷◌, Option, Some, None, Result, Ok, Err, IfOk, refl, ap, subst, arith}
 use Rattle.std.specs.Prelude.{nat_lt, nat_le, is_some, IsSome, IfSome, option_map, option_and_then}
 use Rattle.std.specs.Option.{option_map_or}
 use Rattle.adr_laws.proofs.Common.{nat_cmp, unsigned_Decides, cond_both, Refusal, Base, at, ven_name, resource_name, is_taken, is_taken_by_another, is_full, BaseChange, JoinMarks, ChangePortfolio, changed, Command, Settings, State, step_at}
@@ -22,11 +22,22 @@ use Rattle.adr_state.specs.Evidence.{adds_beyond, joining, scan_with, open_scan,
 use Rattle.adr_state.specs.Vens.{ven_with_id, ven_at, putting_ven}
 use Rattle.adr_state.specs.Resources.{resource_with_id, resource_at, is_under, resource_under, putting_resource}
 use Rattle.adr_state.specs.Shares.{is_beyond, weight_set, share_of}
+use Rattle.adr_objects.specs.declared.site.ReportIn.{ReportIn}
+use Rattle.adr_objects.specs.declared.body.EventBody.{EventBody}
+use Rattle.adr_state.specs.declared.portfolio.Report.{Report}
+use Rattle.adr_state.specs.ShownIds.{resource_part, event_part, id_in, resource_named}
+use Rattle.adr_view.specs.declared.report.Reported.{Reported}
+use Rattle.adr_view.specs.Reports.{is_shown_to, reported_of, reported_by, reported_in, reported, fits, kept_report, report_on, report_with_id, putting_report, report_made, report_replaced, report_removed, may_report, may_change}
+use Rattle.adr_view.specs.Rollups.{event_at}
 use Rattle.adr_machine.specs.declared.answer.Answer.{Answer}
-use Rattle.adr_machine.specs.declared.command.Command.TheVariants.{Evidence, Gone, ScanBegin, ScanEnd, VenAdd, VenPut, VenRemove, ResourceAdd, ResourcePut, ResourceRemove, ShareSet}
+use Rattle.adr_machine.specs.declared.command.Command.TheVariants.{Evidence, Gone, ScanBegin, ScanEnd, VenAdd, VenPut, VenRemove, ResourceAdd, ResourcePut, ResourceRemove, ShareSet, ReportPost, ReportPut, ReportDelete}
+use Rattle.adr_machine.specs.declared.outcome.Outcome.{Outcome}
+use Rattle.adr_machine.specs.declared.outcome.Outcome.TheVariants as outcome
+use Rattle.adr_machine.specs.Roles.{sight_of}
 use Rattle.adr_state.specs.Serials.{drawn}
-use Rattle.adr_machine.specs.Edits.{Decision, is_allowed, counted, of_portfolio, draws_number, decided, numbered, edit_of, edit}
-use Rattle.adr_machine.specs.Steps.{committed}
+use Rattle.adr_machine.specs.Edits.{Decision, is_allowed, counted, of_portfolio, report_kept, report_gone, draws_number, decided, numbered, edit_of, edit}
+use Rattle.adr_machine.specs.Steps.{answered_by}
+use Rattle.adr_machine.specs.Steps.{changed as restamped_by, committed}
 use Rattle.adr_laws.specs.Laws.{HasVen, HasResource, evidence_in, HasWeight, HasReported}
 use Rattle.adr_laws.proofs.EditLemmas.{tested, first_then, found_then, new_then, free_then, whatever}
 use Rattle.adr_laws.proofs.NameLemmas.{Free, free_new, free_again}
@@ -51,9 +62,53 @@ abbrev pub marks_in : BaseChange → List (MirrorKey × Mark)
 marks_in (JoinMarks marks scan) = marks
 marks_in _ = []
 
-pub record Fits (next : ℕ) (draws : Bool) (base : Base) (marks : List (MirrorKey × Mark)) (d : Decision) : Type 0 where
+-- the reports that it puts
+abbrev pub puts_of : PortfolioChange → List (ℕ × Report)
+puts_of (PutReport n report) = (n, report) ∷ []
+puts_of _ = []
+
+abbrev pub puts_in : BaseChange → List (ℕ × Report)
+puts_in (ChangePortfolio change) = puts_of change
+puts_in _ = []
+
+-- a report is put, and is what comes of it; one that is there goes, and is that; or nothing comes of reports
+pub record IsKept (d : Decision) : Type 0 where
+  pub number : ℕ
+  pub report : Report
+  pub comes : d.outcome ≡ outcome.ReportKept number report.body
+  pub puts : d.change ≡ ChangePortfolio (PutReport number report)
+
+pub record IsGone (base : Base) (d : Decision) : Type 0 where
+  pub number : ℕ
+  pub report : Report
+  pub comes : d.outcome ≡ outcome.ReportGone number report.body
+  pub was_there : at nat_cmp number base.portfolio.reports ≡ Some report
+  pub puts_none : puts_in d.change ≡ []
+
+abbrev IsOther : Outcome → Type 0
+IsOther (outcome.ReportKept n body) = ⊥
+IsOther (outcome.ReportGone n body) = ⊥
+IsOther _ = Unit {0}
+
+pub record IsPlain (d : Decision) : Type 0 where
+  pub comes : IsOther d.outcome
+  pub puts_none : puts_in d.change ≡ []
+
+-- what comes of a command, by whether it is one of reports
+abbrev pub Comes : Base → Command → Decision → Type 0
+Comes base (ReportPost role report) d = IsKept d
+Comes base (ReportPut role id report) d = IsKept d
+Comes base (ReportDelete role id) d = IsGone base d
+Comes base _ d = IsPlain d
+
+pub record Fits (next : ℕ) (draws : Bool) (base : Base) (marks : List (MirrorKey × Mark)) (Is : Decision → Type 0) (d : Decision) : Type 0 where
   pub fits : FitsBase next draws base d.change
   pub tells : marks_in d.change ≡ marks
+  pub is : Is d
+
+-- of a command
+abbrev pub FitsCommand : Base → Command → Decision → Type 0
+FitsCommand base c = Fits (base.serial + 1) (draws_number c) base (evidence_in c) (Comes base c)
 
 -- ---- what an id names is there
 
@@ -97,6 +152,41 @@ under_there ven id p =
     passing (λ r. IsFound p.resources r.0) (IsHeld p) (λ r. is_under ven p r.1) (resource_with_id id p) (resource_there id p)
     (λ r there under. (there, owner_there p.vens r.1.ven (ven_at ven p) (number_there p.vens (ven_with_id ven p) (ven_there ven p)) under))
 
+-- the report of an id
+report_there : (id : List ℕ) (p : Portfolio) → IfSome (report_with_id id p) (λ r. at nat_cmp r.0 p.reports ≡ Some r.1)
+report_there id p = by (number_in 112 id)
+  where
+    by : (o : Option ℕ) → IfSome {T = ℕ × Report} (option_and_then (λ n. option_map (λ r. (n, r)) (at nat_cmp n p.reports)) o) (λ r. at nat_cmp r.0 p.reports ≡ Some r.1)
+    by None = tt
+    by (Some n) = elim (at nat_cmp n p.reports) as (λ o. at nat_cmp n p.reports ≡ o → IfSome {T = ℕ × Report} (option_map (λ r. (n, r)) o) (λ r. at nat_cmp r.0 p.reports ≡ Some r.1)) [
+      | None ↦ λ is. tt
+      | Some r ↦ λ is. is
+    ] refl
+
+-- the resource of what a report is on
+reported_there : (mirror : List (MirrorKey × Mark)) (p : Portfolio) (id : List ℕ) → IfSome (reported mirror p id) (λ on. IsFound p.resources on.resource)
+reported_there mirror p id = in_event (event_part id)
+  where
+    by_event : (r : ℕ × Resource) (id : List ℕ) → IsFound p.resources r.0 → (o : Option EventBody) → IfSome (option_and_then (reported_of p r id) o) (λ on. IsFound p.resources on.resource)
+    by_event r id found None = tt
+    by_event r id found (Some event) = cond_both (is_shown_to p event r) (Some (record { event = id; program = event.program; resource = r.0; resource_name = r.1.name })) None (λ o. IfSome o (λ on. IsFound p.resources on.resource)) (λ shown. found) (λ fails. tt)
+
+    by_id : (r : ℕ × Resource) → IsFound p.resources r.0 → (o : Option (List ℕ)) → IfSome (option_and_then (λ id. reported_by mirror p id r) o) (λ on. IsFound p.resources on.resource)
+    by_id r found None = tt
+    by_id r found (Some id) = by_event r id found (event_at mirror id)
+
+    named : (o : Option (List ℕ)) → IfSome (option_and_then (λ id. resource_with_id id p) o) (λ r. IsFound p.resources r.0)
+    named None = tt
+    named (Some id) = resource_there id p
+
+    by_resource : (event : List ℕ) (o : Option (ℕ × Resource)) → IfSome o (λ r. IsFound p.resources r.0) → IfSome (option_and_then (λ r. option_and_then (λ id. reported_by mirror p id r) (id_in event)) o) (λ on. IsFound p.resources on.resource)
+    by_resource event None found = tt
+    by_resource event (Some r) found = by_id r found (id_in event)
+
+    in_event : (o : Option (List ℕ)) → IfSome (option_and_then (reported_in mirror p (resource_part id)) o) (λ on. IsFound p.resources on.resource)
+    in_event None = tt
+    in_event (Some event) = by_resource event (resource_named p (resource_part id)) (named (id_in (resource_part id)))
+
 -- a weight that is neither 0 nor above the largest
 has_weight : (weight : ℕ) → (weight == 0) ≡ false → nat_lt most_weight weight ≡ false → (1 ≤ weight) × (weight ≤ most_weight)
 has_weight weight some small = (omega (arith, eqb-false weight 0 some), ltb-false most_weight weight small)
@@ -104,78 +194,149 @@ has_weight weight some small = (omega (arith, eqb-false weight 0 some), ltb-fals
 -- ---- each command
 
 module _ (limits : Limits) (now next : ℕ) (base : Base) where
-  joining_fits : (marks : List (MirrorKey × Mark)) (scan : Option (List MirrorKey)) → IfOk (joining limits base marks scan) (λ change. Fits next false base marks (counted change))
+  joining_fits : (marks : List (MirrorKey × Mark)) (scan : Option (List MirrorKey)) → IfOk (joining limits base marks scan) (λ change. Fits next false base marks IsPlain (counted change))
   joining_fits marks scan =
-      tested (λ change. Fits next false base marks (counted change)) (adds_beyond limits.keys base.mirror (joined base.mirror marks)) refusal.LimitReached (Ok (JoinMarks marks scan)) (λ within. record { fits = tt; tells = refl })
+      tested (λ change. Fits next false base marks IsPlain (counted change)) (adds_beyond limits.keys base.mirror (joined base.mirror marks)) refusal.LimitReached (Ok (JoinMarks marks scan)) (λ within. record { fits = tt; tells = refl; is = record { comes = tt; puts_none = refl } })
 
-  counted_fits : (marks : List (MirrorKey × Mark)) (r : Result BaseChange Refusal) → IfOk r (λ change. Fits next false base marks (counted change)) → IfOk (r >>= λ change. Ok (counted change)) (Fits next false base marks)
-  counted_fits marks r h = first_then (Fits next false base marks) (λ change. Fits next false base marks (counted change)) r (λ change. Ok (counted change)) h (λ change fits. fits)
+  counted_fits : (marks : List (MirrorKey × Mark)) (r : Result BaseChange Refusal) → IfOk r (λ change. Fits next false base marks IsPlain (counted change)) → IfOk (r >>= λ change. Ok (counted change)) (Fits next false base marks IsPlain)
+  counted_fits marks r h = first_then (Fits next false base marks IsPlain) (λ change. Fits next false base marks IsPlain (counted change)) r (λ change. Ok (counted change)) h (λ change fits. fits)
 
   -- of the portfolio
-  portfolio_fits : {A : Type 0} (draws : Bool) (told : A → Answer) (r : Result (A × PortfolioChange) Refusal) → IfOk r (λ d. FitsPortfolio next draws base.portfolio d.1) → IfOk (of_portfolio told r) (Fits next draws base [])
-  portfolio_fits draws told (Ok d) h = record { fits = h; tells = refl }
-  portfolio_fits draws told (Err e) h = tt
+  portfolio_fits : {A : Type 0} (draws : Bool) (comes : A → Outcome) → ((x : A) → IsOther (comes x)) → (r : Result (A × PortfolioChange) Refusal) → IfOk r (λ d. FitsPortfolio next draws base.portfolio d.1 × (puts_of d.1 ≡ [])) → IfOk (of_portfolio comes r) (Fits next draws base [] IsPlain)
+  portfolio_fits draws comes other (Ok d) h = record { fits = h.0; tells = refl; is = record { comes = other d.0; puts_none = h.1 } }
+  portfolio_fits draws comes other (Err e) h = tt
 
   abbrev Draws : {A : Type 0} → Bool → A × PortfolioChange → Type 0
-  Draws draws d = FitsPortfolio next draws base.portfolio d.1
+  Draws draws d = FitsPortfolio next draws base.portfolio d.1 × (puts_of d.1 ≡ [])
+
+  -- a report is kept, and one goes
+  abbrev Keeps : (ℕ × Report) × PortfolioChange → Type 0
+  Keeps d = FitsPortfolio next true base.portfolio d.1 × (d.1 ≡ PutReport d.0.0 d.0.1)
+
+  kept_fits : (r : Result ((ℕ × Report) × PortfolioChange) Refusal) → IfOk r Keeps → IfOk (of_portfolio report_kept r) (Fits next true base [] IsKept)
+  kept_fits (Ok d) h = record {
+    fits = h.0;
+    tells = ap (λ change. marks_in (ChangePortfolio change)) h.1;
+    is = record { number = d.0.0; report = d.0.1; comes = refl; puts = ap (λ change. ChangePortfolio change) h.1 };
+  }
+  kept_fits (Err e) h = tt
+
+  abbrev Goes : (ℕ × Report) × PortfolioChange → Type 0
+  Goes d = (at nat_cmp d.0.0 base.portfolio.reports ≡ Some d.0.1) × FitsPortfolio next false base.portfolio d.1 × (puts_of d.1 ≡ [])
+
+  gone_fits : (r : Result ((ℕ × Report) × PortfolioChange) Refusal) → IfOk r Goes → IfOk (of_portfolio report_gone r) (Fits next false base [] (IsGone base))
+  gone_fits (Ok d) h = record { fits = h.1; tells = refl; is = record { number = d.0.0; report = d.0.1; comes = refl; was_there = h.0; puts_none = h.2 } }
+  gone_fits (Err e) h = tt
+
+  -- one is put where its number is the next or that of one that is there
+  put_fits : (n : ℕ) (on : Reported) (report : ReportIn) → (n ≡ next) ⊎ IsSome (at nat_cmp n base.portfolio.reports) → IsFound base.portfolio.resources on.resource → Keeps (putting_report n (kept_report next on report))
+  put_fits n on report number found = ((refl, number, found), refl)
+
+  on_fits : (report : ReportIn) → IfOk (report_on report base.mirror base.portfolio) (λ on. IsFound base.portfolio.resources on.resource)
+  on_fits report =
+      let found : Reported → Type 0 = λ on. IsFound base.portfolio.resources on.resource in
+      found_then found found refusal.NotFound (reported base.mirror base.portfolio report.event) (λ on. cond (fits on report) (Ok on) (Err refusal.ResourceNotOfEvent)) (reported_there base.mirror base.portfolio report.event)
+      (λ on there. cond_both (fits on report) (Ok on) (Err refusal.ResourceNotOfEvent) (λ r. IfOk r found) (λ named. there) (λ other. tt))
+
+  made_fits : (report : ReportIn) → IfOk (report_made limits next report base.mirror base.portfolio) Keeps
+  made_fits report =
+      first_then Keeps (λ on. IsFound base.portfolio.resources on.resource) (report_on report base.mirror base.portfolio) _ (on_fits report)
+      (λ on there. tested Keeps (is_full limits.reports base.portfolio.reports) refusal.LimitReached (Ok (putting_report next (kept_report next on report))) (λ room. put_fits next on report (inl refl) there))
+
+  replaced_fits : (id : List ℕ) (report : ReportIn) → IfOk (report_replaced next id report base.mirror base.portfolio) Keeps
+  replaced_fits id report =
+      found_then Keeps (λ r. at nat_cmp r.0 base.portfolio.reports ≡ Some r.1) refusal.NotFound (report_with_id id base.portfolio) _ (report_there id base.portfolio) (λ old is.
+      first_then Keeps (λ on. IsFound base.portfolio.resources on.resource) (report_on report base.mirror base.portfolio) _ (on_fits report) (λ on there. put_fits old.0 on report (inr (ap is_some is)) there))
+
+  removed_fits : (id : List ℕ) → IfOk (report_removed id base.portfolio) Goes
+  removed_fits id = found_then Goes (λ r. at nat_cmp r.0 base.portfolio.reports ≡ Some r.1) refusal.NotFound (report_with_id id base.portfolio) _ (report_there id base.portfolio) (λ old is. (is, tt, refl))
+
+  -- by who sees what is reported on
+  seen_fits : {A : Type 0} (P : A → Type 0) (sees : Bool) (r : Result A Refusal) → IfOk r P → IfOk (cond sees r (Err refusal.Forbidden)) P
+  seen_fits P sees r h = cond_both sees r (Err refusal.Forbidden) (λ r. IfOk r P) (λ seen. h) (λ unseen. tt)
 
   share_fits : (key : ShareKey) (weight : ℕ) → IsFound base.portfolio.resources key.resource → IfOk (share_of limits key weight base.portfolio) (Draws false)
   share_fits key weight there =
-      let fits = FitsPortfolio next false base.portfolio in
+      let fits : PortfolioChange → Type 0 = λ change. FitsPortfolio next false base.portfolio change × (puts_of change ≡ []) in
       tested (Draws false) (nat_lt most_weight weight) refusal.BadShare _ (λ small.
       first_then (Draws false) fits (weight_set limits key weight base.portfolio) _
-      (cond_both (weight == 0) (Ok (DropShare key)) _ (λ r. IfOk r fits) (λ none. tt) (λ some. tested fits (is_beyond limits key base.portfolio.shares) refusal.LimitReached (Ok (PutShare key weight)) (λ room. (there, has_weight weight some small)))) (λ change h. h))
+      (cond_both (weight == 0) (Ok (DropShare key)) _ (λ r. IfOk r fits) (λ none. (tt, refl)) (λ some. tested fits (is_beyond limits key base.portfolio.shares) refusal.LimitReached (Ok (PutShare key weight)) (λ room. ((there, has_weight weight some small), refl)))) (λ change h. h))
 
-  pub decided_fits : (c : Command) → IfOk (decided limits now next base c) (Fits next (draws_number c) base (evidence_in c))
+  pub decided_fits : (c : Command) → IfOk (decided limits now next base c) (Fits next (draws_number c) base (evidence_in c) (Comes base c))
   decided_fits (Evidence founds polled) = counted_fits (evidence_of founds) _ (joining_fits (evidence_of founds) (scan_with base.scan founds polled))
   decided_fits (Gone kind id) = let marks : List (MirrorKey × Mark) = (record { kind = kind; id = id }, Dead) ∷ [] in counted_fits marks _ (joining_fits marks base.scan)
-  decided_fits ScanBegin = record { fits = tt; tells = refl }
+  decided_fits ScanBegin = record { fits = tt; tells = refl; is = record { comes = tt; puts_none = refl } }
   decided_fits ScanEnd =
-      first_then (Fits next false base []) (λ d. FitsBase next false base d.1 × (marks_in d.1 ≡ [])) (scan_end base) _
-      (first_then (λ d. FitsBase next false base d.1 × (marks_in d.1 ≡ [])) (λ polled. Unit {0}) (open_scan base.scan) _ (whatever (open_scan base.scan)) (λ polled h. (tt, refl))) (λ d h. record { fits = h.0; tells = h.1 })
+      first_then (Fits next false base [] IsPlain) (λ d. FitsBase next false base d.1 × (marks_in d.1 ≡ []) × (puts_in d.1 ≡ [])) (scan_end base) _
+      (first_then (λ d. FitsBase next false base d.1 × (marks_in d.1 ≡ []) × (puts_in d.1 ≡ [])) (λ polled. Unit {0}) (open_scan base.scan) _ (whatever (open_scan base.scan)) (λ polled h. (tt, refl, refl)))
+      (λ d h. record { fits = h.0; tells = h.1; is = record { comes = tt; puts_none = h.2 } })
   decided_fits (VenAdd role ven) =
       let p = base.portfolio in
-      portfolio_fits true _ _ (new_then (Draws true) (is_taken ven_name ven.name p.vens) (is_full limits.vens p.vens) (putting_ven next (record { name = ven.name; stamps = fresh now })) (λ free. (refl, free_new ven_name next ven.name p.vens free)))
+      portfolio_fits true _ (λ x. tt) _ (new_then (Draws true) (is_taken ven_name ven.name p.vens) (is_full limits.vens p.vens) (putting_ven next (record { name = ven.name; stamps = fresh now })) (λ free. ((refl, free_new ven_name next ven.name p.vens free), refl)))
   decided_fits (VenPut role id ven) =
       let p = base.portfolio in
-      portfolio_fits false _ _ (found_then (Draws false) (λ v. IsFound p.vens v.0) refusal.NotFound (ven_with_id id p) _ (ven_there id p) (λ v there.
-      free_then (Draws false) (is_taken_by_another ven_name v.0 ven.name p.vens) (putting_ven v.0 (record { name = ven.name; stamps = modified_at now v.1.stamps })) (λ free. (there, free_again ven_name v.0 ven.name p.vens free))))
-  decided_fits (VenRemove role id) = portfolio_fits false _ _ (found_then (Draws false) (λ v. IsFound base.portfolio.vens v.0) refusal.NotFound (ven_with_id id base.portfolio) _ (ven_there id base.portfolio) (λ v there. tt))
+      portfolio_fits false _ (λ x. tt) _ (found_then (Draws false) (λ v. IsFound p.vens v.0) refusal.NotFound (ven_with_id id p) _ (ven_there id p) (λ v there.
+      free_then (Draws false) (is_taken_by_another ven_name v.0 ven.name p.vens) (putting_ven v.0 (record { name = ven.name; stamps = modified_at now v.1.stamps })) (λ free. ((there, free_again ven_name v.0 ven.name p.vens free), refl))))
+  decided_fits (VenRemove role id) = portfolio_fits false _ (λ x. tt) _ (found_then (Draws false) (λ v. IsFound base.portfolio.vens v.0) refusal.NotFound (ven_with_id id base.portfolio) _ (ven_there id base.portfolio) (λ v there. (tt, refl)))
   decided_fits (ResourceAdd role ven resource) =
       let p = base.portfolio in
-      portfolio_fits true _ _ (found_then (Draws true) (IsFound p.vens) refusal.NotFound (ven_at ven p) _ (number_there p.vens (ven_with_id ven p) (ven_there ven p)) (λ v there.
-      new_then (Draws true) (is_taken resource_name resource.name p.resources) (is_full limits.resources p.resources) (putting_resource next (record { ven = v; name = resource.name; stamps = fresh now })) (λ free. (refl, free_new resource_name next resource.name p.resources free, there))))
+      portfolio_fits true _ (λ x. tt) _ (found_then (Draws true) (IsFound p.vens) refusal.NotFound (ven_at ven p) _ (number_there p.vens (ven_with_id ven p) (ven_there ven p)) (λ v there.
+      new_then (Draws true) (is_taken resource_name resource.name p.resources) (is_full limits.resources p.resources) (putting_resource next (record { ven = v; name = resource.name; stamps = fresh now })) (λ free. ((refl, free_new resource_name next resource.name p.resources free, there), refl))))
   decided_fits (ResourcePut role ven id resource) =
       let p = base.portfolio in
-      portfolio_fits false _ _ (found_then (Draws false) (IsHeld p) refusal.NotFound (resource_under ven id p) _ (under_there ven id p) (λ r held.
+      portfolio_fits false _ (λ x. tt) _ (found_then (Draws false) (IsHeld p) refusal.NotFound (resource_under ven id p) _ (under_there ven id p) (λ r held.
       free_then (Draws false) (is_taken_by_another resource_name r.0 resource.name p.resources) (putting_resource r.0 (record { ven = r.1.ven; name = resource.name; stamps = modified_at now r.1.stamps }))
-      (λ free. (held.0, free_again resource_name r.0 resource.name p.resources free, held.1))))
+      (λ free. ((held.0, free_again resource_name r.0 resource.name p.resources free, held.1), refl))))
   decided_fits (ResourceRemove role ven id) =
-      portfolio_fits false _ _ (found_then (Draws false) (IsHeld base.portfolio) refusal.NotFound (resource_under ven id base.portfolio) _ (under_there ven id base.portfolio) (λ r there. tt))
+      portfolio_fits false _ (λ x. tt) _ (found_then (Draws false) (IsHeld base.portfolio) refusal.NotFound (resource_under ven id base.portfolio) _ (under_there ven id base.portfolio) (λ r there. (tt, refl)))
   decided_fits (ShareSet role program resource share) =
       let p = base.portfolio in
-      portfolio_fits false _ _ (found_then (Draws false) (IsFound p.resources) refusal.NotFound (resource_at resource p) _ (number_there p.resources (resource_with_id resource p) (resource_there resource p)) (λ n there.
+      portfolio_fits false _ (λ x. tt) _ (found_then (Draws false) (IsFound p.resources) refusal.NotFound (resource_at resource p) _ (number_there p.resources (resource_with_id resource p) (resource_there resource p)) (λ n there.
       share_fits (record { program = program; resource = n }) share.share there))
+  decided_fits (ReportPost role report) =
+      first_then (Fits next true base [] IsKept) (λ sight. Unit {0}) (sight_of base role) _ (whatever (sight_of base role)) (λ sight h.
+      kept_fits _ (seen_fits Keeps (may_report sight report base.portfolio) (report_made limits next report base.mirror base.portfolio) (made_fits report)))
+  decided_fits (ReportPut role id report) =
+      first_then (Fits next true base [] IsKept) (λ sight. Unit {0}) (sight_of base role) _ (whatever (sight_of base role)) (λ sight h.
+      kept_fits _ (seen_fits Keeps (may_change sight id base.portfolio && may_report sight report base.portfolio) (report_replaced next id report base.mirror base.portfolio) (replaced_fits id report)))
+  decided_fits (ReportDelete role id) =
+      first_then (Fits next false base [] (IsGone base)) (λ sight. Unit {0}) (sight_of base role) _ (whatever (sight_of base role)) (λ sight h.
+      gone_fits _ (seen_fits Goes (may_change sight id base.portfolio) (report_removed id base.portfolio) (removed_fits id)))
 
 -- ---- a step
 
--- what every refusal leaves so, and the commit of every decision that fits makes so, is so after a step
-pub after_step : (settings : Settings) (s : State) (c : ℕ × Command) (P : Result (Answer × State) Refusal → Type 0) → ((refusal : Refusal) → P (Err refusal))
-    → ((d : Decision) → Fits (s.base.serial + 1) (draws_number c.1) s.base (evidence_in c.1) d → P (Ok (committed s c.0 d.answer (record (changed d.change s.base) { serial = serial_then s.base.serial (draws_number c.1) })))) → P (step_at settings s c)
-unfolding edit
-after_step settings s c P refused made =
-    cond_both (is_allowed c.1) (edit_of settings.limits c.0 s.base c.1) (Err refusal.Forbidden) (λ e. P (e >>= commit)) (λ allowed. by_decision _ (decided_fits settings.limits c.0 (s.base.serial + 1) s.base c.1)) (λ forbidden. refused refusal.Forbidden)
-  where
-    commit : Option Answer × Base → Result (Answer × State) Refusal
-    commit e = Ok (committed s c.0 e.0 e.1)
+-- the base after a decision of a command
+abbrev pub base_after : Base → Command → Decision → Base
+base_after base c d = record (changed d.change base) { serial = serial_then base.serial (draws_number c) }
 
-    ending : Decision → Result ℕ Refusal → Result (Answer × State) Refusal
-    ending d r = (r >>= λ serial. Ok (d.answer, record (changed d.change s.base) { serial = serial })) >>= commit
+-- the state after it
+abbrev pub state_by : State → ℕ × Command → Decision → State
+state_by s c d = record { base = base_after s.base c.1 d; stamps = (restamped_by s c.0 (base_after s.base c.1 d)).1 }
+
+-- what holds of what every edit makes that is refused, and of what every decision that fits makes, holds of an edit
+pub after_edit : (settings : Settings) (s : State) (c : ℕ × Command) (P : Result (Outcome × Base) Refusal → Type 0) → ((refusal : Refusal) → P (Err refusal))
+    → ((d : Decision) → FitsCommand s.base c.1 d → P (Ok (d.outcome, base_after s.base c.1 d))) → P (edit settings.limits c.0 s.base c.1)
+unfolding edit
+after_edit settings s c P refused made =
+    cond_both (is_allowed c.1) (edit_of settings.limits c.0 s.base c.1) (Err refusal.Forbidden) P (λ allowed. by_decision _ (decided_fits settings.limits c.0 (s.base.serial + 1) s.base c.1)) (λ forbidden. refused refusal.Forbidden)
+  where
+    ending : Decision → Result ℕ Refusal → Result (Outcome × Base) Refusal
+    ending d r = r >>= λ serial. Ok (d.outcome, record (changed d.change s.base) { serial = serial })
 
     by_drawn : (d : Decision) (draws : Bool) → P (ending d (Ok (serial_then s.base.serial draws))) → P (ending d (drawn settings.limits s.base.serial draws))
     by_drawn d false is = is
     by_drawn d true is = cond_both (nat_le settings.limits.serial s.base.serial) (Err refusal.Exhausted) (Ok (s.base.serial + 1)) (λ r. P (ending d r)) (λ none. refused refusal.Exhausted) (λ left. is)
 
-    by_decision : (r : Result Decision Refusal) → IfOk r (Fits (s.base.serial + 1) (draws_number c.1) s.base (evidence_in c.1)) → P ((r >>= numbered settings.limits (draws_number c.1) s.base) >>= commit)
+    by_decision : (r : Result Decision Refusal) → IfOk r (FitsCommand s.base c.1) → P (r >>= numbered settings.limits (draws_number c.1) s.base)
     by_decision (Ok d) fits = by_drawn d (draws_number c.1) (made d fits)
     by_decision (Err refusal) fits = refused refusal
+
+-- what every refusal leaves so, and every decision that fits and is answered makes so, is so after a step
+pub after_step : (settings : Settings) (s : State) (c : ℕ × Command) (P : Result (Answer × State) Refusal → Type 0) → ((refusal : Refusal) → P (Err refusal))
+    → ((d : Decision) (a : Answer) → FitsCommand s.base c.1 d → answered_by d.outcome s.stamps (restamped_by s c.0 (base_after s.base c.1 d)) ≡ Ok a → P (Ok (a, state_by s c d))) → P (step_at settings s c)
+after_step settings s c P refused made =
+    after_edit settings s c (λ r. P (r >>= λ e. committed s c.0 e.0 e.1)) refused (λ d fits. by d fits (answered_by d.outcome s.stamps (restamped_by s c.0 (base_after s.base c.1 d))) refl)
+  where
+    by : (d : Decision) → FitsCommand s.base c.1 d → (r : Result Answer Refusal) → answered_by d.outcome s.stamps (restamped_by s c.0 (base_after s.base c.1 d)) ≡ r → P (r >>= λ a. Ok (a, state_by s c d))
+    by d fits (Ok a) is = made d a fits is
+    by d fits (Err refusal) is = refused refusal

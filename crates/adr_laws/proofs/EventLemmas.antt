@@ -1,7 +1,8 @@
 -- What the view has of an event: each that is enrolled has its part at its key, and nobody else has one.
-use Rattle.std.proofs.Common.{◌≡◌, ℕ, ℤ, Bool, true, false, cond, List, [], length, map, Option, Some, None, refl, sym, ap, subst, ◌∙◌, arith, ◌<◌}
+use Rattle.std.proofs.Common.{◌≡◌, ℕ, ℤ, Bool, true, false, cond, List, [], ◌++◌, length, map, Option, Some, None, refl, sym, ap, subst, ◌∙◌, arith, ◌<◌}
 use Rattle.std.specs.Prelude.{IsSome, is_some, option_map, option_and_then, slice_get}
 use Rattle.std.specs.List.{enumerate_from}
+use Rattle.std.proofs.lemmas.List.Elements.{Contains-append_left}
 use Rattle.std.proofs.lemmas.List.Recursion.{or_at}
 use Rattle.std.proofs.lemmas.Option.{same_Some, slice_get-map}
 use Rattle.adr_laws.proofs.Common.{Contains, list_any, keys_of, eq_by_cmp_equiv, false≢true, All-contains, Contains-from_lookup, IsDistinct-from_sorted, tells_apart, Base, empty, step_at, at, mirror_cmp, view_cmp, lookup-from_Contains, map-map, length-map, get_or_from_slice_get, slice_get_within}
@@ -14,6 +15,7 @@ use Rattle.adr_objects.specs.declared.body.EventBody.{EventBody}
 use Rattle.adr_objects.specs.declared.interval.Interval.{Interval}
 use Rattle.adr_state.specs.declared.base.Mark.{Mark}
 use Rattle.adr_state.specs.declared.base.Mark.TheVariants.{Live, Dead}
+use Rattle.adr_state.specs.declared.keys.MirrorKey.{MirrorKey}
 use Rattle.adr_state.specs.declared.keys.ViewKey.{ViewKey}
 use Rattle.adr_state.specs.declared.keys.ViewKey.TheVariants as key
 use Rattle.adr_state.specs.declared.participants.Participant.{Participant}
@@ -21,18 +23,20 @@ use Rattle.adr_state.specs.Participants.{participants}
 use Rattle.adr_state.proofs.LawLemmas.{key_order}
 use Rattle.adr_view.specs.declared.parts.SplitInterval.{SplitInterval}
 use Rattle.adr_view.specs.declared.view.Content.{Content}
-use Rattle.adr_view.specs.Views.{weights_of, split_interval, interval_at, event_row, rows_for, carries, event_key, event_rows, mark_rows, view}
+use Rattle.adr_view.specs.Rollups.{event_key}
+use Rattle.adr_view.specs.Views.{weights_of, split_interval, interval_at, event_row, rows_for, carries, event_rows, mark_rows, rows_shown, report_row, view}
 use Rattle.adr_laws.specs.Enrolled.{enrolled, enrolled_numbers, enrolled_weights}
 use Rattle.adr_laws.specs.ShownParts.{part_in, part_shown, AreFairParts, IsLive}
 use Rattle.adr_view.specs.Laws.{StandsInOrder}
 use Rattle.adr_laws.specs.Laws.{IsWhole, OnlyLiveEventsAreShown, ShownPartsSumUp, ShownPartsSumUpAfterRuns}
 use Rattle.adr_laws.specs.Standing.{state_of}
 use Rattle.adr_laws.proofs.EnrolledLemmas.{enrolled_positive, numbers_are, weights_are}
-use Rattle.adr_view.proofs.KeyLemmas.{mirror_exact, view_exact, made_of}
+use Rattle.adr_view.proofs.KeyLemmas.{mirror_exact, view_exact, IsMadeOf}
+use Rattle.adr_view.proofs.RowLemmas.{each_there}
 use Rattle.adr_view.proofs.ListLemmas.{in_map, from_map, in_flat, placed, map_by_place}
 use Rattle.adr_laws.proofs.PortfolioLemmas.{portfolio_whole, rows_in_order}
-use Rattle.adr_view.proofs.ShownLemmas.{view_total, shown_in_order, keys_shown, its_key, view_made}
-use Rattle.adr_view.proofs.ViewLemmas.{from_view}
+use Rattle.adr_view.proofs.ShownLemmas.{view_total, shown_in_order, shown_first, then_reports, then_rollups, keys_shown, its_key, view_made}
+use Rattle.adr_view.proofs.ViewLemmas.{each_rollup, each_shown, from_view}
 
 -- ---- the rows of an event
 
@@ -55,14 +59,24 @@ from_cond false xs x there = absurd (omega (arith, there.1))
 
 -- ---- the view as it is made
 
+-- a row at the key of an event is one of a mark, and none of a report or a roll-up
+of_a_mark : (base : Base) (id : List ℕ) (n : ℕ) (c : Content) → Contains (rows_shown base) (key.Event id n, c) → (e : MirrorKey × Mark) × Contains base.mirror e × Contains (mark_rows base e) (key.Event id n, c)
+of_a_mark base id n c there =
+    All-contains IsOfMark (rows_shown base) (key.Event id n, c)
+    (each_shown base IsOfMark (λ e known. each_there IsOfMark (mark_rows base e) (λ r among is. (e, known, subst (Contains (mark_rows base e)) is among))) (λ r known is. absurd (let no : (report_row r).0 ≡ key.Event id n = ap (λ (r : ViewKey × Content). r.0) is in cc))
+    (λ e known. each_rollup base IsOfMark e (λ event rollup one made is. absurd (let no : key.Rollup e.0.id ≡ key.Event id n = ap (λ (r : ViewKey × Content). r.0) is in cc)))) there refl
+  where
+    IsOfMark : ViewKey × Content → Type 0
+    IsOfMark r = r ≡ (key.Event id n, c) → (e : MirrorKey × Mark) × Contains base.mirror e × Contains (mark_rows base e) (key.Event id n, c)
+
 -- what stands at the key of an event is a row of the mark that its upstream key has
 shown_of_mark : (base : Base) → StandsInOrder base → (id : List ℕ) (n : ℕ) (c : Content) → at view_cmp (key.Event id n) (view base) ≡ Some c
     → (mark : Mark) × (at mirror_cmp (event_key id) base.mirror ≡ Some mark) × Contains (mark_rows base (event_key id, mark)) (key.Event id n, c)
 shown_of_mark base stands id n c found =
-    let e = from_view base (key.Event id n, c) (Contains-from_lookup (tells_apart view_exact) (key.Event id n) c (view base) found) in
-    let its : event_key id ≡ e.0.0 = All-contains (λ r. made_of r.0 ≡ e.0.0) (mark_rows base e.0) (key.Event id n, c) (its_key base e.0) e.2 in
+    let e = of_a_mark base id n c (from_view base (key.Event id n, c) (Contains-from_lookup (tells_apart view_exact) (key.Event id n) c (view base) found)) in
+    let its : e.0.0 ≡ event_key id = All-contains (λ r. IsMadeOf r.0 e.0.0) (mark_rows base e.0) (key.Event id n, c) (its_key base e.0) e.2 in
     let known : at mirror_cmp e.0.0 base.mirror ≡ Some e.0.1 = lookup-from_Contains (eq_by_cmp_equiv key_order) e.0.0 e.0.1 base.mirror (IsDistinct-from_sorted mirror_cmp (keys_of base.mirror) stands.upstream_keys) e.1 in
-    (e.0.1, ap (λ k. at mirror_cmp k base.mirror) its ∙ known, subst (λ k. Contains (mark_rows base (k, e.0.1)) (key.Event id n, c)) (sym its) e.2)
+    (e.0.1, ap (λ k. at mirror_cmp k base.mirror) (sym its) ∙ known, subst (λ k. Contains (mark_rows base (k, e.0.1)) (key.Event id n, c)) its e.2)
 
 -- which is an event's
 live_mark : (base : Base) (id : List ℕ) (r : ViewKey × Content) (mark : Mark) → Contains (mark_rows base (event_key id, mark)) r → (event : EventBody) × (moment : ℕ) × (mark ≡ Live moment (body.Event event))
@@ -95,7 +109,8 @@ module _ (base : Base) (whole : IsWhole base) (stands : StandsInOrder base) wher
     there_shown : (r : ViewKey × Content) → Contains (event_rows base id event) r → Contains (view base) r
     there_shown r there =
         let mark : Mark = Live live.0 (body.Event event) in
-        subst (λ rows. Contains rows r) (sym (view_made base stands)) (in_flat (mark_rows base) base.mirror (event_key id, mark) r (Contains-from_lookup (tells_apart mirror_exact) (event_key id) mark base.mirror live.1) there)
+        let first : Contains (shown_first base) r = in_flat (mark_rows base) base.mirror (event_key id, mark) r (Contains-from_lookup (tells_apart mirror_exact) (event_key id) mark base.mirror live.1) there in
+        subst (λ rows. Contains rows r) (sym (view_made base stands)) (Contains-append_left (shown_first base ++ then_reports base) (then_rollups base) r (Contains-append_left (shown_first base) (then_reports base) r first))
 
     -- and no others
     shown_there : (n : ℕ) (c : Content) → at view_cmp (key.Event id n) (view base) ≡ Some c → Contains (rows_for id event ps) (key.Event id n, c)

@@ -22,7 +22,7 @@ change_joins (ChangePortfolio change) base = refl
 -- and so does each step with what its command tells, where it was accepted
 step_joins : (settings : Settings) (s : State) (c : ℕ × Command) → (state_after s (step_at settings s c)).base.mirror ≡ joined s.base.mirror (accepted_in (step_at settings s c) c.1)
 step_joins settings s c =
-    after_step settings s c (λ r. (state_after s r).base.mirror ≡ joined s.base.mirror (accepted_in r c.1)) (λ refusal. refl) (λ d fits. change_joins d.change s.base ∙ ap (joined s.base.mirror) fits.tells)
+    after_step settings s c (λ r. (state_after s r).base.mirror ≡ joined s.base.mirror (accepted_in r c.1)) (λ refusal. refl) (λ d a fits answered. change_joins d.change s.base ∙ ap (joined s.base.mirror) fits.tells)
 
 -- the mirror after a run is the one before, joined with all accepted evidence
 run_joins : (settings : Settings) (s : State) (cs : List (ℕ × Command)) → (state_of (step_at settings) s cs).base.mirror ≡ joined s.base.mirror (accepted_evidence settings s cs)

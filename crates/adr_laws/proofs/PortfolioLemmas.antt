@@ -130,7 +130,7 @@ module _ (first : Base) where
 
   run_whole : (settings : Settings) (s : State) (cs : List (ℕ × Command)) → Whole s.base → Whole (state_of (step_at settings) s cs).base
   run_whole settings =
-      run_keeps (step_at settings) (λ s. Whole s.base) (λ s c h. after_step settings s c (λ r. Whole (state_after s r).base) (λ refusal. h) (λ d fits. base_whole (draws_number c.1) s.base d.change fits.fits h))
+      run_keeps (step_at settings) (λ s. Whole s.base) (λ s c h. after_step settings s c (λ r. Whole (state_after s r).base) (λ refusal. h) (λ d a fits answered. base_whole (draws_number c.1) s.base d.change fits.fits h))
 
 -- the state after a run from an empty start
 abbrev after : Settings → List (ℕ × Command) → State
@@ -158,7 +158,9 @@ portfolio_whole settings cs =
     }
 
 pub rows_in_order : RowsStandInOrder
-rows_in_order settings cs = record { upstream_keys = mirror_in_order settings cs; resources = (whole_after settings cs).0.others.in_order }
+rows_in_order settings cs =
+    let h : Whole empty.base (after settings cs).base = whole_after settings cs in
+    record { upstream_keys = mirror_in_order settings cs; resources = h.0.others.in_order; reports = h.2.own.in_order }
 
 pub numbers_own : NumbersAreOwn
 numbers_own settings cs =

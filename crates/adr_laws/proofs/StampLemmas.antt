@@ -5,7 +5,8 @@ use Rattle.adr_laws.proofs.Common.{All, AllByRecursion, IsStrictlySortedBy, IsNo
 use Rattle.adr_objects.specs.declared.shown.Stamps.{Stamps}
 use Rattle.adr_state.specs.declared.keys.ViewKey.{ViewKey}
 use Rattle.adr_view.specs.declared.view.Content.{Content}
-use Rattle.adr_view.specs.Changes.{is_same_content, stamps_by, stamps_for, restamped}
+use Rattle.adr_view.specs.Changes.{stamps_by, stamps_for, restamped}
+use Rattle.adr_view.specs.Same.{is_same_content}
 use Rattle.adr_view.specs.Views.{view}
 use Rattle.adr_laws.specs.Standing.{state_of}
 use Rattle.adr_laws.specs.Laws.{StampsAreOfTheView, StampsAreInTime}
@@ -35,7 +36,7 @@ nothing_stamped = refl
 
 run_stamps : (settings : Settings) (cs : List (ℕ × Command)) → IsStamped (state_of (step_at settings) empty cs)
 run_stamps settings cs =
-    run_keeps (step_at settings) IsStamped (λ s c h. after_step settings s c (λ r. IsStamped (state_after s r)) (λ refusal. h) (λ d fits. ap keys_of (stamped s.stamps (view s.base) _ c.0) ∙ keys_stamped s.stamps (view s.base) (view _) c.0)) empty cs nothing_stamped
+    run_keeps (step_at settings) IsStamped (λ s c h. after_step settings s c (λ r. IsStamped (state_after s r)) (λ refusal. h) (λ d a fits answered. ap keys_of (stamped s.stamps (view s.base) _ c.0) ∙ keys_stamped s.stamps (view s.base) (view _) c.0)) empty cs nothing_stamped
 
 pub stamps_of_view : StampsAreOfTheView
 stamps_of_view settings cs =
@@ -80,7 +81,7 @@ restamped_in_time last now stamps before after passed h = subst (AreInTime now) 
 
 step_in_time : (settings : Settings) (last : ℕ) (s : State) (c : ℕ × Command) → last ≤ c.0 → AreInTime last s.stamps → AreInTime c.0 (state_after s (step_at settings s c)).stamps
 step_in_time settings last s c passed h =
-    after_step settings s c (λ r. AreInTime c.0 (state_after s r).stamps) (λ refusal. All-weaker (IsInTime last) (IsInTime c.0) (later last c.0 passed) (values_of s.stamps) h) (λ d fits. restamped_in_time last c.0 s.stamps (view s.base) _ passed h)
+    after_step settings s c (λ r. AreInTime c.0 (state_after s r).stamps) (λ refusal. All-weaker (IsInTime last) (IsInTime c.0) (later last c.0 passed) (values_of s.stamps) h) (λ d a fits answered. restamped_in_time last c.0 s.stamps (view s.base) _ passed h)
 
 -- the moments of commands
 abbrev moments : List (ℕ × Command) → List ℕ

@@ -1,5 +1,5 @@
 -- Laws over whole runs.
-use Rattle.std.specs.Prelude.{◌≡◌, ◌≢◌, ◌≤◌, ℕ, false, List, [], ◌∷◌, ◌++◌, map, filter, Option, Some, IsSome, Result, Ok, Err}
+use Rattle.std.specs.Prelude.{◌≡◌, ◌≢◌, ◌≤◌, ℕ, true, false, List, [], ◌∷◌, ◌++◌, map, filter, Option, Some, IsSome, Result, Ok, Err}
 use Rattle.std.specs.List.{All, AllPairs, AllZip, Contains}
 use Rattle.std.specs.List.Sorted.{IsStrictlySortedBy, IsNonDecreasing}
 use Rattle.std.specs.Map.{keys_of, values_of}
@@ -32,14 +32,14 @@ use Rattle.adr_view.specs.Laws.{StandsInOrder}
 use Rattle.adr_machine.specs.declared.answer.Answer.{Answer}
 use Rattle.adr_machine.specs.declared.command.Command.{Command}
 use Rattle.adr_machine.specs.declared.command.Command.TheVariants.{Evidence, Gone}
-use Rattle.adr_machine.specs.declared.sight.Sight.{Sight}
+use Rattle.adr_view.specs.declared.sight.Sight.{Sight}
 use Rattle.adr_machine.specs.Runs.{state_after, stands, step_at, IsRun}
 use Rattle.adr_machine.specs.declared.answer.Object.{Object}
 use Rattle.adr_machine.specs.Shown.{rows_in_sight, objects_in_sight, object_shown}
 use Rattle.adr_laws.specs.Enrolled.{enrolled}
 use Rattle.adr_laws.specs.ShownParts.{IsLive, IsSharedOut}
 use Rattle.adr_laws.specs.Standing.{answers_of, state_of, standing}
-use Rattle.adr_laws.specs.Told.{Tells}
+use Rattle.adr_laws.specs.Told.{Tells, is_object}
 
 -- what a command tells of upstream keys
 abbrev pub evidence_in : Command → List (MirrorKey × Mark)
@@ -103,7 +103,7 @@ PortfolioIsWhole = (settings : Settings) (cs : List (ℕ × Command)) → IsWhol
 
 -- ---- the order of rows
 
--- after any run from an empty start, upstream keys and resources stand in their order, each once
+-- after any run from an empty start, upstream keys, resources and reports stand in their order, each once
 abbrev pub RowsStandInOrder : Type 0
 RowsStandInOrder = (settings : Settings) (cs : List (ℕ × Command)) → StandsInOrder (state_of (step_at settings) empty cs).base
 
@@ -183,9 +183,9 @@ StampsAreInTime = (settings : Settings) (cs : List (ℕ × Command)) → IsNonDe
 abbrev pub ObjectsLackNone : Type 0
 ObjectsLackNone = (s : State) (kind : Kind) (sight : Sight) → IsStampedAsShown s → AllZip (Tells s.stamps) (rows_in_sight s.base kind sight) (objects_in_sight s kind sight)
 
--- and what stands at a key is told: it never counts as not there for want of stamps
+-- and what stands at a key is told, but for roll-ups, which are no objects: it never counts as not there for want of stamps
 abbrev pub ShownIsTold : Type 0
-ShownIsTold = (s : State) (key : ViewKey) (c : Content) → IsStampedAsShown s → at view_cmp key (view s.base) ≡ Some c → (o : Object) × (object_shown s key ≡ Some o) × Tells s.stamps (key, c) o
+ShownIsTold = (s : State) (key : ViewKey) (c : Content) → IsStampedAsShown s → is_object key ≡ true → at view_cmp key (view s.base) ≡ Some c → (o : Object) × (object_shown s key ≡ Some o) × Tells s.stamps (key, c) o
 
 -- ---- runs over desks
 

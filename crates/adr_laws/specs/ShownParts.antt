@@ -19,7 +19,7 @@ use Rattle.adr_laws.specs.Enrolled.{enrolled, enrolled_numbers, enrolled_weights
 -- the part that an event shows in the interval at a place
 abbrev pub part_in : ℕ → Content → Option ℤ
 part_in place (content.Event shown) = option_and_then (λ i. i.part) (slice_get shown.intervals place)
-part_in place (content.Program name) = None
+part_in place _ = None
 
 -- the part that a resource is shown of an event in the interval at a place, where it is shown one
 abbrev pub part_shown : List (ViewKey × Content) → List ℕ → ℕ → ℕ → Option ℤ

@@ -1,5 +1,5 @@
 -- What an object tells of what is shown.
-use Rattle.std.specs.Prelude.{◌≡◌, List, Some}
+use Rattle.std.specs.Prelude.{◌≡◌, Bool, true, false, List, Some}
 use Rattle.adr_objects.specs.declared.shown.Stamps.{Stamps}
 use Rattle.adr_state.specs.declared.keys.ViewKey.{ViewKey}
 use Rattle.adr_state.specs.declared.keys.ViewKey.TheVariants as key
@@ -14,4 +14,10 @@ abbrev pub Tells : List (ViewKey × Stamps) → ViewKey × Content → Object �
 Tells stamps (key.Program id, content.Program name) told = (s : Stamps) × (at view_cmp (key.Program id) stamps ≡ Some s) × (told ≡ object.Program (record { id = id; name = name; stamps = s }))
 Tells stamps (key.Event event resource, content.Event shown) told =
     (s : Stamps) × (at view_cmp (key.Event event resource) stamps ≡ Some s) × (told ≡ object.Event (record { resource = resource; event = event; shown = shown; stamps = s }))
+Tells stamps (key.Report n, content.Report body) told = (s : Stamps) × (at view_cmp (key.Report n) stamps ≡ Some s) × (told ≡ object.Report (record { number = n; body = body; stamps = s }))
 Tells stamps _ told = ⊥
+
+-- whether what stands at a key is told as an object, as all but a roll-up is
+abbrev pub is_object : ViewKey → Bool
+is_object (key.Rollup id) = false
+is_object _ = true

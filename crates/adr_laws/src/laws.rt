@@ -15,7 +15,7 @@ pub fn portfolio_is_whole()
 {}
 
 /// After any run from an empty start, the upstream keys stand in their order, each once, and so do the
-/// resources in that of their numbers.
+/// resources and the reports in that of their numbers.
 pub fn rows_stand_in_order()
     ensures { RowsStandInOrder }
 {}
@@ -56,7 +56,8 @@ pub fn stamps_are_of_the_view()
 {}
 
 /// Where what is shown is stamped, the programs and the events in sight are exactly those at all their keys that
-/// are in sight, in order, each with its stamps; and what is shown at a key is told, and never as if it were not there.
+/// are in sight, in order, each with its stamps; and what is shown at a key is told, and never as if it were not there,
+/// but for roll-ups, which are no objects and are told without stamps.
 pub fn objects_lack_none()
     ensures listed { ObjectsLackNone }
     ensures one { ShownIsTold }
