@@ -85,7 +85,7 @@ pub record IsGone (base : Base) (d : Decision) : Type 0 where
   pub was_there : at nat_cmp number base.portfolio.reports ≡ Some report
   pub puts_none : puts_in d.change ≡ []
 
-abbrev IsOther : Outcome → Type 0
+abbrev pub IsOther : Outcome → Type 0
 IsOther (outcome.ReportKept n body) = ⊥
 IsOther (outcome.ReportGone n body) = ⊥
 IsOther _ = Unit {0}

@@ -8,6 +8,7 @@ pub mod Decisions
 pub mod MirrorLemmas
 pub mod PortfolioLemmas
 pub mod StampLemmas
+pub mod AnswerLemmas
 pub mod EnrolledLemmas
 pub mod EventLemmas
 pub mod SightLemmas

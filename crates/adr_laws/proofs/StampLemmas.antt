@@ -27,6 +27,10 @@ unfolding restamped
 stamped stamps before after now =
     made_in_order view_total (map (stamps_for stamps before now) (view after)) (subst (IsStrictlySortedBy view_cmp) (sym (keys_stamped stamps before (view after) now)) (shown_in_order after))
 
+-- so the stamps after a change have the keys of what is shown then
+pub keys_restamped : (stamps : List (ViewKey × Stamps)) (before : List (ViewKey × Content)) (after : Base) (now : ℕ) → keys_of (restamped stamps before (view after) now) ≡ keys_of (view after)
+keys_restamped stamps before after now = ap keys_of (stamped stamps before after now) ∙ keys_stamped stamps before (view after) now
+
 abbrev IsStamped : State → Type 0
 IsStamped s = keys_of s.stamps ≡ keys_of (view s.base)
 
@@ -36,7 +40,7 @@ nothing_stamped = refl
 
 run_stamps : (settings : Settings) (cs : List (ℕ × Command)) → IsStamped (state_of (step_at settings) empty cs)
 run_stamps settings cs =
-    run_keeps (step_at settings) IsStamped (λ s c h. after_step settings s c (λ r. IsStamped (state_after s r)) (λ refusal. h) (λ d a fits answered. ap keys_of (stamped s.stamps (view s.base) _ c.0) ∙ keys_stamped s.stamps (view s.base) (view _) c.0)) empty cs nothing_stamped
+    run_keeps (step_at settings) IsStamped (λ s c h. after_step settings s c (λ r. IsStamped (state_after s r)) (λ refusal. h) (λ d a fits answered. keys_restamped s.stamps (view s.base) _ c.0)) empty cs nothing_stamped
 
 pub stamps_of_view : StampsAreOfTheView
 stamps_of_view settings cs =

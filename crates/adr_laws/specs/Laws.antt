@@ -1,5 +1,5 @@
 -- Laws over whole runs.
-use Rattle.std.specs.Prelude.{◌≡◌, ◌≢◌, ◌≤◌, ℕ, true, false, List, [], ◌∷◌, ◌++◌, map, filter, Option, Some, IsSome, Result, Ok, Err}
+use Rattle.std.specs.Prelude.{◌≡◌, ◌≢◌, ◌≤◌, ℕ, true, false, List, [], ◌∷◌, ◌++◌, map, filter, Option, Some, IsSome, Result, Ok, Err, IfOk, IsOk}
 use Rattle.std.specs.List.{All, AllPairs, AllZip, Contains}
 use Rattle.std.specs.List.Sorted.{IsStrictlySortedBy, IsNonDecreasing}
 use Rattle.std.specs.Map.{keys_of, values_of}
@@ -34,6 +34,8 @@ use Rattle.adr_machine.specs.declared.command.Command.{Command}
 use Rattle.adr_machine.specs.declared.command.Command.TheVariants.{Evidence, Gone}
 use Rattle.adr_view.specs.declared.sight.Sight.{Sight}
 use Rattle.adr_machine.specs.Runs.{state_after, stands, step_at, IsRun}
+use Rattle.adr_machine.specs.Edits.{edit}
+use Rattle.adr_machine.specs.Steps.{committed}
 use Rattle.adr_machine.specs.declared.answer.Object.{Object}
 use Rattle.adr_machine.specs.Shown.{rows_in_sight, objects_in_sight, object_shown}
 use Rattle.adr_laws.specs.Enrolled.{enrolled}
@@ -176,6 +178,17 @@ StampsAreOfTheView = (settings : Settings) (cs : List (ℕ × Command)) → IsSt
 -- and where no command comes at a moment before that of an earlier one, nothing that is shown was modified before it was created
 abbrev pub StampsAreInTime : Type 0
 StampsAreInTime = (settings : Settings) (cs : List (ℕ × Command)) → IsNonDecreasing (map (λ c. c.0) cs) → All (λ stamps. stamps.created ≤ stamps.modified) (values_of (state_of (step_at settings) empty cs).stamps)
+
+-- ---- what is accepted is answered
+
+-- where what is shown is stamped and rows stand in order, a command whose edit is accepted is answered: a report that is told has its stamps
+abbrev pub ReportsAreAnswered : Type 0
+ReportsAreAnswered = (settings : Settings) (s : State) (c : ℕ × Command) → IsStampedAsShown s → StandsInOrder s.base → IfOk (edit settings.limits c.0 s.base c.1) (λ e. IsOk (committed s c.0 e.0 e.1))
+
+-- so it is after any run from an empty start
+abbrev pub ReportsAreAnsweredAfterRuns : Type 0
+ReportsAreAnsweredAfterRuns = (settings : Settings) (cs : List (ℕ × Command)) (c : ℕ × Command) →
+    IfOk (edit settings.limits c.0 (state_of (step_at settings) empty cs).base c.1) (λ e. IsOk (committed (state_of (step_at settings) empty cs) c.0 e.0 e.1))
 
 -- ---- programs and events in sight
 

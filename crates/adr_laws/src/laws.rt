@@ -1,5 +1,5 @@
 //! Laws over whole runs.
-ghost use Rattle.adr_laws.specs.Laws.{MirrorIsGreatest, PortfolioIsWhole, RowsStandInOrder, ParticipantsLackNone, ShownPartsSumUp, ShownPartsSumUpAfterRuns, OnlyLiveEventsAreShown, ObjectsLackNone, ShownIsTold, NumbersAreOwn, RevisionsAreOwn, NumbersAreDrawnOnce, StampsAreOfTheView, StampsAreInTime, RunsAreOfTheStepsThatStand};
+ghost use Rattle.adr_laws.specs.Laws.{MirrorIsGreatest, PortfolioIsWhole, RowsStandInOrder, ParticipantsLackNone, ShownPartsSumUp, ShownPartsSumUpAfterRuns, OnlyLiveEventsAreShown, ObjectsLackNone, ShownIsTold, ReportsAreAnswered, ReportsAreAnsweredAfterRuns, NumbersAreOwn, RevisionsAreOwn, NumbersAreDrawnOnce, StampsAreOfTheView, StampsAreInTime, RunsAreOfTheStepsThatStand};
 
 /// After any run from an empty start, the mirror at a key is the greatest mark in all accepted evidence
 /// for it, whatever was lost, repeated or reordered.
@@ -61,6 +61,13 @@ pub fn stamps_are_of_the_view()
 pub fn objects_lack_none()
     ensures listed { ObjectsLackNone }
     ensures one { ShownIsTold }
+{}
+
+/// Where what is shown is stamped and rows stand in order, a command whose edit is accepted is answered: no report
+/// that is kept or that goes is refused for want of stamps. So it is after any run from an empty start.
+pub fn reports_are_answered()
+    ensures state { ReportsAreAnswered }
+    ensures run { ReportsAreAnsweredAfterRuns }
 {}
 
 /// Of whatever a run over a desk answers, the answers that stand are the machine's over the commands that
