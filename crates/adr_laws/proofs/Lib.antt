@@ -12,3 +12,6 @@ pub mod AnswerLemmas
 pub mod EnrolledLemmas
 pub mod EventLemmas
 pub mod SightLemmas
+pub mod LastLemmas
+pub mod WrittenLemmas
+pub mod CountedLemmas

@@ -1,7 +1,7 @@
 -- The numbers and the names of vens, of resources and of reports: each row has its own after a put, and where only some are left.
 use Rattle.std.proofs.Common.{◌≡◌, ℕ, suc, ◌+◌, ◌≤◌, Bool, true, false, List, [], ◌∷◌, ◌++◌, ◌⊎◌, inl, inr, sym, ap, subst, ◌∙◌, arith}
 use Rattle.std.specs.Prelude.{◌≢◌, IsSome}
-use Rattle.adr_laws.proofs.Common.{All, AllPairs, Contains, nat_cmp, keys_of, insert_entry, unsigned_Decides, unsigned_tied, nat_cmp_total, All-head, All-tail, All-append, All-map, All-contains, All-contains_itself, IsDistinct-from_sorted, exact_unsigned, at}
+use Rattle.adr_laws.proofs.Common.{All, AllPairs, Contains, nat_cmp, keys_of, insert_entry, unsigned_Decides, unsigned_tied, nat_cmp_total, All-head, All-tail, All-append, All-map, All-contains, All-contains_itself, IsDistinct-from_sorted, exact_unsigned, at, IsStrictlySortedBy}
 use Rattle.std.proofs.lemmas.Bool.Decides.{Decides-at}
 use Rattle.std.proofs.lemmas.List.Kept.{AllPairs-cons}
 use Rattle.std.proofs.lemmas.Map.Made.{AllPairs-from_IsDistinct}
@@ -140,9 +140,13 @@ module _ {V W : Type 0} {name_v : V → List ℕ} {name_w : W → List ℕ} {fir
 pub each_number : {V : Type 0} (P : ℕ → Type 0) (rows : List (ℕ × V)) → ((r : ℕ × V) → Contains rows r → P r.0) → All P (keys_of rows)
 each_number P rows h = All-map P (λ r. r.0) rows (each_there (λ r. P r.0) rows h)
 
+-- numbers in order, each once
+pub numbers_apart : (ns : List ℕ) → IsStrictlySortedBy nat_cmp ns → AllPairs (λ m n. m ≢ n) ns
+numbers_apart ns ordered = AllPairs-from_IsDistinct (λ m n. Decides-at _ _ (unsigned_tied m n) (unsigned_Decides m n)) ns (IsDistinct-from_sorted nat_cmp ns ordered)
+
 -- the numbers of rows in order
 pub rows_differ : {V : Type 0} (rows : List (ℕ × V)) → InOrder nat_cmp rows → AllPairs (λ m n. m ≢ n) (keys_of rows)
-rows_differ rows ordered = AllPairs-from_IsDistinct (λ m n. Decides-at _ _ (unsigned_tied m n) (unsigned_Decides m n)) (keys_of rows) (IsDistinct-from_sorted nat_cmp (keys_of rows) ordered)
+rows_differ rows ordered = numbers_apart (keys_of rows) ordered
 
 -- the first of them is none of those behind it, and of those no two are one
 behind : (m : ℕ) (ms : List ℕ) → AllPairs (λ m n. m ≢ n) (m ∷ ms) → All (λ n. m ≢ n) ms

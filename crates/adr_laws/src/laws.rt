@@ -1,5 +1,6 @@
 //! Laws over whole runs.
 ghost use Rattle.adr_laws.specs.Laws.{MirrorIsGreatest, PortfolioIsWhole, RowsStandInOrder, ParticipantsLackNone, ShownPartsSumUp, ShownPartsSumUpAfterRuns, OnlyLiveEventsAreShown, ObjectsLackNone, ShownIsTold, ReportsAreAnswered, ReportsAreAnsweredAfterRuns, NumbersAreOwn, RevisionsAreOwn, NumbersAreDrawnOnce, StampsAreOfTheView, StampsAreInTime, RunsAreOfTheStepsThatStand};
+ghost use Rattle.adr_laws.specs.Reported.{ReportsAreLastWritten, LatestIsLastReported, RollupsAreOfTheLast};
 
 /// After any run from an empty start, the mirror at a key is the greatest mark in all accepted evidence
 /// for it, whatever was lost, repeated or reordered.
@@ -68,6 +69,18 @@ pub fn objects_lack_none()
 pub fn reports_are_answered()
     ensures state { ReportsAreAnswered }
     ensures run { ReportsAreAnsweredAfterRuns }
+{}
+
+/// After any run from an empty start, each report that is there says what was posted or replaced last under its
+/// number. The value that counts for an upstream event, a participant and an interval is that of the report that was
+/// posted or replaced last, of those that are there still as they were written and have a value for it; where none of
+/// them has one, none counts. So a report that was replaced or removed counts no more, the order is that in which
+/// posts and replacements were accepted, and each interval of a roll-up that is shown is the sum of these values, one
+/// at most of each participant, and names the participants that have none.
+pub fn the_last_reported_counts()
+    ensures reports { ReportsAreLastWritten }
+    ensures values { LatestIsLastReported }
+    ensures rollups { RollupsAreOfTheLast }
 {}
 
 /// Of whatever a run over a desk answers, the answers that stand are the machine's over the commands that
