@@ -1,11 +1,12 @@
 -- What is accepted is answered: a report that is kept stands in the view after, and one that goes stood in the view before, so each has its stamps.
-use Rattle.std.proofs.Common.{◌≡◌, ℕ, List, Some, None, Result, Ok, Err, refl, sym, ap, subst, ◌∙◌}
+use Rattle.std.proofs.Common.{◌≡◌, ℕ, ◌+◌, List, Some, None, Result, Ok, Err, refl, sym, ap, subst, ◌∙◌}
 use Rattle.std.specs.Prelude.{IsSome, IsOk, IfOk, option_map}
 use Rattle.std.proofs.lemmas.Cmp.{tied_itself}
 use Rattle.std.proofs.lemmas.Map.Views.{IsSome-lookup_from_Contains}
 use Rattle.adr_laws.proofs.Common.{Contains, Contains-from_lookup, false≢true, keys_of, eq_by_cmp_equiv, nat_cmp, nat_cmp_total, tells_apart, Base, State, BaseChange, ChangePortfolio, changed, Command, Refusal, view_cmp, at, empty, step_at}
 use Rattle.adr_text.specs.Refusals.{◌>>=◌}
 use Rattle.adr_objects.specs.declared.report.ReportBody.{ReportBody}
+use Rattle.adr_objects.specs.declared.site.ReportIn.{ReportIn}
 use Rattle.adr_objects.specs.declared.shown.Stamps.{Stamps}
 use Rattle.adr_state.specs.declared.keys.ViewKey.{ViewKey}
 use Rattle.adr_state.specs.declared.keys.ViewKey.TheVariants as key
@@ -62,7 +63,7 @@ module _ (s : State) (stamped : IsStampedAsShown s) (stands : StandsInOrder s.ba
   other_answered (outcome.ReportGone n body) other = absurd other
 
   -- a report that is kept is there afterwards, where rows stand in order still
-  kept_answered : IsKept d → IsAnswered d.outcome
+  kept_answered : {IsItsNumber : ℕ → Type 0} {sent : ReportIn} → IsKept s.base IsItsNumber sent d → IsAnswered d.outcome
   kept_answered k =
       let n = k.number in
       let put : BaseChange = ChangePortfolio (PutReport n k.report) in
@@ -74,13 +75,13 @@ module _ (s : State) (stamped : IsStampedAsShown s) (stands : StandsInOrder s.ba
       subst IsAnswered (sym k.comes) (is_told (restamped_by s c.0 after).1 n k.report.body (report_stamped after (restamped_by s c.0 after).1 (keys_restamped s.stamps (view s.base) after c.0) then_stands n k.report there))
 
   -- one that goes was there
-  gone_answered : IsGone s.base d → IsAnswered d.outcome
+  gone_answered : {id : List ℕ} → IsGone s.base id d → IsAnswered d.outcome
   gone_answered g = subst IsAnswered (sym g.comes) (is_told s.stamps g.number g.report.body (report_stamped s.base s.stamps stamped.those_of_the_view stands g.number g.report g.was_there))
 
   plain_answered : IsPlain d → IsAnswered d.outcome
   plain_answered p = other_answered d.outcome p.comes
 
-  by_command : (command : Command) → Comes s.base command d → IsAnswered d.outcome
+  by_command : (command : Command) → Comes (s.base.serial + 1) s.base command d → IsAnswered d.outcome
   by_command (Evidence founds polled) comes = plain_answered comes
   by_command (Gone kind id) comes = plain_answered comes
   by_command ScanBegin comes = plain_answered comes

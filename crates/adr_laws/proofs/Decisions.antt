@@ -17,7 +17,7 @@ use Rattle.adr_state.specs.Digits.{number_in}
 use Rattle.adr_state.specs.Mirror.{evidence_of, joined}
 use Rattle.adr_state.specs.Weights.{most_weight}
 use Rattle.adr_state.specs.Stamping.{fresh, modified_at}
-use Rattle.adr_state.specs.Portfolios.{PortfolioChange, PutVen, PutResource, PutShare, DropShare, PutReport}
+use Rattle.adr_state.specs.Portfolios.{PortfolioChange, PutVen, PutResource, PutShare, DropShare, PutReport, DropReport}
 use Rattle.adr_state.specs.Evidence.{adds_beyond, joining, scan_with, open_scan, scan_end}
 use Rattle.adr_state.specs.Vens.{ven_with_id, ven_at, putting_ven}
 use Rattle.adr_state.specs.Resources.{resource_with_id, resource_at, is_under, resource_under, putting_resource}
@@ -38,6 +38,7 @@ use Rattle.adr_state.specs.Serials.{drawn}
 use Rattle.adr_machine.specs.Edits.{Decision, is_allowed, counted, of_portfolio, report_kept, report_gone, draws_number, decided, numbered, edit_of, edit}
 use Rattle.adr_machine.specs.Steps.{answered_by}
 use Rattle.adr_machine.specs.Steps.{changed as restamped_by, committed}
+use Rattle.adr_laws.specs.Reported.{SaysAsSent}
 use Rattle.adr_laws.specs.Laws.{HasVen, HasResource, evidence_in, HasWeight, HasReported}
 use Rattle.adr_laws.proofs.EditLemmas.{tested, first_then, found_then, new_then, free_then, whatever}
 use Rattle.adr_laws.proofs.NameLemmas.{Free, free_new, free_again}
@@ -72,18 +73,21 @@ puts_in (ChangePortfolio change) = puts_of change
 puts_in _ = []
 
 -- a report is put, and is what comes of it; one that is there goes, and is that; or nothing comes of reports
-pub record IsKept (d : Decision) : Type 0 where
+pub record IsKept (base : Base) (IsItsNumber : ℕ → Type 0) (sent : ReportIn) (d : Decision) : Type 0 where
   pub number : ℕ
   pub report : Report
   pub comes : d.outcome ≡ outcome.ReportKept number report.body
   pub puts : d.change ≡ ChangePortfolio (PutReport number report)
+  pub is_its_number : IsItsNumber number
+  pub as_sent : SaysAsSent base sent report.body
 
-pub record IsGone (base : Base) (d : Decision) : Type 0 where
+pub record IsGone (base : Base) (id : List ℕ) (d : Decision) : Type 0 where
   pub number : ℕ
   pub report : Report
   pub comes : d.outcome ≡ outcome.ReportGone number report.body
+  pub goes : d.change ≡ ChangePortfolio (DropReport number)
+  pub is_its_number : number_in 112 id ≡ Some number
   pub was_there : at nat_cmp number base.portfolio.reports ≡ Some report
-  pub puts_none : puts_in d.change ≡ []
 
 abbrev pub IsOther : Outcome → Type 0
 IsOther (outcome.ReportKept n body) = ⊥
@@ -95,11 +99,11 @@ pub record IsPlain (d : Decision) : Type 0 where
   pub puts_none : puts_in d.change ≡ []
 
 -- what comes of a command, by whether it is one of reports
-abbrev pub Comes : Base → Command → Decision → Type 0
-Comes base (ReportPost role report) d = IsKept d
-Comes base (ReportPut role id report) d = IsKept d
-Comes base (ReportDelete role id) d = IsGone base d
-Comes base _ d = IsPlain d
+abbrev pub Comes : ℕ → Base → Command → Decision → Type 0
+Comes next base (ReportPost role sent) d = IsKept base (λ n. n ≡ next) sent d
+Comes next base (ReportPut role id sent) d = IsKept base (λ n. number_in 112 id ≡ Some n) sent d
+Comes next base (ReportDelete role id) d = IsGone base id d
+Comes next base _ d = IsPlain d
 
 pub record Fits (next : ℕ) (draws : Bool) (base : Base) (marks : List (MirrorKey × Mark)) (Is : Decision → Type 0) (d : Decision) : Type 0 where
   pub fits : FitsBase next draws base d.change
@@ -108,7 +112,7 @@ pub record Fits (next : ℕ) (draws : Bool) (base : Base) (marks : List (MirrorK
 
 -- of a command
 abbrev pub FitsCommand : Base → Command → Decision → Type 0
-FitsCommand base c = Fits (base.serial + 1) (draws_number c) base (evidence_in c) (Comes base c)
+FitsCommand base c = Fits (base.serial + 1) (draws_number c) base (evidence_in c) (Comes (base.serial + 1) base c)
 
 -- ---- what an id names is there
 
@@ -153,15 +157,23 @@ under_there ven id p =
     (λ r there under. (there, owner_there p.vens r.1.ven (ven_at ven p) (number_there p.vens (ven_with_id ven p) (ven_there ven p)) under))
 
 -- the report of an id
-report_there : (id : List ℕ) (p : Portfolio) → IfSome (report_with_id id p) (λ r. at nat_cmp r.0 p.reports ≡ Some r.1)
-report_there id p = by (number_in 112 id)
+abbrev IsReportOf : List ℕ → Portfolio → ℕ × Report → Type 0
+IsReportOf id p r = (number_in 112 id ≡ Some r.0) × (at nat_cmp r.0 p.reports ≡ Some r.1)
+
+report_there : (id : List ℕ) (p : Portfolio) → IfSome (report_with_id id p) (IsReportOf id p)
+report_there id p = by (number_in 112 id) refl
   where
-    by : (o : Option ℕ) → IfSome {T = ℕ × Report} (option_and_then (λ n. option_map (λ r. (n, r)) (at nat_cmp n p.reports)) o) (λ r. at nat_cmp r.0 p.reports ≡ Some r.1)
-    by None = tt
-    by (Some n) = elim (at nat_cmp n p.reports) as (λ o. at nat_cmp n p.reports ≡ o → IfSome {T = ℕ × Report} (option_map (λ r. (n, r)) o) (λ r. at nat_cmp r.0 p.reports ≡ Some r.1)) [
+    by : (o : Option ℕ) → number_in 112 id ≡ o → IfSome {T = ℕ × Report} (option_and_then (λ n. option_map (λ r. (n, r)) (at nat_cmp n p.reports)) o) (IsReportOf id p)
+    by None number = tt
+    by (Some n) number = elim (at nat_cmp n p.reports) as (λ o. at nat_cmp n p.reports ≡ o → IfSome {T = ℕ × Report} (option_map (λ r. (n, r)) o) (IsReportOf id p)) [
       | None ↦ λ is. tt
-      | Some r ↦ λ is. is
+      | Some r ↦ λ is. (number, is)
     ] refl
+
+-- what is there is that
+itself : {A : Type 0} (P : A → Type 0) (o : Option A) → IfSome o P → IfSome o (λ x. (o ≡ Some x) × P x)
+itself P None h = tt
+itself P (Some x) h = (refl, h)
 
 -- the resource of what a report is on
 reported_there : (mirror : List (MirrorKey × Mark)) (p : Portfolio) (id : List ℕ) → IfSome (reported mirror p id) (λ on. IsFound p.resources on.resource)
@@ -209,47 +221,62 @@ module _ (limits : Limits) (now next : ℕ) (base : Base) where
   abbrev Draws : {A : Type 0} → Bool → A × PortfolioChange → Type 0
   Draws draws d = FitsPortfolio next draws base.portfolio d.1 × (puts_of d.1 ≡ [])
 
-  -- a report is kept, and one goes
-  abbrev Keeps : (ℕ × Report) × PortfolioChange → Type 0
-  Keeps d = FitsPortfolio next true base.portfolio d.1 × (d.1 ≡ PutReport d.0.0 d.0.1)
+  -- a report is kept as it was sent, and one goes
+  abbrev Keeps : (ℕ → Type 0) → ReportIn → (ℕ × Report) × PortfolioChange → Type 0
+  Keeps IsItsNumber sent d = FitsPortfolio next true base.portfolio d.1 × (d.1 ≡ PutReport d.0.0 d.0.1) × IsItsNumber d.0.0 × SaysAsSent base sent d.0.1.body
 
-  kept_fits : (r : Result ((ℕ × Report) × PortfolioChange) Refusal) → IfOk r Keeps → IfOk (of_portfolio report_kept r) (Fits next true base [] IsKept)
-  kept_fits (Ok d) h = record {
+  kept_fits : (IsItsNumber : ℕ → Type 0) (sent : ReportIn) (r : Result ((ℕ × Report) × PortfolioChange) Refusal) → IfOk r (Keeps IsItsNumber sent) → IfOk (of_portfolio report_kept r) (Fits next true base [] (IsKept base IsItsNumber sent))
+  kept_fits IsItsNumber sent (Ok d) h = record {
     fits = h.0;
     tells = ap (λ change. marks_in (ChangePortfolio change)) h.1;
-    is = record { number = d.0.0; report = d.0.1; comes = refl; puts = ap (λ change. ChangePortfolio change) h.1 };
+    is = record { number = d.0.0; report = d.0.1; comes = refl; puts = ap (λ change. ChangePortfolio change) h.1; is_its_number = h.2; as_sent = h.3 };
   }
-  kept_fits (Err e) h = tt
+  kept_fits IsItsNumber sent (Err e) h = tt
 
-  abbrev Goes : (ℕ × Report) × PortfolioChange → Type 0
-  Goes d = (at nat_cmp d.0.0 base.portfolio.reports ≡ Some d.0.1) × FitsPortfolio next false base.portfolio d.1 × (puts_of d.1 ≡ [])
+  abbrev Goes : List ℕ → (ℕ × Report) × PortfolioChange → Type 0
+  Goes id d = IsReportOf id base.portfolio d.0 × FitsPortfolio next false base.portfolio d.1 × (d.1 ≡ DropReport d.0.0)
 
-  gone_fits : (r : Result ((ℕ × Report) × PortfolioChange) Refusal) → IfOk r Goes → IfOk (of_portfolio report_gone r) (Fits next false base [] (IsGone base))
-  gone_fits (Ok d) h = record { fits = h.1; tells = refl; is = record { number = d.0.0; report = d.0.1; comes = refl; was_there = h.0; puts_none = h.2 } }
-  gone_fits (Err e) h = tt
+  gone_fits : (id : List ℕ) (r : Result ((ℕ × Report) × PortfolioChange) Refusal) → IfOk r (Goes id) → IfOk (of_portfolio report_gone r) (Fits next false base [] (IsGone base id))
+  gone_fits id (Ok d) h = record {
+    fits = h.1;
+    tells = refl;
+    is = record { number = d.0.0; report = d.0.1; comes = refl; goes = ap (λ change. ChangePortfolio change) h.2; is_its_number = h.0.0; was_there = h.0.1 };
+  }
+  gone_fits id (Err e) h = tt
+
+  -- what a report is on that was sent
+  abbrev IsOn : ReportIn → Reported → Type 0
+  IsOn sent on = (reported base.mirror base.portfolio sent.event ≡ Some on) × IsFound base.portfolio.resources on.resource
 
   -- one is put where its number is the next or that of one that is there
-  put_fits : (n : ℕ) (on : Reported) (report : ReportIn) → (n ≡ next) ⊎ IsSome (at nat_cmp n base.portfolio.reports) → IsFound base.portfolio.resources on.resource → Keeps (putting_report n (kept_report next on report))
-  put_fits n on report number found = ((refl, number, found), refl)
+  put_fits : (IsItsNumber : ℕ → Type 0) (n : ℕ) (on : Reported) (sent : ReportIn) → (n ≡ next) ⊎ IsSome (at nat_cmp n base.portfolio.reports) → IsItsNumber n → IsOn sent on → Keeps IsItsNumber sent (putting_report n (kept_report next on sent))
+  put_fits IsItsNumber n on sent number its there = (
+    (refl, number, there.1),
+    refl,
+    its,
+    record { on = on; is_shown = there.0; same_event = refl; same_resource = refl; same_program = refl; same_resource_name = refl; same_client = refl; same_name = refl; same_intervals = refl },
+  )
 
-  on_fits : (report : ReportIn) → IfOk (report_on report base.mirror base.portfolio) (λ on. IsFound base.portfolio.resources on.resource)
-  on_fits report =
-      let found : Reported → Type 0 = λ on. IsFound base.portfolio.resources on.resource in
-      found_then found found refusal.NotFound (reported base.mirror base.portfolio report.event) (λ on. cond (fits on report) (Ok on) (Err refusal.ResourceNotOfEvent)) (reported_there base.mirror base.portfolio report.event)
-      (λ on there. cond_both (fits on report) (Ok on) (Err refusal.ResourceNotOfEvent) (λ r. IfOk r found) (λ named. there) (λ other. tt))
+  on_fits : (sent : ReportIn) → IfOk (report_on sent base.mirror base.portfolio) (IsOn sent)
+  on_fits sent =
+      let shown : Option Reported = reported base.mirror base.portfolio sent.event in
+      found_then (IsOn sent) (IsOn sent) refusal.NotFound shown (λ on. cond (fits on sent) (Ok on) (Err refusal.ResourceNotOfEvent)) (itself (λ on. IsFound base.portfolio.resources on.resource) shown (reported_there base.mirror base.portfolio sent.event))
+      (λ on there. cond_both (fits on sent) (Ok on) (Err refusal.ResourceNotOfEvent) (λ r. IfOk r (IsOn sent)) (λ named. there) (λ other. tt))
 
-  made_fits : (report : ReportIn) → IfOk (report_made limits next report base.mirror base.portfolio) Keeps
-  made_fits report =
-      first_then Keeps (λ on. IsFound base.portfolio.resources on.resource) (report_on report base.mirror base.portfolio) _ (on_fits report)
-      (λ on there. tested Keeps (is_full limits.reports base.portfolio.reports) refusal.LimitReached (Ok (putting_report next (kept_report next on report))) (λ room. put_fits next on report (inl refl) there))
+  made_fits : (sent : ReportIn) → IfOk (report_made limits next sent base.mirror base.portfolio) (Keeps (λ n. n ≡ next) sent)
+  made_fits sent =
+      let keeps = Keeps (λ n. n ≡ next) sent in
+      first_then keeps (IsOn sent) (report_on sent base.mirror base.portfolio) _ (on_fits sent)
+      (λ on there. tested keeps (is_full limits.reports base.portfolio.reports) refusal.LimitReached (Ok (putting_report next (kept_report next on sent))) (λ room. put_fits (λ n. n ≡ next) next on sent (inl refl) refl there))
 
-  replaced_fits : (id : List ℕ) (report : ReportIn) → IfOk (report_replaced next id report base.mirror base.portfolio) Keeps
-  replaced_fits id report =
-      found_then Keeps (λ r. at nat_cmp r.0 base.portfolio.reports ≡ Some r.1) refusal.NotFound (report_with_id id base.portfolio) _ (report_there id base.portfolio) (λ old is.
-      first_then Keeps (λ on. IsFound base.portfolio.resources on.resource) (report_on report base.mirror base.portfolio) _ (on_fits report) (λ on there. put_fits old.0 on report (inr (ap is_some is)) there))
+  replaced_fits : (id : List ℕ) (sent : ReportIn) → IfOk (report_replaced next id sent base.mirror base.portfolio) (Keeps (λ n. number_in 112 id ≡ Some n) sent)
+  replaced_fits id sent =
+      let keeps = Keeps (λ n. number_in 112 id ≡ Some n) sent in
+      found_then keeps (IsReportOf id base.portfolio) refusal.NotFound (report_with_id id base.portfolio) _ (report_there id base.portfolio) (λ old is.
+      first_then keeps (IsOn sent) (report_on sent base.mirror base.portfolio) _ (on_fits sent) (λ on there. put_fits (λ n. number_in 112 id ≡ Some n) old.0 on sent (inr (ap is_some is.1)) is.0 there))
 
-  removed_fits : (id : List ℕ) → IfOk (report_removed id base.portfolio) Goes
-  removed_fits id = found_then Goes (λ r. at nat_cmp r.0 base.portfolio.reports ≡ Some r.1) refusal.NotFound (report_with_id id base.portfolio) _ (report_there id base.portfolio) (λ old is. (is, tt, refl))
+  removed_fits : (id : List ℕ) → IfOk (report_removed id base.portfolio) (Goes id)
+  removed_fits id = found_then (Goes id) (IsReportOf id base.portfolio) refusal.NotFound (report_with_id id base.portfolio) _ (report_there id base.portfolio) (λ old is. (is, tt, refl))
 
   -- by who sees what is reported on
   seen_fits : {A : Type 0} (P : A → Type 0) (sees : Bool) (r : Result A Refusal) → IfOk r P → IfOk (cond sees r (Err refusal.Forbidden)) P
@@ -262,7 +289,7 @@ module _ (limits : Limits) (now next : ℕ) (base : Base) where
       first_then (Draws false) fits (weight_set limits key weight base.portfolio) _
       (cond_both (weight == 0) (Ok (DropShare key)) _ (λ r. IfOk r fits) (λ none. (tt, refl)) (λ some. tested fits (is_beyond limits key base.portfolio.shares) refusal.LimitReached (Ok (PutShare key weight)) (λ room. ((there, has_weight weight some small), refl)))) (λ change h. h))
 
-  pub decided_fits : (c : Command) → IfOk (decided limits now next base c) (Fits next (draws_number c) base (evidence_in c) (Comes base c))
+  pub decided_fits : (c : Command) → IfOk (decided limits now next base c) (Fits next (draws_number c) base (evidence_in c) (Comes next base c))
   decided_fits (Evidence founds polled) = counted_fits (evidence_of founds) _ (joining_fits (evidence_of founds) (scan_with base.scan founds polled))
   decided_fits (Gone kind id) = let marks : List (MirrorKey × Mark) = (record { kind = kind; id = id }, Dead) ∷ [] in counted_fits marks _ (joining_fits marks base.scan)
   decided_fits ScanBegin = record { fits = tt; tells = refl; is = record { comes = tt; puts_none = refl } }
@@ -293,15 +320,17 @@ module _ (limits : Limits) (now next : ℕ) (base : Base) where
       let p = base.portfolio in
       portfolio_fits false _ (λ x. tt) _ (found_then (Draws false) (IsFound p.resources) refusal.NotFound (resource_at resource p) _ (number_there p.resources (resource_with_id resource p) (resource_there resource p)) (λ n there.
       share_fits (record { program = program; resource = n }) share.share there))
-  decided_fits (ReportPost role report) =
-      first_then (Fits next true base [] IsKept) (λ sight. Unit {0}) (sight_of base role) _ (whatever (sight_of base role)) (λ sight h.
-      kept_fits _ (seen_fits Keeps (may_report sight report base.portfolio) (report_made limits next report base.mirror base.portfolio) (made_fits report)))
-  decided_fits (ReportPut role id report) =
-      first_then (Fits next true base [] IsKept) (λ sight. Unit {0}) (sight_of base role) _ (whatever (sight_of base role)) (λ sight h.
-      kept_fits _ (seen_fits Keeps (may_change sight id base.portfolio && may_report sight report base.portfolio) (report_replaced next id report base.mirror base.portfolio) (replaced_fits id report)))
+  decided_fits (ReportPost role sent) =
+      let keeps = Keeps (λ n. n ≡ next) sent in
+      first_then (Fits next true base [] (IsKept base (λ n. n ≡ next) sent)) (λ sight. Unit {0}) (sight_of base role) _ (whatever (sight_of base role)) (λ sight h.
+      kept_fits (λ n. n ≡ next) sent _ (seen_fits keeps (may_report sight sent base.portfolio) (report_made limits next sent base.mirror base.portfolio) (made_fits sent)))
+  decided_fits (ReportPut role id sent) =
+      let keeps = Keeps (λ n. number_in 112 id ≡ Some n) sent in
+      first_then (Fits next true base [] (IsKept base (λ n. number_in 112 id ≡ Some n) sent)) (λ sight. Unit {0}) (sight_of base role) _ (whatever (sight_of base role)) (λ sight h.
+      kept_fits (λ n. number_in 112 id ≡ Some n) sent _ (seen_fits keeps (may_change sight id base.portfolio && may_report sight sent base.portfolio) (report_replaced next id sent base.mirror base.portfolio) (replaced_fits id sent)))
   decided_fits (ReportDelete role id) =
-      first_then (Fits next false base [] (IsGone base)) (λ sight. Unit {0}) (sight_of base role) _ (whatever (sight_of base role)) (λ sight h.
-      gone_fits _ (seen_fits Goes (may_change sight id base.portfolio) (report_removed id base.portfolio) (removed_fits id)))
+      first_then (Fits next false base [] (IsGone base id)) (λ sight. Unit {0}) (sight_of base role) _ (whatever (sight_of base role)) (λ sight h.
+      gone_fits id _ (seen_fits (Goes id) (may_change sight id base.portfolio) (report_removed id base.portfolio) (removed_fits id)))
 
 -- ---- a step
 

@@ -15,3 +15,4 @@ pub mod SightLemmas
 pub mod LastLemmas
 pub mod WrittenLemmas
 pub mod CountedLemmas
+pub mod GoneLemmas

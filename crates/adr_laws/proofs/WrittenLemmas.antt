@@ -1,5 +1,5 @@
 -- What is written in a run: the revisions of all that is written rise, and each report that is there is what was written last under its number.
-use Rattle.std.proofs.Common.{◌≡◌, ℕ, ◌+◌, ◌==◌, ◌≤◌, ◌<◌, Less, Bool, true, false, not, List, [], ◌∷◌, ◌++◌, Some, None, Ok, Err, inl, inr, refl, sym, ap, subst, ◌∙◌, arith}
+use Rattle.std.proofs.Common.{◌≡◌, ℕ, ◌+◌, ◌==◌, ◌≤◌, ◌<◌, Less, Bool, true, false, not, List, [], ◌∷◌, ◌++◌, Some, None, Ok, Err, IfOk, inl, inr, refl, sym, ap, subst, ◌∙◌, arith}
 use Rattle.std.proofs.lemmas.Bool.{eqb-false, lt-ltb}
 use Rattle.std.proofs.lemmas.Cmp.{tied_itself}
 use Rattle.std.proofs.lemmas.Option.{same_Some}
@@ -7,6 +7,7 @@ use Rattle.std.proofs.lemmas.List.{append-nil, append_assoc}
 use Rattle.std.proofs.lemmas.List.Elements.{All-cons, Contains-append_left, Contains-append_right}
 use Rattle.adr_laws.proofs.Common.{All, All-append, All-contains, All-nil, All-weaker, Contains, insert_entry, is_at, nat_cmp, nat_cmp_total, exact_unsigned, map-append, keys_of, values_of, eq_by_cmp_equiv, lookup-from_Contains, IsDistinct-from_sorted, unsigned_Decides, IsStrictlySortedBy, Base, Settings, State, BaseChange, JoinMarks, SetScan, ChangePortfolio, changed, at, empty, view_cmp, Command, state_after, step_at}
 use Rattle.adr_objects.specs.declared.report.ReportBody.{ReportBody}
+use Rattle.adr_objects.specs.declared.site.ReportIn.{ReportIn}
 use Rattle.adr_objects.specs.declared.shown.Stamps.{Stamps}
 use Rattle.adr_state.specs.declared.keys.ViewKey.{ViewKey}
 use Rattle.adr_state.specs.declared.keys.ViewKey.TheVariants as key
@@ -27,7 +28,7 @@ use Rattle.adr_machine.specs.Edits.{Decision, draws_number}
 use Rattle.adr_machine.specs.Shown.{object_at, told}
 use Rattle.adr_machine.specs.Steps.{answered_by}
 use Rattle.adr_machine.specs.Steps.{changed as restamped_by}
-use Rattle.adr_laws.specs.Reported.{report_in, written_by, written_in, written}
+use Rattle.adr_laws.specs.Reported.{report_in, written_by, written_in, written, WritesOne, Writes, ReportsAreWrittenAsSent}
 use Rattle.adr_laws.specs.Standing.{state_of}
 use Rattle.adr_laws.proofs.Decisions.{FitsBase, puts_of, puts_in, IsKept, Comes, base_after, after_step}
 use Rattle.adr_laws.proofs.NumberLemmas.{serial_then, rises}
@@ -131,6 +132,33 @@ kept_told stamps n body a = elim (at view_cmp (key.Report n) stamps) as (λ o. a
       ap report_in (sym same)
 ] refl
 
+-- so what is kept is what is answered
+kept_answer : {IsItsNumber : ℕ → Type 0} {sent : ReportIn} (s : State) (now : ℕ) (d : Decision) (after : Base) (a : Answer) (k : IsKept s.base IsItsNumber sent d) → answered_by d.outcome s.stamps (restamped_by s now after) ≡ Ok a → report_in a ≡ (k.number, k.report.body) ∷ []
+kept_answer s now d after a k is = kept_told (restamped_by s now after).1 k.number k.report.body a (ap (λ comes. answered_by comes s.stamps (restamped_by s now after)) (sym k.comes) ∙ is)
+
+-- as it was sent
+kept_writes : {IsItsNumber : ℕ → Type 0} {sent : ReportIn} (s : State) (now : ℕ) (d : Decision) (after : Base) (a : Answer) → IsKept s.base IsItsNumber sent d → answered_by d.outcome s.stamps (restamped_by s now after) ≡ Ok a → WritesOne s.base IsItsNumber sent (report_in a)
+kept_writes s now d after a k is = record { number = k.number; says = k.report.body; is_that = kept_answer s now d after a k is; is_its_number = k.is_its_number; as_sent = k.as_sent }
+
+pub written_as_sent : ReportsAreWrittenAsSent
+written_as_sent settings s c = after_step settings s c (λ r. IfOk r (λ taken. Writes s.base c.1 (written_by c.1 taken.0))) (λ refusal. tt) (λ d a fits is. by_command d a c.1 fits.is is)
+  where
+    by_command : (d : Decision) (a : Answer) (command : Command) → Comes (s.base.serial + 1) s.base command d → answered_by d.outcome s.stamps (restamped_by s c.0 (base_after s.base command d)) ≡ Ok a → Writes s.base command (written_by command a)
+    by_command d a (Evidence founds polled) comes is = refl
+    by_command d a (Gone kind id) comes is = refl
+    by_command d a ScanBegin comes is = refl
+    by_command d a ScanEnd comes is = refl
+    by_command d a (VenAdd role ven) comes is = refl
+    by_command d a (VenPut role id ven) comes is = refl
+    by_command d a (VenRemove role id) comes is = refl
+    by_command d a (ResourceAdd role ven resource) comes is = refl
+    by_command d a (ResourcePut role ven id resource) comes is = refl
+    by_command d a (ResourceRemove role ven id) comes is = refl
+    by_command d a (ShareSet role program resource share) comes is = refl
+    by_command d a (ReportPost role sent) comes is = kept_writes s c.0 d (base_after s.base (ReportPost role sent) d) a comes is
+    by_command d a (ReportPut role id sent) comes is = kept_writes s c.0 d (base_after s.base (ReportPut role id sent) d) a comes is
+    by_command d a (ReportDelete role id) comes is = refl
+
 -- all that was written stands, each with its revision
 abbrev pub IsWritten : List (ℕ × ReportBody) → Base → Type 0
 IsWritten writes base = (revised : List (ℕ × (ℕ × ReportBody))) × AreWritten base.serial base.portfolio.reports revised × (values_of revised ≡ writes)
@@ -163,7 +191,7 @@ module _ (writes : List (ℕ × ReportBody)) (s : State) (h : IsWritten writes s
       let left = base_leaves s.base d.change none h.1.in_order in
       (h.0, some_written h.1 (changed d.change s.base).portfolio.reports (rises s.base.serial draws) left.0 left.1, h.2 ∙ sym (append-nil writes))
 
-  one_written : (k : IsKept d) → FitsBase (s.base.serial + 1) true s.base d.change → After ((k.number, k.report.body) ∷ []) true
+  one_written : {IsItsNumber : ℕ → Type 0} {sent : ReportIn} (k : IsKept s.base IsItsNumber sent d) → FitsBase (s.base.serial + 1) true s.base d.change → After ((k.number, k.report.body) ∷ []) true
   one_written k fits =
       let revision = (subst (FitsBase (s.base.serial + 1) true s.base) k.puts fits).0 in
       let w : ℕ × (ℕ × ReportBody) = (s.base.serial + 1, (k.number, k.report.body)) in (
@@ -173,12 +201,10 @@ module _ (writes : List (ℕ × ReportBody)) (s : State) (h : IsWritten writes s
       )
 
   -- what is kept is what is answered
-  kept_written : (draws_then : Base) (a : Answer) → IsKept d → FitsBase (s.base.serial + 1) true s.base d.change → answered_by d.outcome s.stamps (restamped_by s now draws_then) ≡ Ok a → After (report_in a) true
-  kept_written then_base a k fits is =
-      let told_it = ap (λ comes. answered_by comes s.stamps (restamped_by s now then_base)) (sym k.comes) ∙ is in
-      subst (λ more. After more true) (sym (kept_told (restamped_by s now then_base).1 k.number k.report.body a told_it)) (one_written k fits)
+  kept_written : {IsItsNumber : ℕ → Type 0} {sent : ReportIn} (then_base : Base) (a : Answer) → IsKept s.base IsItsNumber sent d → FitsBase (s.base.serial + 1) true s.base d.change → answered_by d.outcome s.stamps (restamped_by s now then_base) ≡ Ok a → After (report_in a) true
+  kept_written then_base a k fits is = subst (λ more. After more true) (sym (kept_answer s now d then_base a k is)) (one_written k fits)
 
-  by_command : (command : Command) (a : Answer) → Comes s.base command d → FitsBase (s.base.serial + 1) (draws_number command) s.base d.change → answered_by d.outcome s.stamps (restamped_by s now (base_after s.base command d)) ≡ Ok a
+  by_command : (command : Command) (a : Answer) → Comes (s.base.serial + 1) s.base command d → FitsBase (s.base.serial + 1) (draws_number command) s.base d.change → answered_by d.outcome s.stamps (restamped_by s now (base_after s.base command d)) ≡ Ok a
       → IsWritten (writes ++ written_by command a) (base_after s.base command d)
   by_command (Evidence founds polled) a comes fits is = nothing_written false comes.puts_none
   by_command (Gone kind id) a comes fits is = nothing_written false comes.puts_none
@@ -193,7 +219,7 @@ module _ (writes : List (ℕ × ReportBody)) (s : State) (h : IsWritten writes s
   by_command (ShareSet role program resource share) a comes fits is = nothing_written false comes.puts_none
   by_command (ReportPost role report) a comes fits is = kept_written (base_after s.base (ReportPost role report) d) a comes fits is
   by_command (ReportPut role id report) a comes fits is = kept_written (base_after s.base (ReportPut role id report) d) a comes fits is
-  by_command (ReportDelete role id) a comes fits is = nothing_written false comes.puts_none
+  by_command (ReportDelete role id) a comes fits is = nothing_written false (ap puts_in comes.goes)
 
 step_written : (settings : Settings) (writes : List (ℕ × ReportBody)) (s : State) (c : ℕ × Command) → IsWritten writes s.base → IsWritten (writes ++ written_in (step_at settings s c) c.1) (state_after s (step_at settings s c)).base
 step_written settings writes s c h =

@@ -1,5 +1,5 @@
 -- What is reported in a run: each report as it was posted or replaced, and what counts of it in the end.
-use Rattle.std.specs.Prelude.{◌≡◌, ◌≢◌, ℕ, ℤ, Bool, false, ◌&&◌, ◌==◌, List, [], ◌∷◌, ◌++◌, map, filter, fold, Option, Some, None, Result, Ok, Err, if◌then◌else◌}
+use Rattle.std.specs.Prelude.{◌≡◌, ◌≢◌, ℕ, ◌+◌, ℤ, Bool, false, ◌&&◌, ◌==◌, List, [], ◌∷◌, ◌++◌, map, filter, fold, Option, Some, None, IsSome, Result, Ok, Err, IfOk, IsOk, if◌then◌else◌}
 use Rattle.std.specs.List.{All, AllPairs, Contains, filter_map}
 use Rattle.std.specs.Option.{option_map_or}
 use Rattle.std.specs.Ordering.{nat_cmp}
@@ -10,16 +10,20 @@ use Rattle.adr_objects.specs.declared.body.EventBody.{EventBody}
 use Rattle.adr_objects.specs.declared.report.ReportBody.{ReportBody}
 use Rattle.adr_objects.specs.declared.report.Rollup.{Rollup}
 use Rattle.adr_objects.specs.declared.report.RollupInterval.{RollupInterval}
+use Rattle.adr_objects.specs.declared.site.ReportIn.{ReportIn}
 use Rattle.adr_state.specs.declared.base.Base.{Base}
 use Rattle.adr_state.specs.declared.keys.ViewKey.TheVariants as key
 use Rattle.adr_state.specs.declared.limits.Settings.{Settings}
 use Rattle.adr_state.specs.declared.participants.Participant.{Participant}
 use Rattle.adr_state.specs.declared.portfolio.Report.{Report}
 use Rattle.adr_state.specs.declared.state.State.{State}
+use Rattle.adr_state.specs.Digits.{number_in}
 use Rattle.adr_state.specs.Keys.{view_cmp, at}
 use Rattle.adr_state.specs.Participants.{participants}
 use Rattle.adr_state.specs.States.{empty}
+use Rattle.adr_view.specs.declared.report.Reported.{Reported}
 use Rattle.adr_view.specs.declared.view.Content.TheVariants as content
+use Rattle.adr_view.specs.Reports.{reported}
 use Rattle.adr_view.specs.Rollups.{usage_in, latest, reports_of, reports_on}
 use Rattle.adr_view.specs.Same.{is_same_report}
 use Rattle.adr_view.specs.Views.{view}
@@ -27,7 +31,8 @@ use Rattle.adr_machine.specs.declared.answer.Answer.{Answer}
 use Rattle.adr_machine.specs.declared.answer.Answer.TheVariants as answer
 use Rattle.adr_machine.specs.declared.answer.Object.TheVariants as object
 use Rattle.adr_machine.specs.declared.command.Command.{Command}
-use Rattle.adr_machine.specs.declared.command.Command.TheVariants.{ReportPost, ReportPut}
+use Rattle.adr_machine.specs.declared.command.Command.TheVariants.{ReportPost, ReportPut, ReportDelete}
+use Rattle.adr_machine.specs.declared.role.Role.{Role}
 use Rattle.adr_machine.specs.Runs.{state_after, step_at}
 use Rattle.adr_laws.specs.ShownParts.{IsLive}
 use Rattle.adr_laws.specs.Standing.{state_of}
@@ -54,6 +59,38 @@ written_in (Err refusal) command = []
 abbrev pub written : Settings → State → List (ℕ × Command) → List (ℕ × ReportBody)
 written settings s [] = []
 written settings s (c ∷ cs) = written_in (step_at settings s c) c.1 ++ written settings (state_after s (step_at settings s c)) cs
+
+-- ---- as it was sent
+
+-- a report says what was sent, and is on the upstream event and the resource of the shown event that was sent with it
+pub record SaysAsSent (base : Base) (sent : ReportIn) (says : ReportBody) : Type 0 where
+  pub on : Reported
+  pub is_shown : reported base.mirror base.portfolio sent.event ≡ Some on
+  pub same_event : says.head.event ≡ on.event
+  pub same_resource : says.head.resource ≡ on.resource
+  pub same_program : says.head.program ≡ sent.program
+  pub same_resource_name : says.head.resource_name ≡ sent.resource_name
+  pub same_client : says.head.client ≡ sent.client
+  pub same_name : says.head.name ≡ sent.name
+  pub same_intervals : says.intervals ≡ sent.intervals
+
+-- one report is written, of such a number, and says what was sent
+pub record WritesOne (base : Base) (IsItsNumber : ℕ → Type 0) (sent : ReportIn) (writes : List (ℕ × ReportBody)) : Type 0 where
+  pub number : ℕ
+  pub says : ReportBody
+  pub is_that : writes ≡ (number, says) ∷ []
+  pub is_its_number : IsItsNumber number
+  pub as_sent : SaysAsSent base sent says
+
+-- a post writes one report under the next number, a replacement one under the number of its id, and another command none
+abbrev pub Writes : Base → Command → List (ℕ × ReportBody) → Type 0
+Writes base (ReportPost role sent) writes = WritesOne base (λ n. n ≡ base.serial + 1) sent writes
+Writes base (ReportPut role id sent) writes = WritesOne base (λ n. number_in 112 id ≡ Some n) sent writes
+Writes base _ writes = writes ≡ []
+
+-- so each command does that is accepted, whatever the state
+abbrev pub ReportsAreWrittenAsSent : Type 0
+ReportsAreWrittenAsSent = (settings : Settings) (s : State) (c : ℕ × Command) → IfOk (step_at settings s c) (λ taken. Writes s.base c.1 (written_by c.1 taken.0))
 
 -- ---- what was written last
 
@@ -86,6 +123,16 @@ reports_after settings cs = (state_of (step_at settings) empty cs).base.portfoli
 -- after any run from an empty start, each report that is there says what was written last under its number
 abbrev pub ReportsAreLastWritten : Type 0
 ReportsAreLastWritten = (settings : Settings) (cs : List (ℕ × Command)) → All (λ r. last_written r.0 (written settings empty cs) ≡ Some r.1.body) (reports_after settings cs)
+
+-- after any run from an empty start, the report of an id is not there when its removal is accepted
+abbrev pub RemovedReportsAreGone : Type 0
+RemovedReportsAreGone = (settings : Settings) (cs : List (ℕ × Command)) (now : ℕ) (role : Role) (id : List ℕ) (n : ℕ) → number_in 112 id ≡ Some n
+    → IsOk (step_at settings (state_of (step_at settings) empty cs) (now, ReportDelete role id)) → at nat_cmp n (reports_after settings (cs ++ (now, ReportDelete role id) ∷ [])) ≡ None
+
+-- and where a report was there and then is not, by whatever commands, it is never there again, whatever commands follow
+abbrev pub ReportsNeverReturn : Type 0
+ReportsNeverReturn = (settings : Settings) (cs others more : List (ℕ × Command)) (n : ℕ) →
+    IsSome (at nat_cmp n (reports_after settings cs)) → at nat_cmp n (reports_after settings (cs ++ others)) ≡ None → at nat_cmp n (reports_after settings ((cs ++ others) ++ more)) ≡ None
 
 -- the value that counts for an upstream event, a resource and an interval is the last one that was posted or replaced, of those that are there still; and there is none exactly where none of these has one
 abbrev pub LatestIsLastReported : Type 0

@@ -1,6 +1,6 @@
 //! Laws over whole runs.
 ghost use Rattle.adr_laws.specs.Laws.{MirrorIsGreatest, PortfolioIsWhole, RowsStandInOrder, ParticipantsLackNone, ShownPartsSumUp, ShownPartsSumUpAfterRuns, OnlyLiveEventsAreShown, ObjectsLackNone, ShownIsTold, ReportsAreAnswered, ReportsAreAnsweredAfterRuns, NumbersAreOwn, RevisionsAreOwn, NumbersAreDrawnOnce, StampsAreOfTheView, StampsAreInTime, RunsAreOfTheStepsThatStand};
-ghost use Rattle.adr_laws.specs.Reported.{ReportsAreLastWritten, LatestIsLastReported, RollupsAreOfTheLast};
+ghost use Rattle.adr_laws.specs.Reported.{ReportsAreWrittenAsSent, ReportsAreLastWritten, RemovedReportsAreGone, ReportsNeverReturn, LatestIsLastReported, RollupsAreOfTheLast};
 
 /// After any run from an empty start, the mirror at a key is the greatest mark in all accepted evidence
 /// for it, whatever was lost, repeated or reordered.
@@ -71,6 +71,8 @@ pub fn reports_are_answered()
     ensures run { ReportsAreAnsweredAfterRuns }
 {}
 
+/// A post that is accepted writes one report, under a new number, and a replacement one under the number of its id;
+/// it says what was sent, and is on the upstream event and the resource of the shown event that was named.
 /// After any run from an empty start, each report that is there says what was posted or replaced last under its
 /// number. The value that counts for an upstream event, a participant and an interval is that of the report that was
 /// posted or replaced last, of those that are there still as they were written and have a value for it; where none of
@@ -78,9 +80,17 @@ pub fn reports_are_answered()
 /// posts and replacements were accepted, and each interval of a roll-up that is shown is the sum of these values, one
 /// at most of each participant, and names the participants that have none.
 pub fn the_last_reported_counts()
+    ensures sent { ReportsAreWrittenAsSent }
     ensures reports { ReportsAreLastWritten }
     ensures values { LatestIsLastReported }
     ensures rollups { RollupsAreOfTheLast }
+{}
+
+/// After any run from an empty start, a report is not there when its removal is accepted. And where a report was there
+/// and then is not, whether it was removed or went with its resource, it is never there again, whatever commands follow.
+pub fn reports_never_return()
+    ensures removed { RemovedReportsAreGone }
+    ensures gone { ReportsNeverReturn }
 {}
 
 /// Of whatever a run over a desk answers, the answers that stand are the machine's over the commands that
