@@ -102,7 +102,7 @@ last_of xs = fold (λ earlier x. Some x) None xs
 abbrev pub last_written : ℕ → List (ℕ × ReportBody) → Option ReportBody
 last_written n writes = last_of (filter_map (λ w. if w.0 == n then Some w.1 else None) writes)
 
--- whether what was written is there still: there is a report of its number, and it says just that
+-- whether what was written is there still: there is a report of its number, and it says just that, be it since then or by a later writing of the same
 abbrev pub is_there_still : List (ℕ × Report) → ℕ × ReportBody → Bool
 is_there_still reports w = option_map_or (λ r. is_same_report r.body w.1) (at nat_cmp w.0 reports) false
 
