@@ -1,6 +1,7 @@
 -- What the layers below carry out is what the command decides.
 use Rattle.std.proofs.Common.{◌≡◌, ◌⊎◌, inl, inr, ℕ, ◌+◌, List, Option, Some, None, Result, Ok, Err, IfErr, refl, sym, ap, subst, ◌∙◌}
 use Rattle.std.proofs.lemmas.Result.{IfErr-weaker}
+use Rattle.std.specs.Result.{IsErrAnd}
 use Rattle.adr_db.proofs.Common.{Ghosts, Held, state, IsRefusalOf, Refusal, OutOfMemory, Store, Base, PortfolioChange, BaseChange, JoinMarks, SetScan, ChangePortfolio, changed, MirrorKey, scan_begin, scan_end, Limits}
 use Rattle.adr_text.specs.Refusals.{◌>>=◌}
 use Rattle.adr_state.specs.declared.portfolio.Portfolio.{Portfolio}
@@ -107,9 +108,9 @@ module _ {S : Type 0} (g : Ghosts S) (old new : Held S) where
       (λ base e h. told_refused e (scan_end base) (λ d. d.1) (λ d. answered (answer.Probes d.0) d.1) h)
 
 -- a decision on reports, by who sees this much
-module _ {S : Type 0} (g : Ghosts S) (old mid new : Held S) {A : Type 0} (comes : A → Outcome) (decide : Sight → List (MirrorKey × Mark) → Portfolio → Result (A × PortfolioChange) Refusal) (role : Role) where
+module _ {S : Type 0} (g : Ghosts S) (old mid new : Held S) {A : Type 0} (comes : A → Outcome) (decide : Sight → List (MirrorKey × Mark) → Portfolio → Result (A × PortfolioChange) Refusal) (giver : Role) where
   abbrev whole : Base → Result Decision Refusal
-  whole base = sight_of base role >>= λ sight. of_portfolio comes (decide sight base.mirror base.portfolio)
+  whole base = sight_of base giver >>= λ sight. of_portfolio comes (decide sight base.mirror base.portfolio)
 
   -- of the base nothing is looked at but its vens
   sight_kept : (r : Role) (beside : Beside) (base : Base) → sight_of (image_kept (kept_beside beside base)).base r ≡ sight_of base r
@@ -118,7 +119,7 @@ module _ {S : Type 0} (g : Ghosts S) (old mid new : Held S) {A : Type 0} (comes 
   sight_kept role.Utility beside base = refl
 
   pub sight_carries : (sight : Sight) (meta : Meta) (r : Result A Refusal) → (HasCleanDisk (state g new) → HasCleanDisk (state g mid))
-      → (HasCleanDisk (state g mid) → (kept : Kept) → Keeps kept (state g old) → (sight_of (image_kept kept).base role ≡ Ok sight) × Keeps kept (state g mid))
+      → (HasCleanDisk (state g mid) → (kept : Kept) → Keeps kept (state g old) → (sight_of (image_kept kept).base giver ≡ Ok sight) × Keeps kept (state g mid))
       → Decides g mid new (decide sight) r → Refuses g mid new (λ kept. decide sight kept.mirror kept.portfolio) r → CarriesOut g old new whole meta meta (told_by comes r)
   sight_carries sight meta (Ok x) early sees decides refuses = record {
     decides = λ clean beside base was same.
@@ -126,7 +127,7 @@ module _ {S : Type 0} (g : Ghosts S) (old mid new : Held S) {A : Type 0} (comes 
         let it = decides clean (kept_beside beside base) seen.1 in
         record {
           change = ChangePortfolio it.change;
-          decided = ap (λ (s : Result Sight Refusal). s >>= λ sight. of_portfolio comes (decide sight base.mirror base.portfolio)) (sym (sight_kept role beside base) ∙ seen.0) ∙ ap (of_portfolio comes) it.decided;
+          decided = ap (λ (s : Result Sight Refusal). s >>= λ sight. of_portfolio comes (decide sight base.mirror base.portfolio)) (sym (sight_kept giver beside base) ∙ seen.0) ∙ ap (of_portfolio comes) it.decided;
           holds = it.keeps;
           counted = same;
         };
@@ -136,16 +137,17 @@ module _ {S : Type 0} (g : Ghosts S) (old mid new : Held S) {A : Type 0} (comes 
     decides = λ clean. tt;
     refuses = λ clean beside base was same.
         let seen = sees (early clean) (kept_beside beside base) was in
-        subst (λ (s : Result Sight Refusal). IsRefusalOf e (s >>= λ sight. of_portfolio comes (decide sight base.mirror base.portfolio))) (sym (sym (sight_kept role beside base) ∙ seen.0))
+        subst (λ (s : Result Sight Refusal). IsRefusalOf e (s >>= λ sight. of_portfolio comes (decide sight base.mirror base.portfolio))) (sym (sym (sight_kept giver beside base) ∙ seen.0))
         (then_refused e (decide sight base.mirror base.portfolio) _ (refuses clean (kept_beside beside base) seen.1));
   }
 
   -- who sees nothing is refused
-  pub unseen_carries : (meta : Meta) (e : Refusal) (r : Result Outcome Refusal) → r ≡ Err e → (HasCleanDisk (state g new) → (kept : Kept) → Keeps kept (state g old) → IsRefusalOf e (sight_of (image_kept kept).base role)) → CarriesOut g old new whole meta meta r
-  unseen_carries meta e r is refuses = subst (CarriesOut g old new whole meta meta) (sym is) (record {
+  pub unseen_carries : (meta : Meta) (e : Refusal) (r : Result Outcome Refusal) → IsErrAnd r (λ x. x ≡ e) → (HasCleanDisk (state g new) → (kept : Kept) → Keeps kept (state g old) → IsRefusalOf e (sight_of (image_kept kept).base giver)) → CarriesOut g old new whole meta meta r
+  unseen_carries meta e (Ok x) is refuses = absurd is
+  unseen_carries meta e (Err x) is refuses = record {
     decides = λ clean. tt;
-    refuses = λ clean beside base was same. then_refused e (sight_of base role) _ (subst (IsRefusalOf e) (sight_kept role beside base) (refuses clean (kept_beside beside base) was));
-  })
+    refuses = λ clean beside base was same. subst (λ (x : Refusal). IsRefusalOf x (whole base)) (sym is) (then_refused e (sight_of base giver) _ (subst (IsRefusalOf e) (sight_kept giver beside base) (refuses clean (kept_beside beside base) was)));
+  }
 
 -- no change draws a number
 pub serial_stays : (change : BaseChange) (base : Base) → (changed change base).serial ≡ base.serial

@@ -1,6 +1,12 @@
 -- What a query is told by what was read for it.
-use Rattle.std.proofs.Common.{◌≡◌, ℕ, List, Option, Some, None, Result, Ok, Err, refl, ap}
-use Rattle.adr_db.proofs.Common.{Refusal, MirrorKey, Base, NoScan}
+use Rattle.std.proofs.Common.{◌≡◌, ℕ, Bool, true, List, [], ◌∷◌, Contains, Option, Some, None, Result, Ok, Err, IfErr, refl, sym, ap, ◌∙◌, arith}
+use Rattle.adr_db.proofs.Common.{Refusal, MirrorKey, Base, Forbidden, NoScan}
+use Rattle.adr_text.specs.declared.refusal.Refusal.TheVariants.{NotFound}
+use Rattle.adr_objects.specs.declared.report.Rollup.{Rollup as RollupOf}
+use Rattle.adr_view.specs.Rollups.{rollup_at}
+use Rattle.adr_machine.specs.declared.role.Role.{Role}
+use Rattle.adr_machine.specs.Reported.{rollup_told, rollup_reply}
+use Rattle.adr_machine.specs.Roles.{is_operator}
 use Rattle.adr_text.specs.Refusals.{◌>>=◌}
 use Rattle.adr_state.specs.declared.state.State.{State}
 use Rattle.adr_db.specs.Bases.{kept_of}
@@ -37,3 +43,12 @@ missed_told limit base = by base.scan refl
     by : (scan : Option (List MirrorKey)) → base.scan ≡ scan → probes_reply limit base base.scan ≡ (missed (Some limit) base >>= λ keys. Ok (answer.Probes keys))
     by None is = rw is refl
     by (Some polled) is = rw is refl
+
+-- a roll-up that isn't there is refused as is listed
+pub rollup_listed : (event : List ℕ) (found : Option RollupOf) → IfErr (rollup_told event found) (Contains (Forbidden ∷ NotFound ∷ []))
+rollup_listed event None = (1, omega arith, refl)
+rollup_listed event (Some rollup) = tt
+
+-- the operator is told of the roll-up that is there
+pub rollup_replied : (base : Base) (role : Role) (event id : List ℕ) (found : Option RollupOf) → is_operator role ≡ true → id ≡ event → found ≡ rollup_at base.mirror base.portfolio event → rollup_reply base role event ≡ rollup_told id found
+rollup_replied base role event id found operator same is = rw operator (ap (rollup_told event) (sym is) ∙ ap (λ (i : List ℕ). rollup_told i found) (sym same))

@@ -1,5 +1,5 @@
 //! A query on the tables, in a transaction that is dropped.
-ghost use Rattle.std.specs.Prelude.{◌≡◌, false, IfErr};
+ghost use Rattle.std.specs.Prelude.{◌≡◌, false, IfOk, IfErr};
 ghost use Rattle.sqlite.specs.Held.{state};
 ghost use Rattle.adr_sql.specs.Calls.{Stays};
 ghost use Rattle.adr_db.specs.Calls.{Finds, IsOfStore};
@@ -19,7 +19,7 @@ use adr_reports::rollup;
 use adr_state::State;
 use adr_text::{ObjectId, Refusal};
 use sqlite::{Alter, Connection, Transaction};
-use std::alloc::Global;
+use std::alloc::{AllocError, Global};
 
 /// Whether the reply is that of the vens, resources and shares alone.
 fn asks_portfolio(query: &Query) -> bool
@@ -103,6 +103,13 @@ fn missed<S: Alter>(
     Ok(Answer::Probes(probes(alloc, tx, &meta, Some(limit))?))
 }
 
+// The same id again.
+fn copy_of(id: &ObjectId) -> Result<ObjectId, AllocError>
+    ensures { IfOk result (λ copy. copy ≡ id.now) }
+{
+    id.clone()
+}
+
 /// The roll-up of an upstream event, by the reports on it alone; `Forbidden` for another role than the operator,
 /// and `NotFound` where there is none.
 fn rolled_up<S: Alter>(
@@ -121,7 +128,7 @@ fn rolled_up<S: Alter>(
         return Err(Refusal::Forbidden);
     }
     let found = rollup(alloc, tx, event)?;
-    rollup_told(event.clone()?, found)
+    rollup_told(copy_of(event)?, found)
 }
 
 /// The reply to a query, on a lent transaction.

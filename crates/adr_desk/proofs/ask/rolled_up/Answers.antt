@@ -1,27 +1,34 @@
-use Rattle.std.proofs.Common.{rules, ◌≡◌, false, IfErr, ℕ, ◌+◌, ◌-◌, ◌*◌, ◌<◌, ◌≤◌, length, ◌/◌, ◌%◌, Bool, true, nat_eq, nat_lt, List, [], ◌∷◌, ◌++◌, slice_index_or, slice_set, bit_and, bit_or, Fits, w8, w32, w64, Bor, MutBor}
-use Rattle.sqlite.specs.Held.{state}
-use Rattle.adr_sql.specs.Calls.{Stays}
-use Rattle.adr_db.specs.Calls.{Finds, IsOfStore}
+use Rattle.std.proofs.Common.{◌≡◌, true, false, refl, sym, ◌∙◌, arith}
+use Rattle.adr_db.proofs.Common.{state, HasCleanDisk}
+use Rattle.adr_db.specs.Bases.{kept_of}
+use Rattle.adr_machine.specs.Listed.{listed_for}
 use Rattle.adr_machine.specs.declared.query.Query.TheVariants as query
-use Rattle.adr_machine.specs.Listed.{listed_for, IsListed}
+use Rattle.adr_machine.specs.Roles.{is_operator}
+use Rattle.adr_machine.specs.Reported.{rollup_told}
 use Rattle.adr_machine.specs.Steps.{reply}
-use Rattle.adr_desk.specs.Asks.{asks_portfolio, state_for}
-use Rattle.adr_desk.specs.Steps.{TellsTables, RefusesAs}
-use Rattle.adr_desk.specs.Transactions.{IsDropped}
+use Rattle.adr_portfolio.proofs.Decisions.{refused_so}
+use Rattle.adr_desk.proofs.ListedLemmas.{contained_all}
+use Rattle.adr_desk.proofs.ReplyLemmas.{rollup_listed, rollup_replied}
+use Rattle.adr_desk.proofs.StepLemmas.{found_so, refused_then}
 use Rattle.adr_desk.proofs.ask.rolled_up.Goals as goal
 
--- src/ask.rt:121:9
+-- another may not ask
 pub returns-then-not-is_operator-clause-refuses : goal.returns-then-not-is_operator-clause-refuses
-returns-then-not-is_operator-clause-refuses g c = ?
+unfolding reply
+returns-then-not-is_operator-clause-refuses g c clean held was = let no : is_operator c.args.role.now ≡ false = sym c.is_operator.ensures ∙ c.if-not-is_operator.true in rw no refl
 
--- src/ask.rt:108:1
 pub returns-clause-tells : goal.returns-clause-tells
-returns-clause-tells g c = ?
+unfolding reply
+returns-clause-tells g c clean =
+    let yes : is_operator c.args.role.now ≡ true = sym c.is_operator.ensures ∙ c.if-not-is_operator.false in
+    found_so c.rollup_told.result (λ answer told held was. rollup_replied held.base c.args.role.now c.args.event.now c.in_ok-copy_of.field-0 c.in_ok-found.found yes c.in_ok-copy_of.ensures (c.in_ok-found.ensures.finds clean (kept_of held) was).0 ∙ sym c.rollup_told.ensures ∙ told)
 
--- src/ask.rt:108:1
 pub returns-clause-refuses : goal.returns-clause-refuses
-returns-clause-refuses g c = ?
+unfolding reply
+returns-clause-refuses g c clean =
+    let yes : is_operator c.args.role.now ≡ true = sym c.is_operator.ensures ∙ c.if-not-is_operator.false in
+    refused_then c.rollup_told.result (λ e told held was.
+    refused_so e _ (rollup_replied held.base c.args.role.now c.args.event.now c.in_ok-copy_of.field-0 c.in_ok-found.found yes c.in_ok-copy_of.ensures (c.in_ok-found.ensures.finds clean (kept_of held) was).0 ∙ sym c.rollup_told.ensures ∙ told))
 
--- src/ask.rt:108:1
 pub returns-clause-listed : goal.returns-clause-listed
-returns-clause-listed g c = ?
+returns-clause-listed g c = rw c.rollup_told.ensures (contained_all (listed_for (query.Rollup c.args.role.now c.args.event.now)) (rollup_told c.in_ok-copy_of.field-0 c.in_ok-found.found) (rollup_listed c.in_ok-copy_of.field-0 c.in_ok-found.found))

@@ -1,32 +1,37 @@
-use Rattle.std.proofs.Common.{rules, ◌≡◌, [], ◌∷◌, IfOk, IfErr, ℕ, ◌+◌, ◌-◌, ◌*◌, ◌<◌, ◌≤◌, length, ◌/◌, ◌%◌, Bool, true, false, nat_eq, nat_lt, List, ◌++◌, slice_index_or, slice_set, bit_and, bit_or, Fits, w8, w32, w64, Bor, MutBor}
-use Rattle.adr_text.specs.declared.refusal.Refusal.TheVariants.{Forbidden}
-use Rattle.adr_state.specs.Vens.{ven_at}
-use Rattle.adr_sql.specs.Calls.{Stays}
-use Rattle.adr_db.specs.declared.meta.Meta.{Meta as MetaOf}
-use Rattle.adr_db.specs.Calls.{Finds, IsOfStore}
-use Rattle.adr_db.specs.BaseCalls.{Refuses}
-use Rattle.adr_db.specs.Images.{image_kept}
-use Rattle.adr_portfolio.specs.Refusals.{IsOneOf}
-use Rattle.adr_reports.specs.Decided.{FindsOr}
+use Rattle.std.proofs.Common.{List, [], ◌∷◌, refl, sym, ap, arith, ◌∙◌}
+use Rattle.adr_db.proofs.Common.{state, HasCleanDisk, Forbidden}
+use Rattle.adr_db.proofs.Results.{handed_on}
+use Rattle.adr_text.specs.declared.refusal.Refusal.TheVariants.{NotFound}
+use Rattle.adr_view.specs.Reports.{report_delete}
 use Rattle.adr_machine.specs.declared.command.Command.TheVariants as command
-use Rattle.adr_machine.specs.Edits.{post_decided, put_decided, delete_decided}
-use Rattle.adr_machine.specs.Listed.{listed, IsListed}
-use Rattle.adr_machine.specs.Roles.{sight_by, sight_of}
-use Rattle.adr_desk.specs.Decisions.{CarriesOut, IsAnswered}
+use Rattle.adr_machine.specs.Edits.{report_gone}
+use Rattle.adr_machine.specs.Listed.{listed}
+use Rattle.adr_desk.proofs.AnswerLemmas.{all_answered, gone_answered}
+use Rattle.adr_desk.proofs.DecisionLemmas.{sight_carries, unseen_carries}
+use Rattle.adr_desk.proofs.ListedLemmas.{Listed, one_of_listed, told_one_of}
 use Rattle.adr_desk.proofs.reports.report_delete.Goals as goal
 
--- src/reports.rt:129:17
+-- who sees nothing is refused
 pub returns-in_err-sight-clause-carries : goal.returns-in_err-sight-clause-carries
-returns-in_err-sight-clause-carries g c = ?
+returns-in_err-sight-clause-carries g c meta =
+    let mid = c.sight_in.new.tx.conn.now in
+    unseen_carries g.S.Store c.args.tx.now.conn.now mid mid report_gone (λ sight mirror p. report_delete sight c.args.id.now p) c.args.role.now meta c.in_err-sight.field-0.0 c.from_residual.result c.from_residual.ensures.1 c.in_err-sight.ensures.refuses
 
--- src/reports.rt:117:1
+pub returns-in_err-sight-clause-listed : goal.returns-in_err-sight-clause-listed
+returns-in_err-sight-clause-listed g c =
+    let these = Forbidden ∷ NotFound ∷ [] in
+    let e = c.in_err-sight.field-0.0 in
+    handed_on (Listed these) c.from_residual.result e c.from_residual.ensures.1 (one_of_listed these (Forbidden ∷ []) ((0, omega arith, refl), tt) e c.in_err-sight.ensures.refused)
+
 pub returns-clause-carries : goal.returns-clause-carries
-returns-clause-carries g c = ?
+returns-clause-carries g c meta =
+    rw c.of_report_gone.ensures
+    (sight_carries g.S.Store c.args.tx.now.conn.now c.sight_in.new.tx.conn.now c.delete.new.tx.conn.now report_gone (λ sight mirror p. report_delete sight c.args.id.now p) c.args.role.now c.in_ok-sight.sight meta c.delete.result
+    (λ clean. omega (arith, clean, c.delete.ensures.stays.crash.clean)) c.in_ok-sight.ensures.finds c.delete.ensures.carries c.delete.ensures.refuses)
 
--- src/reports.rt:117:1
 pub returns-clause-answered : goal.returns-clause-answered
-returns-clause-answered g c = ?
+returns-clause-answered g c = let it = command.ReportDelete c.args.role.now c.args.id.now in rw c.of_report_gone.ensures (all_answered it report_gone (gone_answered it (1, omega arith, refl)) c.delete.result)
 
--- src/reports.rt:117:1
 pub returns-clause-listed : goal.returns-clause-listed
-returns-clause-listed g c = ?
+returns-clause-listed g c =
+    rw c.of_report_gone.ensures (told_one_of (Forbidden ∷ NotFound ∷ []) report_gone (Forbidden ∷ NotFound ∷ []) ((0, omega arith, refl), ((1, omega arith, refl), tt)) c.delete.result c.delete.ensures.refused)
