@@ -1,9 +1,25 @@
--- Turns whose text could not be built.
-use Rattle.std.proofs.Common.{ℕ, List, refl}
+-- Turns as they are taken, and those whose text could not be built.
+use Rattle.std.proofs.Common.{◌≡◌, ℕ, Bool, List, Result, refl, ap, ◌∙◌}
 use Rattle.adr_text.specs.declared.refusal.Refusal.{Refusal}
 use Rattle.adr_text.specs.declared.refusal.Refusal.TheVariants.{OutOfMemory}
 use Rattle.adr_state.specs.declared.state.State.{State}
-use Rattle.adr_script.specs.Turns.{Turn, Takes, without_memory, without_text, MayLeave, no_step, step_taken}
+use Rattle.adr_machine.specs.declared.answer.Answer.{Answer}
+use Rattle.adr_script.specs.declared.asked.Asked.{Asked}
+use Rattle.adr_script.specs.Bodies.{want_by, outcome_text}
+use Rattle.adr_script.specs.Turns.{Turn, turn_by, Outcome, as_machine, no_memory, store_refused, Takes, as_defined, without_memory, refused_by_store, without_text, MayLeave, no_step, step_taken}
+
+-- an answer to what is asked, printed under some name, is a turn
+module _ (client role : List ℕ) (a : Asked) {may_refuse : Type 0} {asks : Bool} {s t : State} {r : Result (Answer × State) Refusal} {answer : Result Answer Refusal} where
+  pub printed_is_a_turn : {out : List ℕ} → out ≡ outcome_text client role a answer → Outcome may_refuse asks s r answer t → Takes may_refuse (want_by role) s (turn_by (outcome_text client role a) s r asks) out t
+  printed_is_a_turn printed (as_machine is same) = as_defined (printed ∙ ap (outcome_text client role a) is) same
+  printed_is_a_turn printed (no_memory is same) = without_memory (printed ∙ ap (outcome_text client role a) is) same
+  printed_is_a_turn printed (store_refused may asked is same) = refused_by_store may asked (printed ∙ ap (outcome_text client role a) is) same
+
+  -- and where it could not be printed, it left one of the states of that turn
+  pub outcome_leaves : Outcome may_refuse asks s r answer t → MayLeave s (turn_by (outcome_text client role a) s r asks) t
+  outcome_leaves (as_machine is same) = step_taken same
+  outcome_leaves (no_memory is same) = no_step same
+  outcome_leaves (store_refused may asked is same) = no_step same
 
 -- a turn that left one of its states is a turn with some text
 pub left_is_a_turn : {may_refuse : Type 0} (want : Refusal → List ℕ) {s t : State} {turn : Turn} → MayLeave s turn t → (out : List ℕ) × Takes may_refuse want s turn out t

@@ -1,25 +1,28 @@
 -- What is printed: the texts of answers, and of refusals.
-use Rattle.std.specs.Prelude.{ℕ, List, [], ◌∷◌, ◌++◌, codes, bytes_eq, Result, Ok, Err, if◌then◌else◌}
+use Rattle.std.specs.Prelude.{ℕ, Bool, true, false, List, [], ◌∷◌, ◌++◌, codes, bytes_eq, Result, Ok, Err, if◌then◌else◌}
 use Rattle.std.specs.List.{flat_map}
 use Rattle.std.specs.Fmt.{decimal}
 use Rattle.adr_text.specs.Refusals.{number_of, title_of, status_of}
 use Rattle.adr_text.specs.declared.refusal.Refusal.{Refusal}
 use Rattle.adr_schema.specs.Objects.{program_text, event_text, ven_text, resource_text, share_text, problem_text}
+use Rattle.adr_schema.specs.WrittenReports.{report_text, rollup_text}
 use Rattle.adr_objects.specs.declared.kind.Kind.{Kind}
 use Rattle.adr_objects.specs.declared.kind.Kind.TheVariants as kind
 use Rattle.adr_state.specs.declared.keys.MirrorKey.{MirrorKey}
+use Rattle.adr_machine.specs.declared.command.Command.{Command}
+use Rattle.adr_machine.specs.declared.command.Command.TheVariants.{VenAdd, ResourceAdd, ReportPost}
 use Rattle.adr_machine.specs.declared.answer.Object.{Object}
-use Rattle.adr_machine.specs.declared.answer.Object.TheVariants.{Program, Event, Ven, Resource, Share}
+use Rattle.adr_machine.specs.declared.answer.Object.TheVariants.{Program, Event, Report, Ven, Resource, Share}
 use Rattle.adr_machine.specs.declared.answer.Answer.{Answer}
 use Rattle.adr_machine.specs.declared.answer.Answer.TheVariants as answer
 use Rattle.adr_script.specs.declared.asked.Asked.{Asked}
 use Rattle.adr_script.specs.declared.asked.Asked.TheVariants as asked
-use Rattle.adr_machine.specs.Edits.{draws_number}
 
 -- an object
 abbrev pub object_text : Object → List ℕ
 object_text (Program p) = program_text p
 object_text (Event e) = event_text e
+object_text (Report r) = report_text r
 object_text (Ven v) = ven_text v
 object_text (Resource r) = resource_text r
 object_text (Share s) = share_text s
@@ -33,18 +36,26 @@ abbrev pub list_text : List Object → List ℕ
 list_text [] = codes "[]"
 list_text (o ∷ objects) = codes "[" ++ object_text o ++ behind_commas objects ++ codes "]"
 
--- the body of an answer; a count of changes is told to nobody, nor is what a scan missed
-unfoldable pub answer_text : Answer → List ℕ
-answer_text answer.Done = codes "{}"
-answer_text (answer.Probes keys) = codes "{}"
-answer_text (answer.Changes n) = codes "{}"
-answer_text (answer.Object o) = object_text o
-answer_text (answer.List objects) = list_text objects
-answer_text (answer.Share s) = share_text s
+-- the body of an answer; a count of changes is told to nobody, nor is what a scan missed; a roll-up stands under the node's name and the id of its event
+unfoldable pub answer_text : List ℕ → Answer → List ℕ
+answer_text client answer.Done = codes "{}"
+answer_text client (answer.Probes keys) = codes "{}"
+answer_text client (answer.Changes n) = codes "{}"
+answer_text client (answer.Object o) = object_text o
+answer_text client (answer.List objects) = list_text objects
+answer_text client (answer.Share s) = share_text s
+answer_text client (answer.Rollup event rollup) = rollup_text (record { client = client; event = event; rollup = rollup })
+
+-- whether a command posts an object
+abbrev pub posts : Command → Bool
+posts (VenAdd role ven) = true
+posts (ResourceAdd role ven resource) = true
+posts (ReportPost role report) = true
+posts _ = false
 
 -- 201 where an object was posted, else 200
 abbrev pub status_for : Asked → ℕ
-status_for (asked.Command c) = if draws_number c then 201 else 200
+status_for (asked.Command c) = if posts c then 201 else 200
 status_for _ = 200
 
 -- `STATUS BODY`
@@ -103,7 +114,7 @@ step_line a _ = done_line
 unfoldable pub want_by : List ℕ → Refusal → List ℕ
 want_by role refusal = if bytes_eq role (codes "node") then refused_line refusal else problem_line refusal
 
--- what is printed of the machine's answer to what was asked
-abbrev pub outcome_text : List ℕ → Asked → Result Answer Refusal → List ℕ
-outcome_text role a (Ok answer) = if bytes_eq role (codes "node") then step_line a answer else reply_line (status_for a) (answer_text answer)
-outcome_text role a (Err refusal) = want_by role refusal
+-- what is printed of the machine's answer to what was asked, under the node's name
+abbrev pub outcome_text : List ℕ → List ℕ → Asked → Result Answer Refusal → List ℕ
+outcome_text client role a (Ok answer) = if bytes_eq role (codes "node") then step_line a answer else reply_line (status_for a) (answer_text client answer)
+outcome_text client role a (Err refusal) = want_by role refusal

@@ -1,4 +1,4 @@
--- The query of a listing of events: which of them are asked for.
+-- The query of a listing of events or of reports: which of them are asked for.
 use Rattle.std.specs.Prelude.{ℕ, List, [], ◌∷◌, codes, bytes_eq, Option, None, Some, option_map, Result, Ok, Err, if◌then◌else◌}
 use Rattle.std.specs.List.{filter_map}
 use Rattle.std.specs.Option.{option_to_list}
@@ -10,6 +10,7 @@ use Rattle.adr_text.specs.declared.refusal.Refusal.{Refusal}
 use Rattle.adr_text.specs.declared.refusal.Refusal.TheVariants.{BadShape}
 use Rattle.adr_state.specs.ShownIds.{id_in}
 use Rattle.adr_machine.specs.declared.filter.EventFilter.{EventFilter}
+use Rattle.adr_machine.specs.declared.filter.ReportFilter.{ReportFilter}
 use Rattle.adr_machine.specs.declared.filter.TargetFilter.{TargetFilter}
 use Rattle.adr_machine.specs.declared.filter.TargetFilter.TheVariants.{Any, VenName, ResourceName, Other}
 use Rattle.adr_script.specs.Queries.{values_of, only_one}
@@ -50,3 +51,17 @@ filter_asked query = do
   programs ← program_filter query
   target ← target_filter query
   Ok (record { programs = programs; target = target })
+
+-- the client that is asked for, where one is: a value that is no name is that of none
+abbrev pub clients_of : Option (List ℕ) → Option (List (List ℕ))
+clients_of value = option_map (λ v. option_to_list (name_in v)) value
+
+unfoldable pub client_filter : List ℕ → Result (Option (List (List ℕ))) Refusal
+client_filter query = only_one (values_of (codes "clientName") (raw_pairs query)) >>= λ value. Ok (clients_of value)
+
+-- `programID` and `clientName`
+unfoldable pub report_filter_asked : List ℕ → Result ReportFilter Refusal
+report_filter_asked query = do
+  programs ← program_filter query
+  clients ← client_filter query
+  Ok (record { programs = programs; clients = clients })

@@ -1,7 +1,7 @@
 -- Paths, and the ids in them.
 use Rattle.std.specs.Prelude.{ℕ, List, codes, Option, Some, None, option_map, option_and_then, bytes_eq, if◌then◌else◌}
 use Rattle.adr_script.specs.declared.paths.Path.{Path}
-use Rattle.adr_script.specs.declared.paths.Path.TheVariants.{Programs, Program, Events, Event, Notifications, Vens, Ven, Resources, Resource, Shares, Share}
+use Rattle.adr_script.specs.declared.paths.Path.TheVariants.{Programs, Program, Events, Event, Reports, Report, Rollup, Notifications, Vens, Ven, Resources, Resource, Shares, Share}
 use Rattle.adr_script.specs.Cuts.{cut, behind}
 use Rattle.adr_script.specs.Words.{id_from}
 
@@ -31,11 +31,17 @@ abbrev pub path_behind : Option (List ℕ) → (List ℕ → Option Path) → Op
 path_behind (Some rest) reads other = reads rest
 path_behind None reads other = other
 
+-- behind `/reports/`: `{id}`, and behind `/rollups/`: `{eventID}`
+unfoldable pub report_path : List ℕ → Option Path
+report_path path =
+    path_behind (behind (codes "/reports/") path) (λ rest. option_map (λ id. Report id) (id_from rest))
+    (path_behind (behind (codes "/rollups/") path) (λ rest. option_map (λ event. Rollup event) (id_from rest)) None)
+
 -- behind `/programs/` and `/events/`: `{id}`
 unfoldable pub item_path : List ℕ → Option Path
 item_path path =
     path_behind (behind (codes "/programs/") path) (λ rest. option_map (λ id. Program id) (id_from rest))
-    (path_behind (behind (codes "/events/") path) (λ rest. option_map (λ id. Event id) (id_from rest)) None)
+    (path_behind (behind (codes "/events/") path) (λ rest. option_map (λ id. Event id) (id_from rest)) (report_path path))
 
 -- a path with an id in it
 unfoldable pub longer_path : List ℕ → Option Path
@@ -48,6 +54,7 @@ unfoldable pub path_of : List ℕ → Option Path
 path_of path =
     if bytes_eq path (codes "/programs") then Some Programs
     else (if bytes_eq path (codes "/events") then Some Events
+    else (if bytes_eq path (codes "/reports") then Some Reports
     else (if bytes_eq path (codes "/notifications") then Some Notifications
     else (if bytes_eq path (codes "/vens") then Some Vens
-    else longer_path path)))
+    else longer_path path))))

@@ -50,7 +50,7 @@ words_asked role rest = if bytes_eq role (codes "node") then step_of rest else r
 -- the turn of a role, or of the node itself, as those words were read
 abbrev pub turn_of : Settings → State → ℕ → List ℕ → Result (Option Asked) Refusal → Turn
 turn_of settings s now role (Ok None) = at_once bad_line s
-turn_of settings s now role (Ok (Some a)) = turn_by (outcome_text role a) s (asked_step settings s now a) (asks_desk a)
+turn_of settings s now role (Ok (Some a)) = turn_by (outcome_text settings.client role a) s (asked_step settings s now a) (asks_desk a)
 turn_of settings s now role (Err refusal) = at_once (want_by role refusal) s
 
 -- ---- lines

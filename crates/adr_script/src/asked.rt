@@ -1,6 +1,6 @@
 //! What a line asks of the machine.
 ghost use Rattle.std.specs.Prelude.{◌≡◌};
-ghost use Rattle.adr_script.specs.Bodies.{status_for};
+ghost use Rattle.adr_script.specs.Bodies.{posts, status_for};
 
 use adr_machine::{Command, Query};
 
@@ -14,12 +14,22 @@ pub enum Asked {
     Query(Query),
 }
 
+/// Whether the command posts an object.
+fn posts(command: &Command) -> bool
+    ensures { result ≡ posts command.now }
+{
+    matches!(
+        command,
+        Command::VenAdd { .. } | Command::ResourceAdd { .. } | Command::ReportPost { .. }
+    )
+}
+
 /// The status of a reply that is no refusal: 201 where an object was posted, else 200.
 pub(crate) fn status_for(asked: &Asked) -> u16
     ensures { result ≡ status_for asked.now }
 {
     match asked {
-        Asked::Command(command) if command.draws_number() => 201,
+        Asked::Command(command) if posts(command) => 201,
         _ => 200,
     }
 }

@@ -1,15 +1,17 @@
 //! The texts of answers and refusals.
 ghost use Rattle.std.specs.Prelude.{◌≡◌, ◌++◌, IfOk, OnOk, string_bytes};
+ghost use Rattle.adr_schema.specs.WrittenReports.{rollup_text as text_of_rollup};
 ghost use Rattle.adr_script.specs.Bodies.{object_text, list_text, answer_text, reply_line, changes_line, bad_line, problem_line, refused_line, count_line, done_line, kind_word, key_text, probes_line, step_line, want_by, outcome_text};
 
 use crate::asked::{Asked, status_for};
 use adr_machine::{Answer, Object};
-use adr_objects::Kind;
+use adr_objects::{Kind, Rollup, RollupObject};
 use adr_schema::{
-    write_event, write_problem, write_program, write_resource, write_share, write_ven,
+    write_event, write_problem, write_program, write_report, write_resource, write_rollup,
+    write_share, write_ven,
 };
 use adr_state::MirrorKey;
-use adr_text::Refusal;
+use adr_text::{Name, ObjectId, Refusal};
 use std::alloc::{AllocError, Global};
 
 fn object_text(alloc: Global, object: &Object) -> Result<String, AllocError>
@@ -18,6 +20,7 @@ fn object_text(alloc: Global, object: &Object) -> Result<String, AllocError>
     match object {
         Object::Program(program) => write_program(alloc, program),
         Object::Event(event) => write_event(alloc, event),
+        Object::Report(report) => write_report(alloc, report),
         Object::Ven(ven) => write_ven(alloc, ven),
         Object::Resource(resource) => write_resource(alloc, resource),
         Object::Share(share) => write_share(alloc, share),
@@ -41,16 +44,34 @@ fn list_text(alloc: Global, objects: &[Object]) -> Result<String, AllocError>
     Ok(text)
 }
 
-/// The body of an answer.
+/// The roll-up of an event, under the node's name.
+fn rollup_text(
+    alloc: Global,
+    client: &Name,
+    event: &ObjectId,
+    rollup: &Rollup,
+) -> Result<String, AllocError>
+    ensures { IfOk result (λ text. string_bytes text ≡ text_of_rollup (record { client = client.now; event = event.now; rollup = rollup.now })) }
+{
+    let object = RollupObject {
+        client: client.clone()?,
+        event: event.clone()?,
+        rollup: rollup.clone()?,
+    };
+    write_rollup(alloc, &object)
+}
+
+/// The body of an answer, of a node of that name.
 #[tactic(auto, unfolding(crate::specs::Bodies::answer_text))]
-fn answer_text(alloc: Global, answer: &Answer) -> Result<String, AllocError>
-    ensures { IfOk result (λ text. string_bytes text ≡ answer_text answer.now) }
+fn answer_text(alloc: Global, client: &Name, answer: &Answer) -> Result<String, AllocError>
+    ensures { IfOk result (λ text. string_bytes text ≡ answer_text client.now answer.now) }
 {
     match answer {
         Answer::Done | Answer::Changes(_) | Answer::Probes(_) => String::from_str(alloc, "{}"),
         Answer::Object(object) => object_text(alloc, object),
         Answer::List(objects) => list_text(alloc, objects.as_slice()),
         Answer::Share(share) => write_share(alloc, share),
+        Answer::Rollup(event, rollup) => rollup_text(alloc, client, event, rollup),
     }
 }
 
@@ -170,21 +191,22 @@ fn step_line(alloc: Global, asked: &Asked, answer: &Answer) -> Result<String, Al
     }
 }
 
-/// What is printed of the machine's answer to what was asked.
+/// What is printed of the machine's answer to what was asked, by a node of that name.
 pub(crate) fn outcome_text(
     alloc: Global,
+    client: &Name,
     role: &[u8],
     asked: &Asked,
     outcome: &Result<Answer, Refusal>,
 ) -> Result<String, AllocError>
-    ensures { IfOk result (λ text. string_bytes text ≡ outcome_text role.now asked.now outcome.now) }
+    ensures { IfOk result (λ text. string_bytes text ≡ outcome_text client.now role.now asked.now outcome.now) }
 {
     match outcome {
         Ok(answer) if role == b"node".as_slice() => step_line(alloc, asked, answer),
         Ok(answer) => reply_line(
             alloc,
             status_for(asked),
-            answer_text(alloc, answer)?.as_str(),
+            answer_text(alloc, client, answer)?.as_str(),
         ),
         Err(refusal) => want_by(alloc, role, *refusal),
     }

@@ -1,12 +1,13 @@
-//! The filters of a listing of events (OpenADR 3.0, programID, targetType and targetValues).
+//! The filters of a listing: of events programID, targetType and targetValues, of reports programID and
+//! clientName (OpenADR 3.0).
 ghost use Rattle.std.specs.Prelude.{◌≡◌, map, IfOk};
 ghost use Rattle.std.specs.Cow.{cow_str_bytes};
 ghost use Rattle.std.specs.Option.{option_copied};
 ghost use Rattle.adr_text.specs.Refusals.{Gives};
-ghost use Rattle.adr_script.specs.Filters.{programs_of, program_filter, name_in, names_in, target_of, target_asked, target_filter, filter_asked};
+ghost use Rattle.adr_script.specs.Filters.{programs_of, program_filter, name_in, names_in, target_of, target_asked, target_filter, filter_asked, clients_of, client_filter, report_filter_asked};
 
 use crate::query::{only_one, values_of};
-use adr_machine::{EventFilter, TargetFilter};
+use adr_machine::{EventFilter, ReportFilter, TargetFilter};
 use adr_state::{id_in, push_some};
 use adr_text::{Name, ObjectId, Refusal, Rows};
 use std::alloc::{AllocError, Global};
@@ -106,4 +107,35 @@ pub(crate) fn filter_asked(alloc: Global, query: &[u8]) -> Result<EventFilter, R
     let programs = program_filter(alloc, query)?;
     let target = target_filter(alloc, query)?;
     Ok(EventFilter { programs, target })
+}
+
+/// The client that is asked for, where one is: none of all where it is no name.
+fn clients_of(alloc: Global, name: Option<&str>) -> Result<Option<Rows<Name>>, AllocError>
+    ensures { IfOk result (λ clients. clients ≡ clients_of (option_copied name.entry)) }
+{
+    let Some(name) = name else {
+        return Ok(None);
+    };
+    let mut names = Vec::new(alloc);
+    push_some(&mut names, name_in(alloc, name)?)?;
+    Ok(Some(Rows::from_vec(names)))
+}
+
+#[tactic(auto, unfolding(crate::specs::Filters::client_filter))]
+fn client_filter(alloc: Global, query: &[u8]) -> Result<Option<Rows<Name>>, Refusal>
+    ensures { Gives (λ clients. clients) result (client_filter query.now) }
+{
+    let values = values_of(alloc, "clientName", query)?;
+    let name = only_one(&values)?;
+    Ok(clients_of(alloc, name)?)
+}
+
+/// Which reports a query asks for; `BadShape` where it asks in another form.
+#[tactic(auto, unfolding(crate::specs::Filters::report_filter_asked))]
+pub(crate) fn report_filter_asked(alloc: Global, query: &[u8]) -> Result<ReportFilter, Refusal>
+    ensures { Gives (λ filter. filter) result (report_filter_asked query.now) }
+{
+    let programs = program_filter(alloc, query)?;
+    let clients = client_filter(alloc, query)?;
+    Ok(ReportFilter { programs, clients })
 }

@@ -1,7 +1,7 @@
 //! Paths, and the ids in them.
 ghost use Rattle.std.specs.Prelude.{◌≡◌, IfOk, codes};
 ghost use Rattle.adr_script.specs.Cuts.{cut, behind};
-ghost use Rattle.adr_script.specs.Paths.{both_ids, under_ven, ven_path, share_path, item_path, longer_path, path_of};
+ghost use Rattle.adr_script.specs.Paths.{both_ids, under_ven, ven_path, share_path, report_path, item_path, longer_path, path_of};
 
 use crate::cuts::{behind, cut};
 use crate::words::id_from;
@@ -19,6 +19,12 @@ pub enum Path {
     Events,
     /// `/events/{id}`
     Event(ObjectId),
+    /// `/reports`
+    Reports,
+    /// `/reports/{id}`
+    Report(ObjectId),
+    /// `/rollups/{eventID}`
+    Rollup(ObjectId),
     /// `/notifications`
     Notifications,
     /// `/vens`
@@ -97,7 +103,21 @@ fn share_path(alloc: Global, rest: &[u8]) -> Result<Option<Path>, AllocError>
     }
 }
 
-/// A program or an event.
+/// A report, or the roll-up of an event.
+#[tactic(auto, unfolding(crate::specs::Paths::report_path))]
+fn report_path(alloc: Global, path: &[u8]) -> Result<Option<Path>, AllocError>
+    ensures { IfOk result (λ found. found ≡ report_path path.now) }
+{
+    if let Some(id) = behind(b"/reports/", path) {
+        return Ok(id_from(alloc, id)?.map(Path::Report));
+    }
+    match behind(b"/rollups/", path) {
+        Some(event) => Ok(id_from(alloc, event)?.map(Path::Rollup)),
+        None => Ok(None),
+    }
+}
+
+/// A program, an event, a report or a roll-up.
 #[tactic(auto, unfolding(crate::specs::Paths::item_path))]
 fn item_path(alloc: Global, path: &[u8]) -> Result<Option<Path>, AllocError>
     ensures { IfOk result (λ found. found ≡ item_path path.now) }
@@ -107,7 +127,7 @@ fn item_path(alloc: Global, path: &[u8]) -> Result<Option<Path>, AllocError>
     }
     match behind(b"/events/", path) {
         Some(id) => Ok(id_from(alloc, id)?.map(Path::Event)),
-        None => Ok(None),
+        None => report_path(alloc, path),
     }
 }
 
@@ -134,6 +154,8 @@ pub(crate) fn path_of(alloc: Global, path: &[u8]) -> Result<Option<Path>, AllocE
         Ok(Some(Path::Programs))
     } else if path == b"/events".as_slice() {
         Ok(Some(Path::Events))
+    } else if path == b"/reports".as_slice() {
+        Ok(Some(Path::Reports))
     } else if path == b"/notifications".as_slice() {
         Ok(Some(Path::Notifications))
     } else if path == b"/vens".as_slice() {

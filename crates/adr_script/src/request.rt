@@ -6,13 +6,13 @@ ghost use Rattle.adr_script.specs.Requests.{told_asked, notified, asked_by_get, 
 
 use crate::asked::Asked;
 use crate::cuts::cut;
-use crate::filter::filter_asked;
+use crate::filter::{filter_asked, report_filter_asked};
 use crate::paths::{Path, path_of};
 use crate::query::page_asked;
 use crate::words::{role_from, text_from};
 use adr_machine::{Command, Query, Role};
 use adr_objects::ShareIn;
-use adr_schema::{NoticeIn, read_notice, read_resource, read_share, read_ven};
+use adr_schema::{NoticeIn, read_notice, read_report, read_resource, read_share, read_ven};
 use adr_text::{Refusal, Rows};
 use std::alloc::{AllocError, Global};
 
@@ -38,6 +38,13 @@ fn asked_by_get(
             Query::Events { role, filter, page }
         }
         Path::Event(id) => Query::Event { role, id },
+        Path::Reports => {
+            let filter = report_filter_asked(alloc, query)?;
+            let page = page_asked(alloc, query)?;
+            Query::Reports { role, filter, page }
+        }
+        Path::Report(id) => Query::Report { role, id },
+        Path::Rollup(event) => Query::Rollup { role, event },
         Path::Vens => {
             let page = page_asked(alloc, query)?;
             Query::Vens { role, page }
@@ -102,6 +109,10 @@ fn asked_by_post(
             Ok(Some(Asked::Command(Command::VenAdd { role, ven })))
         }
         Path::Notifications => notified(alloc, &role, body),
+        Path::Reports => {
+            let report = read_report(alloc, body)?;
+            Ok(Some(Asked::Command(Command::ReportPost { role, report })))
+        }
         Path::Resources(ven) => {
             let resource = read_resource(alloc, body)?;
             Ok(Some(Asked::Command(Command::ResourceAdd {
@@ -138,6 +149,10 @@ fn asked_by_put(
                 resource,
             }
         }
+        Path::Report(id) => {
+            let report = read_report(alloc, body)?;
+            Command::ReportPut { role, id, report }
+        }
         Path::Share { program, resource } => {
             let share = read_share(alloc, body)?;
             Command::ShareSet {
@@ -160,6 +175,7 @@ fn asked_by_delete(role: Role, path: Path) -> Option<Asked>
     let command = match path {
         Path::Ven(id) => Command::VenRemove { role, id },
         Path::Resource { ven, id } => Command::ResourceRemove { role, ven, id },
+        Path::Report(id) => Command::ReportDelete { role, id },
         Path::Share { program, resource } => Command::ShareSet {
             role,
             program,

@@ -42,7 +42,7 @@ fn answer_asked<D: Desk>(
     ensures same_settings { D.settings desk.new ≡ D.settings desk.old }
 {
     let outcome = take_asked(desk, now, asked);
-    outcome_text(alloc, role, asked, &outcome)
+    outcome_text(alloc, &desk.settings().client, role, asked, &outcome)
 }
 
 /// What the words of a role, or of the node itself, ask.
