@@ -18,8 +18,8 @@
 //!
 //! The commands of each row are then told as a list to a plain desk and to tables, which have to answer them alike and hold what the row led to.
 //!
-//! Who takes part in an event is read from tables of its own, by number and weight, and so are reports and roll-ups, since no line of a
-//! script asks for these yet.
+//! Who takes part in an event is read from tables of its own, by number and weight, since no line of a script asks for
+//! that. The calls on reports and roll-ups are made on such tables too, without a desk.
 #![tactic(auto)]
 
 mod answers;

@@ -1,5 +1,5 @@
-//! Reports in tables in memory, and the roll-up after each: the reports of rows 11 and 12 and those refused of row 19, which no
-//! line of a script makes yet.
+//! Reports in tables in memory, and the roll-up after each: the reports of rows 11 and 12 and those refused of row 19, by the
+//! calls alone, without a desk.
 use crate::participants::{resource, share, ven};
 use adr_db::{create, put_mark};
 use adr_objects::{Kind, Number, Rollup, RollupObject};
