@@ -1,10 +1,7 @@
 -- What comes of a command is answered, or refused as is listed for it.
-use Rattle.std.proofs.Common.{◌≡◌, ℕ, List, Contains, Option, Some, None, Result, Ok, Err, IfOk, IfErr, sym, subst}
+use Rattle.std.proofs.Common.{ℕ, Contains, Option, Some, None, Result, Ok, Err, IfOk, IfErr}
 use Rattle.adr_text.specs.declared.refusal.Refusal.{Refusal}
 use Rattle.adr_text.specs.declared.refusal.Refusal.TheVariants.{NotFound}
-use Rattle.adr_objects.specs.declared.report.ReportBody.{ReportBody}
-use Rattle.adr_objects.specs.declared.shown.Stamps.{Stamps}
-use Rattle.adr_state.specs.declared.keys.ViewKey.{ViewKey}
 use Rattle.adr_state.specs.declared.keys.ViewKey.TheVariants as key
 use Rattle.adr_state.specs.declared.portfolio.Report.{Report}
 use Rattle.adr_view.specs.declared.view.Content.TheVariants as content

@@ -1,5 +1,5 @@
 -- What the layers below carry out is what the command decides.
-use Rattle.std.proofs.Common.{◌≡◌, ◌⊎◌, inl, inr, ℕ, ◌+◌, List, Option, Some, None, Result, Ok, Err, IfErr, refl, sym, ap, subst, ◌∙◌}
+use Rattle.std.proofs.Common.{◌≡◌, inl, inr, ℕ, ◌+◌, List, None, Result, Ok, Err, IfErr, refl, sym, ap, subst, ◌∙◌}
 use Rattle.std.proofs.lemmas.Result.{IfErr-weaker}
 use Rattle.std.specs.Result.{IsErrAnd}
 use Rattle.adr_db.proofs.Common.{Ghosts, Held, state, IsRefusalOf, Refusal, OutOfMemory, Store, Base, PortfolioChange, BaseChange, JoinMarks, SetScan, ChangePortfolio, changed, MirrorKey, scan_begin, scan_end, Limits}
@@ -8,7 +8,7 @@ use Rattle.adr_state.specs.declared.portfolio.Portfolio.{Portfolio}
 use Rattle.adr_state.specs.declared.state.State.{State}
 use Rattle.sqlite.specs.State as sql
 use Rattle.adr_db.specs.declared.meta.Meta.{Meta}
-use Rattle.adr_db.specs.Bases.{Beside, beside_of, meta_of, kept_beside, HoldsBeside}
+use Rattle.adr_db.specs.Bases.{Beside, beside_of, meta_of, kept_beside}
 use Rattle.adr_db.specs.BaseCalls.{Carries, Makes, Refuses, RefusesOn}
 use Rattle.adr_db.specs.Calls.{IsOfStore}
 use Rattle.adr_machine.specs.declared.outcome.Outcome.{Outcome}

@@ -1,6 +1,6 @@
 -- What a query is told by what was read for it.
-use Rattle.std.proofs.Common.{◌≡◌, ℕ, Bool, true, List, [], ◌∷◌, Contains, Option, Some, None, Result, Ok, Err, IfErr, refl, sym, ap, ◌∙◌, arith}
-use Rattle.adr_db.proofs.Common.{Refusal, MirrorKey, Base, Forbidden, NoScan}
+use Rattle.std.proofs.Common.{◌≡◌, ℕ, true, List, [], ◌∷◌, Contains, Option, Some, None, Ok, IfErr, refl, sym, ap, ◌∙◌, arith}
+use Rattle.adr_db.proofs.Common.{MirrorKey, Base, Forbidden}
 use Rattle.adr_text.specs.declared.refusal.Refusal.TheVariants.{NotFound}
 use Rattle.adr_objects.specs.declared.report.Rollup.{Rollup as RollupOf}
 use Rattle.adr_view.specs.Rollups.{rollup_at}
@@ -11,7 +11,6 @@ use Rattle.adr_text.specs.Refusals.{◌>>=◌}
 use Rattle.adr_state.specs.declared.state.State.{State}
 use Rattle.adr_db.specs.Bases.{kept_of}
 use Rattle.adr_db.proofs.ReadBack.{image_again}
-use Rattle.adr_machine.specs.declared.answer.Answer.{Answer}
 use Rattle.adr_machine.specs.declared.answer.Answer.TheVariants as answer
 use Rattle.adr_machine.specs.declared.query.Query.{Query}
 use Rattle.adr_machine.specs.declared.query.Query.TheVariants.{Programs, Program, Events, Event, Vens, Ven, Resources, Resource, Shares, Reports, Report, Rollup, Probes}

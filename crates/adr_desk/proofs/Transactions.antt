@@ -1,5 +1,5 @@
 -- A transaction from its begin to its commit.
-use Rattle.std.proofs.Common.{◌≡◌, true, Ok, Err, Result, IfOk, OnOk, Option}
+use Rattle.std.proofs.Common.{◌≡◌, true, Ok, Err, Result, IfOk, OnOk}
 use Rattle.adr_db.proofs.Common.{Trees, Ghosts, Held, state, HasCleanDisk, Refusal, Stays, Commits, holds_now}
 use Rattle.sqlite.specs.State as sql
 use Rattle.adr_state.specs.declared.state.State.{State}

@@ -1,4 +1,4 @@
-use Rattle.std.proofs.Common.{Some, Result, Ok, sym, ap, subst, ◌∙◌, arith}
+use Rattle.std.proofs.Common.{Some, Ok, sym, ap, subst, ◌∙◌, arith}
 use Rattle.adr_db.proofs.Common.{state, HasCleanDisk, IsRefusalOf}
 use Rattle.adr_text.specs.Refusals.{◌>>=◌}
 use Rattle.adr_db.specs.Bases.{beside_of, kept_of}

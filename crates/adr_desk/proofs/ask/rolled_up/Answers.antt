@@ -1,5 +1,4 @@
-use Rattle.std.proofs.Common.{◌≡◌, true, false, refl, sym, ◌∙◌, arith}
-use Rattle.adr_db.proofs.Common.{state, HasCleanDisk}
+use Rattle.std.proofs.Common.{◌≡◌, true, false, refl, sym, ◌∙◌}
 use Rattle.adr_db.specs.Bases.{kept_of}
 use Rattle.adr_machine.specs.Listed.{listed_for}
 use Rattle.adr_machine.specs.declared.query.Query.TheVariants as query

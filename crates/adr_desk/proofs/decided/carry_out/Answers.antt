@@ -1,4 +1,4 @@
-use Rattle.std.proofs.Common.{List, [], ◌∷◌, Some, None, refl, arith}
+use Rattle.std.proofs.Common.{[], ◌∷◌, refl, arith}
 use Rattle.adr_db.proofs.Common.{ven_add, ven_put, ven_remove, resource_add, resource_put, resource_remove, evidence, gone, Forbidden, LimitReached, NoScan}
 use Rattle.adr_text.specs.declared.refusal.Refusal.TheVariants.{NotFound, Conflict, BadShare, Exhausted}
 use Rattle.adr_state.specs.Shares.{share_set}

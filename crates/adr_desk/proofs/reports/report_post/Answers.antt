@@ -1,11 +1,10 @@
-use Rattle.std.proofs.Common.{List, [], ◌∷◌, refl, sym, ap, arith, ◌∙◌}
-use Rattle.adr_db.proofs.Common.{state, HasCleanDisk, Forbidden, LimitReached}
+use Rattle.std.proofs.Common.{[], ◌∷◌, refl, arith}
+use Rattle.adr_db.proofs.Common.{Forbidden, LimitReached}
 use Rattle.adr_db.proofs.Results.{handed_on}
 use Rattle.adr_text.specs.declared.refusal.Refusal.TheVariants.{NotFound, ResourceNotOfEvent, Exhausted}
 use Rattle.adr_view.specs.Reports.{report_post}
 use Rattle.adr_machine.specs.declared.command.Command.TheVariants as command
 use Rattle.adr_machine.specs.Edits.{report_kept}
-use Rattle.adr_machine.specs.Listed.{listed}
 use Rattle.adr_desk.proofs.AnswerLemmas.{all_answered, kept_answered}
 use Rattle.adr_desk.proofs.DecisionLemmas.{sight_carries, unseen_carries}
 use Rattle.adr_desk.proofs.ListedLemmas.{Listed, one_of_listed, told_one_of}

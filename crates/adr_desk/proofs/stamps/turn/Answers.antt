@@ -1,9 +1,8 @@
-use Rattle.std.proofs.Common.{◌≡◌, List, ap, subst, ◌∙◌, arith}
-use Rattle.adr_db.proofs.Common.{state, HasCleanDisk, Stamps, ViewKey}
-use Rattle.adr_db.specs.Kept.{Keeps}
+use Rattle.std.proofs.Common.{arith}
+use Rattle.adr_db.proofs.Common.{state, HasCleanDisk}
 use Rattle.adr_db.proofs.Results.{on_then}
-use Rattle.adr_desk.specs.Stamps.{left_of, put_all, stamped}
-use Rattle.adr_desk.proofs.StampLemmas.{turned, held_in_order}
+use Rattle.adr_desk.specs.Stamps.{left_of, stamped}
+use Rattle.adr_desk.proofs.StampLemmas.{held_in_order}
 use Rattle.adr_desk.proofs.stamps.turn.Goals as goal
 
 pub returns-clause-leaves : goal.returns-clause-leaves

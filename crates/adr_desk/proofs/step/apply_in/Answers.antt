@@ -1,5 +1,5 @@
-use Rattle.std.proofs.Common.{Result, Option, rules}
-use Rattle.adr_db.proofs.Common.{state, Commits, Refusal}
+use Rattle.std.proofs.Common.{rules}
+use Rattle.adr_db.proofs.Common.{state, Commits}
 use Rattle.adr_state.specs.declared.state.State.{State}
 use Rattle.adr_db.specs.Bases.{HoldsState}
 use Rattle.adr_machine.specs.Listed.{listed}

@@ -7,7 +7,7 @@ use Rattle.adr_desk.specs.Steps.{with_base}
 use Rattle.adr_desk.proofs.DecisionLemmas.{then_refused}
 use Rattle.adr_machine.specs.Listed.{listed}
 use Rattle.adr_machine.specs.Steps.{answered_by}
-use Rattle.adr_desk.proofs.ListedLemmas.{store_listed, contained_all}
+use Rattle.adr_desk.proofs.ListedLemmas.{contained_all}
 use Rattle.adr_desk.proofs.StepLemmas.{found_so, refused_then, is_stepped, step_refused}
 use Rattle.adr_desk.proofs.step.committed.Goals as goal
 

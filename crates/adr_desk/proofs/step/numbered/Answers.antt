@@ -1,4 +1,4 @@
-use Rattle.std.proofs.Common.{sym, ap, ◌+◌, ℕ, ◌∙◌, arith}
+use Rattle.std.proofs.Common.{sym, ap, ◌+◌, ◌∙◌, arith}
 use Rattle.adr_db.proofs.Common.{state, HasCleanDisk}
 use Rattle.adr_db.specs.declared.meta.Meta.{Meta}
 use Rattle.adr_db.specs.Bases.{kept_of, beside_of}

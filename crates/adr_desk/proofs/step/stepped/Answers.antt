@@ -1,7 +1,6 @@
 use Rattle.std.proofs.Common.{◌≡◌, Bool, true, false, cond, Err, refl, sym, subst, ◌∙◌}
 use Rattle.adr_db.proofs.Common.{state, Forbidden}
 use Rattle.adr_machine.specs.Edits.{is_allowed, edit_of, edit}
-use Rattle.adr_machine.specs.Listed.{listed}
 use Rattle.adr_machine.proofs.Listed.{forbidden_listed}
 use Rattle.adr_desk.specs.Steps.{step_of, StepsTables, RefusesAs}
 use Rattle.adr_desk.proofs.step.stepped.Goals as goal
