@@ -45,7 +45,7 @@ use Rattle.adr_machine.specs.declared.outcome.Outcome.TheVariants as outcome
 use Rattle.adr_machine.specs.declared.role.Role.{Role}
 use Rattle.adr_machine.specs.declared.role.Role.TheVariants as role
 use Rattle.adr_machine.specs.Roles.{is_operator, sight_by, sight_of}
-use Rattle.adr_machine.specs.Edits.{Decision, is_allowed, draws_number, counted, answered, of_portfolio, ven_outcome, resource_outcome, share_outcome, post_decided, put_decided, delete_decided, decided, edit_of, edit}
+use Rattle.adr_machine.specs.Edits.{is_allowed, draws_number, counted, answered, of_portfolio, ven_outcome, resource_outcome, share_outcome, post_decided, put_decided, delete_decided, decided, edit_of, edit}
 use Rattle.adr_machine.specs.Listed.{listed, listed_for, is_of_machine, IsListed}
 use Rattle.adr_state.specs.ShownIds.{resource_part, event_part, resource_named}
 use Rattle.adr_machine.specs.Shown.{object_at, told, event_shown, event_told, event_named}
@@ -54,7 +54,7 @@ use Rattle.adr_view.specs.Reports.{reported, fits, report_on, report_with_id, ma
 use Rattle.adr_view.specs.Rollups.{rollup_at}
 use Rattle.adr_view.specs.Sights.{sees_ven}
 use Rattle.adr_machine.specs.Listings.{ven_told, resources_told, resource_told}
-use Rattle.adr_machine.specs.Reported.{sees_report, report_told, rollup_reply, rollup_told}
+use Rattle.adr_machine.specs.Reported.{sees_report, report_told, rollup_told}
 use Rattle.adr_machine.specs.Runs.{AreListed}
 use Rattle.adr_machine.specs.Steps.{answered_by, changed, committed, step, reply, probes_reply}
 

@@ -1,5 +1,5 @@
 -- What a role is told of vens, resources and shares.
-use Rattle.std.specs.Prelude.{ℕ, Bool, true, not, ◌==◌, List, map, filter, take, drop, Option, None, Some, Result, Ok, Err, if◌then◌else◌}
+use Rattle.std.specs.Prelude.{ℕ, not, ◌==◌, List, map, filter, take, drop, Option, None, Some, Result, Ok, Err, if◌then◌else◌}
 use Rattle.std.specs.Str.{bytes_eq}
 use Rattle.adr_text.specs.Refusals.{◌>>=◌}
 use Rattle.adr_text.specs.declared.refusal.Refusal.{Refusal}

@@ -1,5 +1,5 @@
 -- What the view has at the keys of reports and of roll-ups.
-use Rattle.std.proofs.Common.{◌≡◌, ℕ, List, [], ◌∷◌, ◌++◌, Option, Some, None, refl, sym, ap, subst, ◌∙◌, arith}
+use Rattle.std.proofs.Common.{◌≡◌, ℕ, List, ◌++◌, Option, Some, None, refl, sym, ap, subst, ◌∙◌, arith}
 use Rattle.std.specs.Prelude.{IsSome, is_some, option_map, option_and_then}
 use Rattle.std.proofs.lemmas.List.Elements.{Contains-append_left, Contains-append_right}
 use Rattle.std.proofs.lemmas.Map.Views.{lookup-from_Contains}
@@ -15,11 +15,10 @@ use Rattle.adr_state.proofs.LawLemmas.{key_order}
 use Rattle.adr_view.specs.declared.view.Content.{Content}
 use Rattle.adr_view.specs.declared.view.Content.TheVariants as content
 use Rattle.adr_view.specs.Laws.{StandsInOrder, ReportsAndRollupsAreShown}
-use Rattle.adr_view.specs.Rollups.{event_key, event_body, event_at, rollup_of, rollup_at}
+use Rattle.adr_view.specs.Rollups.{event_key, event_body, rollup_of, rollup_at}
 use Rattle.adr_view.specs.Views.{report_row, rolled_up, event_of, rollup_rows, rows_shown, view}
 use Rattle.adr_view.proofs.KeyLemmas.{view_exact, mirror_exact}
 use Rattle.adr_view.proofs.ListLemmas.{in_map, in_flat}
-use Rattle.adr_view.proofs.RowLemmas.{each_there}
 use Rattle.adr_view.proofs.ShownLemmas.{view_total, shown_in_order, view_made, shown_first, then_reports, then_rollups, event_rolled_up}
 use Rattle.adr_view.proofs.ViewLemmas.{each_by_mark, each_rollup, each_shown, from_view}
 
