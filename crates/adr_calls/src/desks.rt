@@ -33,15 +33,23 @@ fn ven_of(alloc: Global, id: &str) -> Result<Query, Refusal> {
 }
 
 // A ven is asked for before it is there, and after; it is made once, and its name is taken then.
+fn answers_to<D: Desk>(
+    desk: &mut D,
+    query: &Query,
+    command: &Command,
+) -> Result<[u64; 4], Refusal> {
+    Ok([
+        told(desk, query),
+        made(desk, command)?,
+        made(desk, command)?,
+        told(desk, query),
+    ])
+}
+
 fn answers<D: Desk>(alloc: Global, desk: &mut D) -> Result<[u64; 4], Refusal> {
     let query = ven_of(alloc, "v1")?;
     let command = alpha(alloc)?;
-    Ok([
-        told(desk, &query),
-        made(desk, &command)?,
-        made(desk, &command)?,
-        told(desk, &query),
-    ])
+    answers_to(desk, &query, &command)
 }
 
 fn is_right<D: Desk>(alloc: Global, desk: &mut D) -> Result<bool, Refusal> {
