@@ -25,7 +25,7 @@ fn put_marks(alloc: Global, view: &mut View, base: &Base) -> Result<(), AllocErr
 }
 
 /// Puts the reports.
-pub fn put_reports(view: &mut View, reports: &Table<Number, Report>) -> Result<(), AllocError>
+fn put_reports(view: &mut View, reports: &Table<Number, Report>) -> Result<(), AllocError>
     ensures { OnOk result (view.new ≡ with_rows view_cmp view.old (map report_row reports.now)) }
 {
     'reports: for (number, report) in reports.iter() {
@@ -39,7 +39,7 @@ pub fn put_reports(view: &mut View, reports: &Table<Number, Report>) -> Result<(
 }
 
 /// What the mark of an upstream key says of an event.
-pub fn event_of(kind: Kind, mark: &Mark) -> Option<&EventBody>
+fn event_of(kind: Kind, mark: &Mark) -> Option<&EventBody>
     ensures { option_copied result ≡ event_of kind mark.now }
 {
     match kind {
@@ -64,7 +64,7 @@ fn rollup_by(
 }
 
 /// Puts the roll-up of an event, where there is one.
-pub fn put_rollup(view: &mut View, id: &ObjectId, rollup: Option<Rollup>) -> Result<(), AllocError>
+fn put_rollup(view: &mut View, id: &ObjectId, rollup: Option<Rollup>) -> Result<(), AllocError>
     ensures { OnOk result (view.new ≡ with_rows view_cmp view.old (rolled_up id.now rollup)) }
 {
     match rollup {

@@ -13,12 +13,12 @@ mod sight;
 mod view;
 mod view_map;
 
-pub use all::{event_of, put_reports, put_rollup, view_of};
+pub use all::view_of;
 pub use changes::{Change, Operation, changes_of, restamped};
 pub use report::{Reported, fits, kept_report};
 pub use rollup::{
     Reporter, event_body, event_key, mark_at, reporters, rollup_at, rollup_for, rollup_of,
 };
 pub use sight::{Sight, sees_ven};
-pub use view::{Content, View, carries, put_rows, rows_for};
+pub use view::{Content, View, carries, rows_for};
 pub use view_map::row_at;

@@ -140,7 +140,7 @@ pub fn rows_for(
 }
 
 /// Puts rows, each in its place in the order of the keys, over what stands at its key.
-pub fn put_rows(view: &mut View, rows: Rows<(ViewKey, Content)>) -> Result<(), AllocError>
+fn put_rows(view: &mut View, rows: Rows<(ViewKey, Content)>) -> Result<(), AllocError>
     ensures { OnOk result (view.new ≡ with_rows view_cmp view.old rows) }
 {
     'rows: for row in rows.into_vec() {
