@@ -15,4 +15,6 @@ mod scripts;
 #[cfg(test)]
 mod splits;
 #[cfg(test)]
+mod subscriptions;
+#[cfg(test)]
 mod texts;

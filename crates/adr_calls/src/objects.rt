@@ -1,7 +1,15 @@
 //! Objects: lists at their limits, and what is written.
-use adr_objects::{Body, EventObject, Kind, Number, ShownEvent, ShownInterval, Stamps};
-use adr_schema::{read_page, resource_id, shown_id, ven_id, write_events};
+use adr_objects::{
+    Body, EventObject, Kind, Number, ProgramObject, ReportBody, ReportHead, ReportObject,
+    ShownEvent, ShownInterval, Stamps,
+};
+use adr_schema::read_page;
+use adr_subscription::OperationKind;
 use adr_text::{Moment, Name, ObjectId, Refusal, Rows};
+use adr_written::{
+    resource_id, shown_id, ven_id, write_event_notice, write_events, write_program_notice,
+    write_report_notice,
+};
 use std::alloc::{AllocError, Global};
 use std::slice::from_ref;
 use std::test::Fail;
@@ -67,7 +75,7 @@ fn lengths_of_targets(rt: HostRuntime) -> Result<(), Fail> {
     Ok(())
 }
 
-fn stamps() -> Result<Stamps, Refusal> {
+pub fn stamps() -> Result<Stamps, Refusal> {
     let moment = Moment::read("2024-07-01T10:00:00Z")?;
     Ok(Stamps {
         created: moment,
@@ -122,6 +130,59 @@ const WRITTEN: &str =
 fn written_events(rt: HostRuntime) -> Result<(), Fail> {
     assert!(rt; written(rt.alloc())?.as_str() == WRITTEN);
     assert!(rt; write_events(rt.alloc(), &[])?.as_str() == "[]");
+    Ok(())
+}
+
+fn event_notice(alloc: Global) -> Result<String, Refusal> {
+    Ok(write_event_notice(alloc, OperationKind::Delete, &shown(alloc)?)?)
+}
+
+fn program_notice(alloc: Global) -> Result<String, Refusal> {
+    let program = ProgramObject {
+        id: ObjectId::new(alloc, "p1")?,
+        name: Name::new(alloc, "night")?,
+        stamps: stamps()?,
+    };
+    Ok(write_program_notice(alloc, OperationKind::Post, &program)?)
+}
+
+fn report_head(alloc: Global) -> Result<ReportHead, Refusal> {
+    Ok(ReportHead {
+        program: ObjectId::new(alloc, "p1")?,
+        event: ObjectId::new(alloc, "e1")?,
+        resource: Number::new(3),
+        client: Name::new(alloc, "c")?,
+        name: None,
+        resource_name: Name::new(alloc, "a1")?,
+    })
+}
+
+fn report_notice(alloc: Global) -> Result<String, Refusal> {
+    let report = ReportObject {
+        number: Number::new(6),
+        body: ReportBody {
+            head: report_head(alloc)?,
+            intervals: Rows::new(alloc),
+        },
+        stamps: stamps()?,
+    };
+    Ok(write_report_notice(alloc, OperationKind::Put, &report)?)
+}
+
+const EVENT_NOTICE: &str =
+    "{\"object\":{\"createdDateTime\":\"2024-07-01T10:00:00Z\",\"id\":\"r3-e1\",\"intervals\":[{\"id\":0,\"payloads\":[{\"type\":\"DISPATCH_SETPOINT\",\"values\":[34]}]}],\"modificationDateTime\":\"2024-07-01T10:00:00Z\",\"objectType\":\"EVENT\",\"programID\":\"p1\",\"targets\":[{\"type\":\"VEN_NAME\",\"values\":[\"alpha\"]},{\"type\":\"RESOURCE_NAME\",\"values\":[\"a1\"]}]},\"objectType\":\"EVENT\",\"operation\":\"DELETE\"}";
+
+const PROGRAM_NOTICE: &str =
+    "{\"object\":{\"createdDateTime\":\"2024-07-01T10:00:00Z\",\"id\":\"p1\",\"modificationDateTime\":\"2024-07-01T10:00:00Z\",\"objectType\":\"PROGRAM\",\"programName\":\"night\"},\"objectType\":\"PROGRAM\",\"operation\":\"POST\"}";
+
+const REPORT_NOTICE: &str =
+    "{\"object\":{\"clientName\":\"c\",\"createdDateTime\":\"2024-07-01T10:00:00Z\",\"eventID\":\"r3-e1\",\"id\":\"p6\",\"modificationDateTime\":\"2024-07-01T10:00:00Z\",\"objectType\":\"REPORT\",\"programID\":\"p1\",\"resources\":[{\"intervals\":[],\"resourceName\":\"a1\"}]},\"objectType\":\"REPORT\",\"operation\":\"PUT\"}";
+
+#[test]
+fn written_notices(rt: HostRuntime) -> Result<(), Fail> {
+    assert!(rt; event_notice(rt.alloc())?.as_str() == EVENT_NOTICE);
+    assert!(rt; program_notice(rt.alloc())?.as_str() == PROGRAM_NOTICE);
+    assert!(rt; report_notice(rt.alloc())?.as_str() == REPORT_NOTICE);
     Ok(())
 }
 

@@ -11,7 +11,7 @@ use Rattle.adr_objects.specs.ReadBack.{canonical_of}
 use Rattle.adr_objects.specs.Bodies.{IsBody}
 use Rattle.adr_objects.proofs.RoundTrips.{canonical_reads_back}
 use Rattle.adr_db.specs.Rows.{number, mark_columns, mark_row, columns_row, live_from, mark_from}
-use Rattle.adr_db.specs.declared.mirror.MarkColumns.{MarkColumns}
+use Rattle.adr_db.specs.declared.known.MarkColumns.{MarkColumns}
 use Rattle.adr_db.specs.Kept.{IsMark, AreMarks}
 use Rattle.adr_db.specs.Admitted.{ReadsEntry}
 use Rattle.adr_db.specs.ReadBack.{live_in, mark_in, entry_in}

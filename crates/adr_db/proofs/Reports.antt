@@ -6,7 +6,7 @@ use Rattle.sqlite_rules.proofs.ListLemmas.{all_has}
 use Rattle.adr_objects.specs.declared.report.UsageInterval.{UsageInterval}
 use Rattle.adr_state.specs.declared.portfolio.Report.{Report}
 use Rattle.adr_sql.specs.Keys.{rows_at}
-use Rattle.adr_db.specs.declared.report.ReportColumns.{ReportColumns}
+use Rattle.adr_db.specs.declared.report_columns.ReportColumns.{ReportColumns}
 use Rattle.adr_db.specs.Rows.{number, number_row, report_row, interval_columns, value_row, value_rows_from, value_rows}
 use Rattle.adr_db.specs.Kept.{Kept, intervals_of, whole_report, report_of}
 use Rattle.adr_db.specs.ReadBack.{interval_in, report_in}

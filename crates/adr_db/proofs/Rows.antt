@@ -10,7 +10,7 @@ use Rattle.adr_sql.specs.Codecs.{IsCodec}
 use Rattle.adr_objects.specs.declared.report.ReportHead.{ReportHead}
 use Rattle.adr_objects.specs.declared.report.UsageInterval.{UsageInterval}
 use Rattle.adr_db.specs.declared.meta.Meta.{Meta}
-use Rattle.adr_db.specs.declared.report.ReportColumns.{ReportColumns}
+use Rattle.adr_db.specs.declared.report_columns.ReportColumns.{ReportColumns}
 use Rattle.adr_db.specs.Rows.{number, kind_number, meta_row, key_row, mark_columns, mark_row, number_row, ven_columns, resource_columns, share_key_row, share_row, stamps_columns, view_kind, view_id, view_number, view_key_row, stamp_row, participant_row, name_cell, head_columns, report_columns_row, usage_cell, interval_columns}
 use Rattle.adr_db.specs.ReadBack.{number_of, text_of, integer_of, name_of, usage_of, flag_of, kind_of, meta_in, key_in, ven_in, resource_in, share_key_in, view_key_in, stamps_in, head_in}
 

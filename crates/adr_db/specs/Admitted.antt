@@ -20,9 +20,9 @@ use Rattle.adr_state.specs.declared.participants.Participant.{Participant}
 use Rattle.adr_state.specs.Digits.{most_number}
 use Rattle.adr_state.specs.Weights.{is_weight}
 use Rattle.adr_db.specs.declared.meta.Meta.{Meta}
-use Rattle.adr_db.specs.declared.mirror.MarkColumns.{MarkColumns}
-use Rattle.adr_db.specs.declared.mirror.MirrorRow.{MirrorRow}
-use Rattle.adr_db.specs.declared.report.ReportColumns.{ReportColumns}
+use Rattle.adr_db.specs.declared.known.MarkColumns.{MarkColumns}
+use Rattle.adr_db.specs.declared.known.MirrorRow.{MirrorRow}
+use Rattle.adr_db.specs.declared.report_columns.ReportColumns.{ReportColumns}
 use Rattle.adr_sql.specs.Keys.{cells}
 use Rattle.adr_db.specs.Rows.{number, meta_row, key_row, columns_row, mark_from, mirror_row, ven_columns, resource_columns, share_key_row, view_key_row, stamps_columns, participant_row, report_columns_row, interval_columns}
 

@@ -23,7 +23,7 @@ use Rattle.adr_sql.specs.Keys.{with_row}
 use Rattle.adr_sql.specs.Contents.{Contents, Holds}
 use Rattle.adr_db.specs.declared.meta.Meta.{Meta}
 use Rattle.adr_db.specs.Tables.{schema}
-use Rattle.adr_db.specs.declared.report.ReportColumns.{ReportColumns}
+use Rattle.adr_db.specs.declared.report_columns.ReportColumns.{ReportColumns}
 use Rattle.adr_db.specs.Rows.{meta_row, mark_row, key_row, ven_row, resource_row, share_row, stamp_row, report_row, value_rows}
 
 -- what is kept: the numbers of the node, the mirror in the order of its keys, the polled keys in that order, the portfolio, and the

@@ -26,9 +26,9 @@ use Rattle.adr_objects.specs.declared.shown.Stamps.{Stamps}
 use Rattle.adr_objects.specs.declared.report.ReportHead.{ReportHead}
 use Rattle.adr_objects.specs.declared.report.UsageInterval.{UsageInterval}
 use Rattle.adr_db.specs.declared.meta.Meta.{Meta}
-use Rattle.adr_db.specs.declared.mirror.MarkColumns.{MarkColumns}
-use Rattle.adr_db.specs.declared.mirror.MirrorRow.{MirrorRow}
-use Rattle.adr_db.specs.declared.report.ReportColumns.{ReportColumns}
+use Rattle.adr_db.specs.declared.known.MarkColumns.{MarkColumns}
+use Rattle.adr_db.specs.declared.known.MirrorRow.{MirrorRow}
+use Rattle.adr_db.specs.declared.report_columns.ReportColumns.{ReportColumns}
 use Rattle.adr_db.specs.Tables.{version}
 
 abbrev pub number : ℕ → Value

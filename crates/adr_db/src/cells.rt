@@ -1,4 +1,4 @@
-//! Columns of a row as the values that they stand for. What no call of this crate wrote is the store's
+//! Columns of a row as the values that they stand for. What no call on the tables wrote is the store's
 //! refusal.
 ghost use Rattle.std.specs.Prelude.{◌≡◌, ◌<◌, ◌+◌, pos, [], ◌∷◌, IfOk, IfErr, IsTrue};
 ghost use Rattle.sqlite_sql.specs.Ops.{is_null};
@@ -42,7 +42,7 @@ pub(crate) fn is_null(row: &Row, at: usize) -> bool
 }
 
 /// A number as SQL keeps it, or the store's refusal of one above 9,223,372,036,854,775,807.
-pub(crate) fn number(n: u64) -> Result<ValueRef<'static>, Refusal>
+pub fn number(n: u64) -> Result<ValueRef<'static>, Refusal>
     ensures value { IfOk result (λ value. owned value ≡ Int (pos n)) }
     ensures refused { IfErr result (λ refusal. (refusal ≡ Store) × IsBeyond (number n)) }
 {
@@ -53,7 +53,7 @@ pub(crate) fn number(n: u64) -> Result<ValueRef<'static>, Refusal>
 }
 
 /// The number of a kind.
-pub(crate) fn kind_number(kind: Kind) -> u32
+pub fn kind_number(kind: Kind) -> u32
     ensures { result ≡ kind_number kind }
 {
     match kind {
@@ -73,7 +73,7 @@ fn kind_of(number: u32) -> Result<Kind, Refusal>
     }
 }
 
-/// A value that no call of this crate wrote is the store's refusal, and want of memory is itself.
+/// A value that no call on the tables wrote is the store's refusal, and want of memory is itself.
 pub(crate) fn as_stored<T>(read: Result<T, Refusal>) -> Result<T, Refusal>
     ensures same { result ≡ as_stored read }
     ensures refused { IfErr result IsOfStore }

@@ -17,9 +17,9 @@ use sqlite::types::ValueRef;
 use sqlite::{Alter, Row, Transaction};
 use std::alloc::Global;
 
-/// A value that stands in columns of its own in a row. What no call of this crate wrote is the store's
+/// A value that stands in columns of its own in a row. What no call on the tables wrote is the store's
 /// refusal.
-pub(crate) trait FromRow: Drop {
+pub trait FromRow: Drop {
     ghost use Rattle.sqlite.specs.Order.{Row as SqlRow};
 
     ghost reads: { SqlRow → Self → Type 0 };
@@ -57,7 +57,7 @@ fn all_in<T: FromRow>(alloc: Global, rows: &[Row]) -> Result<Rows<T>, Refusal>
 }
 
 /// Each row that the query shows, read.
-pub(crate) fn all_of<T: FromRow, S: Alter>(
+pub fn all_of<T: FromRow, S: Alter>(
     alloc: Global,
     tx: &mut Transaction<'_, S>,
     sql: &str,
@@ -74,7 +74,7 @@ pub(crate) fn all_of<T: FromRow, S: Alter>(
 }
 
 /// The first row, read, where there is one.
-pub(crate) fn first_in<T: FromRow>(alloc: Global, rows: &[Row]) -> Result<Option<T>, Refusal>
+pub fn first_in<T: FromRow>(alloc: Global, rows: &[Row]) -> Result<Option<T>, Refusal>
     ensures read { IfOk result (λ found. AllZip T.reads (take 1 rows.now) (option_to_list found)) }
     ensures refused { IfErr result (CannotReadFirst T.admits T.reads rows.now) }
 {
@@ -85,7 +85,7 @@ pub(crate) fn first_in<T: FromRow>(alloc: Global, rows: &[Row]) -> Result<Option
 }
 
 /// The first row that the query shows, read, where it shows one.
-pub(crate) fn first_of<T: FromRow, S: Alter>(
+pub fn first_of<T: FromRow, S: Alter>(
     alloc: Global,
     tx: &mut Transaction<'_, S>,
     sql: &str,
@@ -102,7 +102,7 @@ pub(crate) fn first_of<T: FromRow, S: Alter>(
 }
 
 /// The map that entries make, put one after another.
-pub(crate) fn table_of<K: Ord + Drop, V: Drop>(
+pub fn table_of<K: Ord + Drop, V: Drop>(
     alloc: Global,
     rows: Rows<(K, V)>,
 ) -> Result<Table<K, V>, Refusal>
@@ -118,7 +118,7 @@ pub(crate) fn table_of<K: Ord + Drop, V: Drop>(
 
 /// The number that the query counts, which is all that it shows. SQL counts no further than
 /// 9,223,372,036,854,775,807: that is the store's refusal.
-pub(crate) fn count_of<S: Alter>(tx: &mut Transaction<'_, S>, sql: &str) -> Result<u64, Refusal>
+pub fn count_of<S: Alter>(tx: &mut Transaction<'_, S>, sql: &str) -> Result<u64, Refusal>
     ensures same_reference { tx.new.conn.ghost_name ≡ tx.old.conn.ghost_name }
     ensures stays { Stays S.Store tx.old.conn.now tx.new.conn.now result }
     ensures shows { Shows S.Store tx.old.conn.now tx.new.conn.now sql.now [] (λ rows n. (m : ℕ) → rows ≡ (count m ∷ []) ∷ [] → n ≡ m) result }

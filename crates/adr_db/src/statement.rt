@@ -21,7 +21,7 @@ pub fn refusal_of(error: Error) -> Refusal
 }
 
 /// Runs one statement that writes.
-pub(crate) fn run<S: Alter>(
+pub fn run<S: Alter>(
     tx: &mut Transaction<'_, S>,
     sql: &str,
     params: &[ValueRef<'_>],
@@ -36,7 +36,7 @@ pub(crate) fn run<S: Alter>(
 }
 
 /// The rows that one query shows.
-pub(crate) fn rows_of<S: Alter>(
+pub fn rows_of<S: Alter>(
     tx: &mut Transaction<'_, S>,
     sql: &str,
     params: &[ValueRef<'_>],

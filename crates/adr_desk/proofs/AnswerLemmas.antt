@@ -5,12 +5,12 @@ use Rattle.adr_text.specs.declared.refusal.Refusal.TheVariants.{NotFound}
 use Rattle.adr_state.specs.declared.keys.ViewKey.TheVariants as key
 use Rattle.adr_state.specs.declared.portfolio.Report.{Report}
 use Rattle.adr_view.specs.declared.view.Content.TheVariants as content
-use Rattle.adr_machine.specs.declared.answer.Object.{Object}
+use Rattle.adr_queries.specs.declared.answer.Object.{Object}
 use Rattle.adr_machine.specs.declared.command.Command.{Command}
 use Rattle.adr_machine.specs.declared.outcome.Outcome.{Outcome}
 use Rattle.adr_machine.specs.Edits.{told_by, report_kept, report_gone}
 use Rattle.adr_machine.specs.Listed.{listed}
-use Rattle.adr_machine.specs.Shown.{object_at, told}
+use Rattle.adr_queries.specs.Shown.{object_at, told}
 use Rattle.adr_desk.specs.Decisions.{IsAnswered}
 
 -- whatever comes of what went well

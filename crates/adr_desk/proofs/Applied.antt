@@ -4,7 +4,7 @@ use Rattle.adr_db.proofs.Common.{Ghosts, Held, state, HasCleanDisk, Refusal, Sta
 use Rattle.adr_state.specs.declared.state.State.{State}
 use Rattle.adr_db.specs.Bases.{HoldsState}
 use Rattle.adr_db.proofs.Results.{on_then}
-use Rattle.adr_machine.specs.declared.answer.Answer.{Answer}
+use Rattle.adr_queries.specs.declared.answer.Answer.{Answer}
 use Rattle.adr_machine.specs.Edits.{told_by}
 use Rattle.adr_desk.specs.Steps.{StepsTables, HoldsStepped, LeftStepped}
 use Rattle.adr_desk.specs.Transactions.{Ends}

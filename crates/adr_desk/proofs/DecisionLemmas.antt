@@ -20,10 +20,10 @@ use Rattle.adr_db.specs.Images.{image_kept}
 use Rattle.adr_reports.specs.Decided.{Decides}
 use Rattle.adr_state.specs.declared.base.Mark.{Mark}
 use Rattle.adr_view.specs.declared.sight.Sight.{Sight}
-use Rattle.adr_machine.specs.declared.role.Role.{Role}
-use Rattle.adr_machine.specs.declared.role.Role.TheVariants as role
-use Rattle.adr_machine.specs.Roles.{sight_of}
-use Rattle.adr_machine.specs.declared.answer.Answer.TheVariants as answer
+use Rattle.adr_queries.specs.declared.role.Role.{Role}
+use Rattle.adr_queries.specs.declared.role.Role.TheVariants as role
+use Rattle.adr_queries.specs.Roles.{sight_of}
+use Rattle.adr_queries.specs.declared.answer.Answer.TheVariants as answer
 use Rattle.adr_state.specs.Serials.{drawn}
 use Rattle.adr_machine.specs.Edits.{draws_number, Decision, counted, answered, of_portfolio, decided, told_by, numbered, edit_of}
 use Rattle.adr_machine.specs.declared.command.Command.{Command}

@@ -6,7 +6,7 @@ use Rattle.adr_text.specs.declared.refusal.Refusal.TheVariants.{OutOfMemory, Sto
 use Rattle.adr_db.specs.Calls.{IsOfStore}
 use Rattle.adr_portfolio.specs.Refusals.{IsOneOf}
 use Rattle.adr_machine.specs.Edits.{told_by}
-use Rattle.adr_machine.specs.Listed.{IsListed}
+use Rattle.adr_queries.specs.Listed.{IsListed}
 
 module _ (these : List Refusal) where
   -- as a desk with a store refuses

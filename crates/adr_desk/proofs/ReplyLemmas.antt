@@ -4,17 +4,17 @@ use Rattle.adr_db.proofs.Common.{MirrorKey, Base, Forbidden}
 use Rattle.adr_text.specs.declared.refusal.Refusal.TheVariants.{NotFound}
 use Rattle.adr_objects.specs.declared.report.Rollup.{Rollup as RollupOf}
 use Rattle.adr_view.specs.Rollups.{rollup_at}
-use Rattle.adr_machine.specs.declared.role.Role.{Role}
-use Rattle.adr_machine.specs.Reported.{rollup_told, rollup_reply}
-use Rattle.adr_machine.specs.Roles.{is_operator}
+use Rattle.adr_queries.specs.declared.role.Role.{Role}
+use Rattle.adr_queries.specs.Reported.{rollup_told, rollup_reply}
+use Rattle.adr_queries.specs.Roles.{is_operator}
 use Rattle.adr_text.specs.Refusals.{◌>>=◌}
 use Rattle.adr_state.specs.declared.state.State.{State}
 use Rattle.adr_db.specs.Bases.{kept_of}
 use Rattle.adr_db.proofs.ReadBack.{image_again}
-use Rattle.adr_machine.specs.declared.answer.Answer.TheVariants as answer
-use Rattle.adr_machine.specs.declared.query.Query.{Query}
-use Rattle.adr_machine.specs.declared.query.Query.TheVariants.{Programs, Program, Events, Event, Vens, Ven, Resources, Resource, Shares, Reports, Report, Rollup, Probes}
-use Rattle.adr_machine.specs.Steps.{reply, probes_reply}
+use Rattle.adr_queries.specs.declared.answer.Answer.TheVariants as answer
+use Rattle.adr_queries.specs.declared.query.Query.{Query}
+use Rattle.adr_queries.specs.declared.query.Query.TheVariants.{Programs, Program, Events, Event, Vens, Ven, Resources, Resource, Shares, Reports, Report, Rollup, Probes}
+use Rattle.adr_queries.specs.Replies.{reply, probes_reply}
 use Rattle.adr_mirror.specs.Missed.{missed}
 use Rattle.adr_desk.specs.Asks.{state_for}
 

@@ -7,14 +7,14 @@ use Rattle.sqlite.specs.State.{Survives}
 use Rattle.sqlite.specs.State as sql
 use Rattle.adr_text.specs.contracts.refusal.Refusal as refusal
 use Rattle.adr_state.specs.contracts.state.State as state
-use Rattle.adr_machine.specs.contracts.answer.Answer as answer
+use Rattle.adr_queries.specs.contracts.answer.Answer as answer
 use Rattle.adr_state.specs.declared.state.State.{State}
 use Rattle.adr_db.specs.Kept.{Kept, Keeps}
 use Rattle.adr_db.specs.Bases.{HoldsState, kept_of}
 use Rattle.adr_db.specs.Images.{image_kept}
 use Rattle.adr_db.specs.ReadBack.{state_in}
 use Rattle.adr_db.proofs.ReadBack.{image_again, state_again}
-use Rattle.adr_machine.specs.declared.answer.Answer.{Answer}
+use Rattle.adr_queries.specs.declared.answer.Answer.{Answer}
 use Rattle.adr_desk.specs.Holding.{HoldsItsOwn}
 use Rattle.adr_desk.specs.Steps.{IsStepped, HoldsStepped}
 use Rattle.adr_desk.specs.Transactions.{IsDropped}

@@ -10,7 +10,7 @@ use Rattle.adr_view.specs.declared.view.Content.{Content}
 use Rattle.adr_view.specs.Views.{view}
 use Rattle.adr_db.specs.Kept.{Keeps}
 use Rattle.adr_db.specs.Bases.{kept_of}
-use Rattle.adr_machine.specs.declared.answer.Answer.{Answer}
+use Rattle.adr_queries.specs.declared.answer.Answer.{Answer}
 use Rattle.adr_machine.specs.declared.outcome.Outcome.{Outcome}
 use Rattle.adr_machine.specs.Steps.{answered_by, changed, committed}
 use Rattle.adr_portfolio.proofs.Decisions.{refused_so}

@@ -5,8 +5,8 @@ use Rattle.adr_state.specs.declared.state.State.{State}
 use Rattle.adr_state.specs.States.{empty}
 use Rattle.adr_db.specs.Kept.{Kept}
 use Rattle.adr_db.specs.Images.{image_kept}
-use Rattle.adr_machine.specs.declared.query.Query.{Query}
-use Rattle.adr_machine.specs.declared.query.Query.TheVariants.{Vens, Ven, Resources, Resource, Shares}
+use Rattle.adr_queries.specs.declared.query.Query.{Query}
+use Rattle.adr_queries.specs.declared.query.Query.TheVariants.{Vens, Ven, Resources, Resource, Shares}
 
 -- whether the reply is that of the vens, resources and shares alone
 abbrev pub asks_portfolio : Query → Bool

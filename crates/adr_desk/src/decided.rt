@@ -2,7 +2,8 @@
 ghost use Rattle.std.specs.Prelude.{◌≡◌, IfOk, IfErr};
 ghost use Rattle.adr_sql.specs.Calls.{Stays};
 ghost use Rattle.adr_machine.specs.Edits.{decided};
-ghost use Rattle.adr_machine.specs.Listed.{listed, IsListed};
+ghost use Rattle.adr_queries.specs.Listed.{IsListed};
+ghost use Rattle.adr_machine.specs.Listed.{listed};
 ghost use Rattle.adr_desk.specs.Decisions.{CarriesOut, IsAnswered};
 
 use crate::reports::{report_delete, report_post, report_put};

@@ -8,8 +8,10 @@ ghost use Rattle.adr_state.specs.declared.state.State.{State};
 ghost use Rattle.adr_state.specs.States.{empty};
 ghost use Rattle.adr_db.specs.Bases.{HoldsState};
 ghost use Rattle.adr_db.specs.Calls.{IsOfStore};
-ghost use Rattle.adr_machine.specs.Listed.{listed, listed_for, IsListed};
-ghost use Rattle.adr_machine.specs.Steps.{step, reply, image_of};
+ghost use Rattle.adr_queries.specs.Listed.{listed_for, IsListed};
+ghost use Rattle.adr_machine.specs.Listed.{listed};
+ghost use Rattle.adr_queries.specs.Replies.{reply};
+ghost use Rattle.adr_machine.specs.Steps.{step, image_of};
 ghost use Rattle.adr_desk.specs.Holding.{HoldsItsOwn};
 ghost use Rattle.adr_desk.specs.Steps.{step_by, LeftStepped};
 

@@ -4,7 +4,7 @@ ghost use Rattle.sqlite.specs.Held.{state};
 ghost use Rattle.adr_db.specs.Calls.{IsOfStore};
 ghost use Rattle.adr_desk.specs.Transactions.{Ends};
 
-use adr_db::refusal_of;
+use adr_db::statement::refusal_of;
 use adr_text::Refusal;
 use sqlite::{Alter, Connection, Transaction};
 

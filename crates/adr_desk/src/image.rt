@@ -8,7 +8,7 @@ ghost use Rattle.adr_desk.specs.Transactions.{IsDropped};
 ghost use Rattle.adr_db.specs.Images.{image_kept};
 
 use crate::frame::begin;
-use adr_db::read_state;
+use adr_db_state::read_state;
 use adr_state::Image;
 use adr_text::Refusal;
 use sqlite::{Alter, Connection};

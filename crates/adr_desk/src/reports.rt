@@ -11,11 +11,12 @@ ghost use Rattle.adr_portfolio.specs.Refusals.{IsOneOf};
 ghost use Rattle.adr_reports.specs.Decided.{FindsOr};
 ghost use Rattle.adr_machine.specs.declared.command.Command.TheVariants as command;
 ghost use Rattle.adr_machine.specs.Edits.{post_decided, put_decided, delete_decided};
-ghost use Rattle.adr_machine.specs.Listed.{listed, IsListed};
-ghost use Rattle.adr_machine.specs.Roles.{sight_by, sight_of};
+ghost use Rattle.adr_queries.specs.Listed.{IsListed};
+ghost use Rattle.adr_machine.specs.Listed.{listed};
+ghost use Rattle.adr_queries.specs.Roles.{sight_by, sight_of};
 ghost use Rattle.adr_desk.specs.Decisions.{CarriesOut, IsAnswered};
 
-use adr_db::read_ven;
+use adr_db_portfolio::read_ven;
 use adr_machine::told::{of_report, of_report_gone};
 use adr_machine::{Outcome, Role, Sight};
 use adr_objects::{Number, ReportIn};

@@ -11,7 +11,7 @@ ghost use Rattle.adr_db.specs.Kept.{Kept, Keeps};
 ghost use Rattle.adr_db.specs.Calls.{LeavesKept, Turns, IsOfStore};
 ghost use Rattle.adr_desk.specs.Stamps.{left_at, left_of, are_those, put_at, put_all, stamped, with_restamped, turned_by};
 
-use adr_db::{put_stamps, read_stamps, remove_stamps};
+use adr_db_state::{put_stamps, read_stamps, remove_stamps};
 use adr_objects::Stamps;
 use adr_state::ViewKey;
 use adr_text::{Moment, Refusal, Table};

@@ -8,7 +8,8 @@ ghost use Rattle.adr_db.specs.Kept.{Kept, Keeps, with_meta};
 ghost use Rattle.adr_db.specs.Bases.{HoldsState};
 ghost use Rattle.adr_db.specs.Calls.{IsOfStore};
 ghost use Rattle.adr_machine.specs.Edits.{told_by, edit_of};
-ghost use Rattle.adr_machine.specs.Listed.{listed, IsListed};
+ghost use Rattle.adr_queries.specs.Listed.{IsListed};
+ghost use Rattle.adr_machine.specs.Listed.{listed};
 ghost use Rattle.adr_desk.specs.Decisions.{IsAnswered};
 ghost use Rattle.adr_desk.specs.Steps.{step_of, step_by, EditsTables, StepsTables, RefusesAs, HoldsStepped, LeftStepped};
 

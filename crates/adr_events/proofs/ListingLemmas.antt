@@ -7,19 +7,19 @@ use Rattle.adr_state.specs.declared.portfolio.Portfolio.{Portfolio}
 use Rattle.adr_state.specs.declared.state.State.{State}
 use Rattle.adr_state.specs.Vens.{ven_at}
 use Rattle.adr_view.specs.Views.{view}
-use Rattle.adr_machine.specs.declared.answer.Answer.{Answer}
-use Rattle.adr_machine.specs.declared.answer.Answer.TheVariants as answer
-use Rattle.adr_machine.specs.declared.answer.Object.{Object}
-use Rattle.adr_machine.specs.declared.filter.EventFilter.{EventFilter}
-use Rattle.adr_machine.specs.declared.query.Page.{Page}
-use Rattle.adr_machine.specs.declared.role.Role.{Role}
-use Rattle.adr_machine.specs.declared.role.Role.TheVariants as role
+use Rattle.adr_queries.specs.declared.answer.Answer.{Answer}
+use Rattle.adr_queries.specs.declared.answer.Answer.TheVariants as answer
+use Rattle.adr_queries.specs.declared.answer.Object.{Object}
+use Rattle.adr_queries.specs.declared.filter.EventFilter.{EventFilter}
+use Rattle.adr_queries.specs.declared.query.Page.{Page}
+use Rattle.adr_queries.specs.declared.role.Role.{Role}
+use Rattle.adr_queries.specs.declared.role.Role.TheVariants as role
 use Rattle.adr_view.specs.declared.sight.Sight.{Sight}
-use Rattle.adr_machine.specs.Filters.{wanted_of}
-use Rattle.adr_machine.specs.Listed.{IsListed}
-use Rattle.adr_machine.specs.Listings.{page_of}
-use Rattle.adr_machine.specs.Roles.{sight_by, sight_of}
-use Rattle.adr_machine.specs.Shown.{objects_seen, objects_in_sight, events_reply}
+use Rattle.adr_queries.specs.Filters.{wanted_of}
+use Rattle.adr_queries.specs.Listed.{IsListed}
+use Rattle.adr_queries.specs.Listings.{page_of}
+use Rattle.adr_queries.specs.Roles.{sight_by, sight_of}
+use Rattle.adr_queries.specs.Shown.{objects_seen, objects_in_sight, events_reply}
 
 -- ---- the reply
 

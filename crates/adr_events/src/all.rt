@@ -6,7 +6,8 @@ ghost use Rattle.adr_view.specs.Views.{view};
 ghost use Rattle.adr_db.specs.Calls.{IsOfStore};
 ghost use Rattle.adr_db.specs.BaseCalls.{FindsOn};
 
-use adr_db::{read_mirror, read_portfolio};
+use adr_db_mirror::read_mirror;
+use adr_db_portfolio::read_portfolio;
 use adr_state::{Base, Mark, MirrorKey, Portfolio, Serial};
 use adr_text::{Refusal, Table};
 use adr_view::{View, view_of};

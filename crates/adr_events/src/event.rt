@@ -7,7 +7,7 @@ ghost use Rattle.adr_db.specs.BaseCalls.{FindsOn};
 ghost use Rattle.adr_events.specs.Shown.{IsShown};
 
 use crate::mark::rows_known;
-use adr_db::read_known;
+use adr_db_mirror::read_known;
 use adr_objects::EventBody;
 use adr_portfolio::named_participants;
 use adr_state::{Participant, ViewKey};

@@ -7,20 +7,20 @@ ghost use Rattle.adr_view.specs.Views.{view};
 ghost use Rattle.adr_db.specs.Images.{image_kept};
 ghost use Rattle.adr_db.specs.Calls.{Finds, IsOfStore};
 ghost use Rattle.adr_db.specs.BaseCalls.{Refuses};
-ghost use Rattle.adr_machine.specs.declared.answer.Answer.TheVariants as answer;
-ghost use Rattle.adr_machine.specs.Filters.{wanted_of};
-ghost use Rattle.adr_machine.specs.Listed.{IsListed};
-ghost use Rattle.adr_machine.specs.Listings.{page_of};
-ghost use Rattle.adr_machine.specs.Shown.{objects_seen, events_reply};
+ghost use Rattle.adr_queries.specs.declared.answer.Answer.TheVariants as answer;
+ghost use Rattle.adr_queries.specs.Filters.{wanted_of};
+ghost use Rattle.adr_queries.specs.Listed.{IsListed};
+ghost use Rattle.adr_queries.specs.Listings.{page_of};
+ghost use Rattle.adr_queries.specs.Shown.{objects_seen, events_reply};
 
 use crate::all::view;
-use adr_db::{read_portfolio, read_stamps};
-use adr_machine::{
-    EventFilter, Object, Page, Role, Sight, objects_seen, page_of, sight_of, wanted_of,
-};
+use adr_db_portfolio::read_portfolio;
+use adr_db_state::read_stamps;
 use adr_objects::Kind;
+use adr_queries::{EventFilter, Object, Page, Role, objects_seen, page_of, sight_of, wanted_of};
 use adr_state::{Base, Serial};
 use adr_text::{Refusal, Rows, Table};
+use adr_view::Sight;
 use sqlite::{Alter, Transaction};
 use std::alloc::{AllocError, Global};
 

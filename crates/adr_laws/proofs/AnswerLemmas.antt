@@ -25,7 +25,7 @@ use Rattle.adr_machine.specs.declared.command.Command.TheVariants.{Evidence, Gon
 use Rattle.adr_machine.specs.declared.outcome.Outcome.{Outcome}
 use Rattle.adr_machine.specs.declared.outcome.Outcome.TheVariants as outcome
 use Rattle.adr_machine.specs.Edits.{Decision}
-use Rattle.adr_machine.specs.Shown.{object_at, told}
+use Rattle.adr_queries.specs.Shown.{object_at, told}
 use Rattle.adr_machine.specs.Steps.{answered_by}
 use Rattle.adr_machine.specs.Steps.{changed as restamped_by, committed}
 use Rattle.adr_laws.specs.Laws.{IsStampedAsShown, ReportsAreAnswered, ReportsAreAnsweredAfterRuns}

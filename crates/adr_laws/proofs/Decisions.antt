@@ -29,11 +29,11 @@ use Rattle.adr_state.specs.ShownIds.{resource_part, event_part, id_in, resource_
 use Rattle.adr_view.specs.declared.report.Reported.{Reported}
 use Rattle.adr_view.specs.Reports.{is_shown_to, reported_of, reported_by, reported_in, reported, fits, kept_report, report_on, report_with_id, putting_report, report_made, report_replaced, report_removed, may_report, may_change}
 use Rattle.adr_view.specs.Rollups.{event_at}
-use Rattle.adr_machine.specs.declared.answer.Answer.{Answer}
+use Rattle.adr_queries.specs.declared.answer.Answer.{Answer}
 use Rattle.adr_machine.specs.declared.command.Command.TheVariants.{Evidence, Gone, ScanBegin, ScanEnd, VenAdd, VenPut, VenRemove, ResourceAdd, ResourcePut, ResourceRemove, ShareSet, ReportPost, ReportPut, ReportDelete}
 use Rattle.adr_machine.specs.declared.outcome.Outcome.{Outcome}
 use Rattle.adr_machine.specs.declared.outcome.Outcome.TheVariants as outcome
-use Rattle.adr_machine.specs.Roles.{sight_of}
+use Rattle.adr_queries.specs.Roles.{sight_of}
 use Rattle.adr_state.specs.Serials.{drawn}
 use Rattle.adr_machine.specs.Edits.{Decision, is_allowed, counted, of_portfolio, report_kept, report_gone, draws_number, decided, numbered, edit_of, edit}
 use Rattle.adr_machine.specs.Steps.{answered_by}

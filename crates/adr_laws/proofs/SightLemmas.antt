@@ -12,9 +12,9 @@ use Rattle.adr_state.specs.declared.keys.ViewKey.TheVariants as key
 use Rattle.adr_view.specs.declared.view.Content.{Content}
 use Rattle.adr_view.specs.declared.view.Content.TheVariants as content
 use Rattle.adr_view.specs.Views.{rows_shown, view}
-use Rattle.adr_machine.specs.declared.answer.Object.{Object}
-use Rattle.adr_machine.specs.declared.answer.Object.TheVariants as object
-use Rattle.adr_machine.specs.Shown.{is_of, sees, rows_in_sight, object_of, object_at}
+use Rattle.adr_queries.specs.declared.answer.Object.{Object}
+use Rattle.adr_queries.specs.declared.answer.Object.TheVariants as object
+use Rattle.adr_queries.specs.Shown.{is_of, sees, rows_in_sight, object_of, object_at}
 use Rattle.adr_laws.specs.Told.{Tells, is_object}
 use Rattle.adr_laws.specs.Laws.{ObjectsLackNone, ShownIsTold}
 use Rattle.adr_view.proofs.KeyLemmas.{view_exact}

@@ -20,12 +20,12 @@ use Rattle.adr_view.specs.declared.view.Content.TheVariants as content
 use Rattle.adr_view.proofs.ListLemmas.{in_order_append}
 use Rattle.adr_view.proofs.OrderLemmas.{InOrder, none_sorted, in_order_put, in_order_removed, in_order_filtered}
 use Rattle.adr_view.proofs.RowLemmas.{from_put, from_removal, from_filter}
-use Rattle.adr_machine.specs.declared.answer.Answer.{Answer}
-use Rattle.adr_machine.specs.declared.answer.Answer.TheVariants as answer
-use Rattle.adr_machine.specs.declared.answer.Object.TheVariants as object
+use Rattle.adr_queries.specs.declared.answer.Answer.{Answer}
+use Rattle.adr_queries.specs.declared.answer.Answer.TheVariants as answer
+use Rattle.adr_queries.specs.declared.answer.Object.TheVariants as object
 use Rattle.adr_machine.specs.declared.command.Command.TheVariants.{Evidence, Gone, ScanBegin, ScanEnd, VenAdd, VenPut, VenRemove, ResourceAdd, ResourcePut, ResourceRemove, ShareSet, ReportPost, ReportPut, ReportDelete}
 use Rattle.adr_machine.specs.Edits.{Decision, draws_number}
-use Rattle.adr_machine.specs.Shown.{object_at, told}
+use Rattle.adr_queries.specs.Shown.{object_at, told}
 use Rattle.adr_machine.specs.Steps.{answered_by}
 use Rattle.adr_machine.specs.Steps.{changed as restamped_by}
 use Rattle.adr_laws.specs.Reported.{report_in, written_by, written_in, written, WritesOne, Writes, ReportsAreWrittenAsSent}

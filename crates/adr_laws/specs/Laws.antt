@@ -29,15 +29,15 @@ use Rattle.adr_state.specs.Weights.{most_weight}
 use Rattle.adr_view.specs.declared.view.Content.{Content}
 use Rattle.adr_view.specs.Views.{view}
 use Rattle.adr_view.specs.Laws.{StandsInOrder}
-use Rattle.adr_machine.specs.declared.answer.Answer.{Answer}
+use Rattle.adr_queries.specs.declared.answer.Answer.{Answer}
 use Rattle.adr_machine.specs.declared.command.Command.{Command}
 use Rattle.adr_machine.specs.declared.command.Command.TheVariants.{Evidence, Gone}
 use Rattle.adr_view.specs.declared.sight.Sight.{Sight}
 use Rattle.adr_machine.specs.Runs.{state_after, stands, step_at, IsRun}
 use Rattle.adr_machine.specs.Edits.{edit}
 use Rattle.adr_machine.specs.Steps.{committed}
-use Rattle.adr_machine.specs.declared.answer.Object.{Object}
-use Rattle.adr_machine.specs.Shown.{rows_in_sight, objects_in_sight, object_shown}
+use Rattle.adr_queries.specs.declared.answer.Object.{Object}
+use Rattle.adr_queries.specs.Shown.{rows_in_sight, objects_in_sight, object_shown}
 use Rattle.adr_laws.specs.Enrolled.{enrolled}
 use Rattle.adr_laws.specs.ShownParts.{IsLive, IsSharedOut}
 use Rattle.adr_laws.specs.Standing.{answers_of, state_of, standing}

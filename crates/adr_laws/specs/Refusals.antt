@@ -6,10 +6,12 @@ use Rattle.adr_state.specs.declared.state.State.{State}
 use Rattle.adr_state.specs.declared.limits.Limits.{Limits}
 use Rattle.adr_state.specs.declared.limits.Settings.{Settings}
 use Rattle.adr_machine.specs.declared.command.Command.{Command}
-use Rattle.adr_machine.specs.declared.query.Query.{Query}
+use Rattle.adr_queries.specs.declared.query.Query.{Query}
 use Rattle.adr_machine.specs.Edits.{edit}
-use Rattle.adr_machine.specs.Listed.{listed, listed_for, is_of_machine}
-use Rattle.adr_machine.specs.Steps.{step, reply}
+use Rattle.adr_queries.specs.Listed.{listed_for, is_of_machine}
+use Rattle.adr_machine.specs.Listed.{listed}
+use Rattle.adr_queries.specs.Replies.{reply}
+use Rattle.adr_machine.specs.Steps.{step}
 
 -- whatever the base, the state, the limits and the moment: an edit, a step and a reply are refused by nothing but what is listed for their command or query; and all that is listed is the machine's own, so never want of memory, the store's refusal, a full trail or a pass that is ahead
 pub record RefusalsAreListed : Type 0 where

@@ -27,12 +27,12 @@ use Rattle.adr_view.specs.Reports.{reported}
 use Rattle.adr_view.specs.Rollups.{usage_in, latest, reports_of, reports_on}
 use Rattle.adr_view.specs.Same.{is_same_report}
 use Rattle.adr_view.specs.Views.{view}
-use Rattle.adr_machine.specs.declared.answer.Answer.{Answer}
-use Rattle.adr_machine.specs.declared.answer.Answer.TheVariants as answer
-use Rattle.adr_machine.specs.declared.answer.Object.TheVariants as object
+use Rattle.adr_queries.specs.declared.answer.Answer.{Answer}
+use Rattle.adr_queries.specs.declared.answer.Answer.TheVariants as answer
+use Rattle.adr_queries.specs.declared.answer.Object.TheVariants as object
 use Rattle.adr_machine.specs.declared.command.Command.{Command}
 use Rattle.adr_machine.specs.declared.command.Command.TheVariants.{ReportPost, ReportPut, ReportDelete}
-use Rattle.adr_machine.specs.declared.role.Role.{Role}
+use Rattle.adr_queries.specs.declared.role.Role.{Role}
 use Rattle.adr_machine.specs.Runs.{state_after, step_at}
 use Rattle.adr_laws.specs.ShownParts.{IsLive}
 use Rattle.adr_laws.specs.Standing.{state_of}

@@ -6,8 +6,8 @@ use Rattle.adr_state.specs.declared.keys.ViewKey.TheVariants as key
 use Rattle.adr_state.specs.Keys.{view_cmp, at}
 use Rattle.adr_view.specs.declared.view.Content.{Content}
 use Rattle.adr_view.specs.declared.view.Content.TheVariants as content
-use Rattle.adr_machine.specs.declared.answer.Object.{Object}
-use Rattle.adr_machine.specs.declared.answer.Object.TheVariants as object
+use Rattle.adr_queries.specs.declared.answer.Object.{Object}
+use Rattle.adr_queries.specs.declared.answer.Object.TheVariants as object
 
 -- an object tells what is shown at a key, and the stamps that stand there
 abbrev pub Tells : List (ViewKey × Stamps) → ViewKey × Content → Object → Type 0

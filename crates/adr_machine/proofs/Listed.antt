@@ -1,11 +1,10 @@
--- That the machine refuses only as is listed.
-use Rattle.std.proofs.Common.{◌≡◌, ◌≢◌, ℕ, ◌+◌, not, ◌&&◌, Bool, true, false, cond, List, [], ◌∷◌, ◌++◌, Contains, Option, Some, None, Result, Ok, Err, IfErr, IfOk, refl, subst, arith}
+-- That the machine refuses a command only as is listed.
+use Rattle.std.proofs.Common.{◌≡◌, ℕ, ◌+◌, ◌&&◌, Bool, true, false, cond, List, [], ◌∷◌, ◌++◌, Contains, Option, Some, None, Result, Ok, Err, IfErr, IfOk, refl, subst, arith}
 use Rattle.std.specs.List.{list_all}
 use Rattle.std.proofs.lemmas.Bool.{cond_both}
-use Rattle.std.proofs.lemmas.Result.{IfErr-at_err}
-use Rattle.adr_text.specs.Refusals.{◌>>=◌, or_else, IsRefusalOf}
+use Rattle.adr_text.specs.Refusals.{◌>>=◌}
 use Rattle.adr_text.specs.declared.refusal.Refusal.{Refusal}
-use Rattle.adr_text.specs.declared.refusal.Refusal.TheVariants.{OutOfMemory, Store, Exhausted, NotFound, Conflict, Forbidden, BadShare, LimitReached, ResourceNotOfEvent, NoScan}
+use Rattle.adr_text.specs.declared.refusal.Refusal.TheVariants.{Exhausted, NotFound, Conflict, Forbidden, BadShare, LimitReached, ResourceNotOfEvent, NoScan}
 use Rattle.adr_state.specs.declared.base.Base.{Base}
 use Rattle.adr_state.specs.declared.state.State.{State}
 use Rattle.adr_state.specs.declared.limits.Limits.{Limits}
@@ -13,14 +12,10 @@ use Rattle.adr_state.specs.declared.limits.Settings.{Settings}
 use Rattle.adr_state.specs.declared.base.Mark.{Mark}
 use Rattle.adr_state.specs.declared.base.Mark.TheVariants.{Dead}
 use Rattle.adr_state.specs.declared.keys.MirrorKey.{MirrorKey}
-use Rattle.adr_objects.specs.declared.report.Rollup.{Rollup}
 use Rattle.adr_objects.specs.declared.shown.Stamps.{Stamps}
 use Rattle.adr_objects.specs.declared.site.ReportIn.{ReportIn}
 use Rattle.adr_state.specs.declared.keys.ViewKey.{ViewKey}
 use Rattle.adr_state.specs.declared.keys.ViewKey.TheVariants as key
-use Rattle.adr_state.specs.declared.portfolio.Report.{Report}
-use Rattle.adr_state.specs.declared.portfolio.Resource.{Resource}
-use Rattle.adr_state.specs.declared.portfolio.Ven.{Ven}
 use Rattle.adr_state.specs.declared.keys.ShareKey.{ShareKey}
 use Rattle.adr_state.specs.Evidence.{joining, scan_with, evidence, gone, open_scan, scan_end}
 use Rattle.adr_state.specs.Mirror.{evidence_of}
@@ -29,65 +24,35 @@ use Rattle.adr_state.specs.Portfolios.{PortfolioChange}
 use Rattle.adr_state.specs.BaseChanges.{ChangePortfolio}
 use Rattle.adr_state.specs.Serials.{drawn}
 use Rattle.adr_state.specs.Shares.{weight_set, share_of, share_set}
-use Rattle.adr_state.specs.Resources.{is_under, resource_at, resource_under, resource_add, resource_put, resource_remove}
+use Rattle.adr_state.specs.Resources.{resource_at, resource_under, resource_add, resource_put, resource_remove}
 use Rattle.adr_state.specs.Vens.{ven_with_id, ven_at, ven_add, ven_put, ven_remove}
-use Rattle.adr_machine.specs.declared.answer.Answer.{Answer}
-use Rattle.adr_machine.specs.declared.answer.Answer.TheVariants as answer
-use Rattle.adr_machine.specs.declared.answer.Object.{Object}
+use Rattle.adr_queries.specs.declared.answer.Answer.{Answer}
+use Rattle.adr_queries.specs.declared.answer.Answer.TheVariants as answer
+use Rattle.adr_queries.specs.declared.answer.Object.{Object}
 use Rattle.adr_machine.specs.declared.command.Command.{Command}
 use Rattle.adr_machine.specs.declared.command.Command.TheVariants.{Evidence, Gone, ScanBegin, ScanEnd, VenAdd, VenPut, VenRemove, ResourceAdd, ResourcePut, ResourceRemove, ShareSet, ReportPost, ReportPut, ReportDelete}
-use Rattle.adr_machine.specs.declared.query.Query.{Query}
-use Rattle.adr_machine.specs.declared.query.Query.TheVariants as query
-use Rattle.adr_machine.specs.declared.query.Page.{Page}
-use Rattle.adr_view.specs.declared.sight.Sight.{Sight}
 use Rattle.adr_machine.specs.declared.outcome.Outcome.{Outcome}
 use Rattle.adr_machine.specs.declared.outcome.Outcome.TheVariants as outcome
-use Rattle.adr_machine.specs.declared.role.Role.{Role}
-use Rattle.adr_machine.specs.declared.role.Role.TheVariants as role
-use Rattle.adr_machine.specs.Roles.{is_operator, sight_by, sight_of}
+use Rattle.adr_queries.specs.declared.role.Role.{Role}
+use Rattle.adr_queries.specs.Roles.{sight_of}
 use Rattle.adr_machine.specs.Edits.{is_allowed, draws_number, counted, answered, of_portfolio, ven_outcome, resource_outcome, share_outcome, post_decided, put_decided, delete_decided, decided, edit_of, edit}
-use Rattle.adr_machine.specs.Listed.{listed, listed_for, is_of_machine, IsListed}
-use Rattle.adr_state.specs.ShownIds.{resource_part, event_part, resource_named}
-use Rattle.adr_machine.specs.Shown.{object_at, told, event_shown, event_told, event_named}
+use Rattle.adr_queries.specs.Listed.{is_of_machine, IsListed}
+use Rattle.adr_machine.specs.Listed.{listed}
+use Rattle.adr_queries.specs.Shown.{object_at, told}
 use Rattle.adr_view.specs.declared.view.Content.TheVariants as content
 use Rattle.adr_view.specs.Reports.{reported, fits, report_on, report_with_id, may_report, may_change, report_post, report_put, report_delete}
-use Rattle.adr_view.specs.Rollups.{rollup_at}
-use Rattle.adr_view.specs.Sights.{sees_ven}
-use Rattle.adr_machine.specs.Listings.{ven_told, resources_told, resource_told}
-use Rattle.adr_machine.specs.Reported.{sees_report, report_told, rollup_told}
 use Rattle.adr_machine.specs.Runs.{AreListed}
-use Rattle.adr_machine.specs.Steps.{answered_by, changed, committed, step, reply, probes_reply}
+use Rattle.adr_machine.specs.Steps.{answered_by, changed, committed, step}
+use Rattle.adr_queries.proofs.Refuses.{Refuses, never, either, tested, first_then, found_then, sight_so}
 
--- ---- tests that refuse
-
--- a result is no other refusal than these
-record Refuses {A : Type 0} (P : Refusal → Type 0) (r : Result A Refusal) : Type 0 where
-  so : IfErr r P
+-- ---- names
 
 module _ (P : Refusal → Type 0) where
-  never : {A : Type 0} (x : A) → Refuses P (Ok x)
-  never x = record { so = tt }
-
-  either : {A : Type 0} (test : Bool) (r q : Result A Refusal) → Refuses P r → Refuses P q → Refuses P (cond test r q)
-  either true r q this that = this
-  either false r q this that = that
-
-  tested : {A : Type 0} (refuses : Bool) (e : Refusal) (r : Result A Refusal) → P e → Refuses P r → Refuses P (cond refuses (Err e) r)
-  tested refuses e r first others = either refuses (Err e) r (record { so = first }) others
-
-  first_then : {A B : Type 0} (r : Result B Refusal) (f : B → Result A Refusal) → Refuses P r → ((x : B) → Refuses P (f x)) → Refuses P (r >>= f)
-  first_then (Ok x) f first others = others x
-  first_then (Err e) f first others = record { so = first.so }
-
-  found_then : {A B : Type 0} (e : Refusal) (o : Option B) (f : B → Result A Refusal) → P e → ((x : B) → Refuses P (f x)) → Refuses P (or_else e o >>= f)
-  found_then e None f first others = record { so = first }
-  found_then e (Some x) f first others = others x
-
   new : {A : Type 0} (taken full : Bool) (made : A) → P Conflict → P LimitReached → Refuses P (if_new taken full made)
-  new taken full made conflict limit = tested taken Conflict (cond full (Err LimitReached) (Ok made)) conflict (tested full LimitReached (Ok made) limit (never made))
+  new taken full made conflict limit = tested P taken Conflict (cond full (Err LimitReached) (Ok made)) conflict (tested P full LimitReached (Ok made) limit (never P made))
 
   free : {A : Type 0} (taken : Bool) (made : A) → P Conflict → Refuses P (if_free taken made)
-  free taken made conflict = tested taken Conflict (Ok made) conflict (never made)
+  free taken made conflict = tested P taken Conflict (Ok made) conflict (never P made)
 
 -- ---- commands
 
@@ -105,17 +70,6 @@ module _ (P : Refusal → Type 0) (limits : Limits) (base : Base) where
   scan_so : (scan : Option (List MirrorKey)) → P NoScan → Refuses P (open_scan scan)
   scan_so None no_scan = record { so = no_scan }
   scan_so (Some polled) no_scan = never P polled
-
--- what is out of sight
-module _ (P : Refusal → Type 0) (base : Base) (forbidden : P Forbidden) where
-  sight_so : (role : Role) → Refuses P (sight_of base role)
-  sight_so role.Operator = never P _
-  sight_so (role.Ven id) = by (ven_at id base.portfolio)
-    where
-      by : (o : Option ℕ) → Refuses P (sight_by o)
-      by None = record { so = forbidden }
-      by (Some n) = never P _
-  sight_so role.Utility = record { so = forbidden }
 
 module _ (P : Refusal → Type 0) (limits : Limits) (base : Base) (forbidden : P Forbidden) (missing : P NotFound) where
   delete_so : (role : Role) (id : List ℕ) → Refuses P (delete_decided role id base)
@@ -271,68 +225,6 @@ pub step_listed : (settings : Settings) (s : State) (now : ℕ) (c : Command) �
 step_listed settings s now c =
     (then_with (Contains (listed c)) (λ e. IsAnswered c e.0) (edit settings.limits now s.base c) _ (edit_so settings.limits now s.base c) (edit_answered settings.limits now s.base c) (λ e is. first_then _ _ _ (is s.stamps (changed s now e.1)) (λ a. never _ _))).so
 
--- ---- queries
-
-module _ (P : Refusal → Type 0) (base : Base) (forbidden : P Forbidden) where
-  shown : {A : Type 0} (sees : Bool) (x : A) → Refuses P (cond sees (Ok x) (Err Forbidden))
-  shown sees x = either P sees (Ok x) (Err Forbidden) (never P x) (record { so = forbidden })
-
-  module _ (missing : P NotFound) (sight : Sight) where
-    told_so : (o : Option Object) → Refuses P (told o)
-    told_so None = record { so = missing }
-    told_so (Some o) = never P _
-
-    event_so : (s : State) (resource : List ℕ) (event : Option (List ℕ)) → Refuses P (event_named s sight resource event)
-    event_so s resource None = record { so = missing }
-    event_so s resource (Some event) = by (resource_named s.base.portfolio resource)
-      where
-        by : (o : Option (ℕ × Resource)) → Refuses P (event_told s sight event o)
-        by None = record { so = missing }
-        by (Some (n, r)) = either P (sees_ven sight r.ven) _ _ (told_so (event_shown s n event)) (record { so = forbidden })
-
-    report_so : (s : State) (o : Option (ℕ × Report)) → Refuses P (report_told s sight o)
-    report_so s None = record { so = missing }
-    report_so s (Some r) = either P (sees_report s.base sight r) _ _ (told_so _) (record { so = forbidden })
-
-    ven_so : (o : Option (ℕ × Ven)) → Refuses P (ven_told sight o)
-    ven_so None = record { so = missing }
-    ven_so (Some (n, ven)) = shown _ _
-
-    resources_so : (page : Page) (o : Option ℕ) → Refuses P (resources_told base page sight o)
-    resources_so page None = record { so = missing }
-    resources_so page (Some ven) = shown _ _
-
-    resource_so : (ven : List ℕ) (o : Option (ℕ × Resource)) → Refuses P (resource_told base ven sight o)
-    resource_so ven None = record { so = missing }
-    resource_so ven (Some (n, resource)) = tested P (not (sees_ven sight resource.ven)) Forbidden _ forbidden (either P (is_under ven base.portfolio resource) _ _ (never P _) (record { so = missing }))
-
-rollup_so : {P : Refusal → Type 0} → P NotFound → (event : List ℕ) (o : Option Rollup) → Refuses P (rollup_told event o)
-rollup_so missing event None = record { so = missing }
-rollup_so missing event (Some rollup) = never _ _
-
-scan_told : (limit : ℕ) (base : Base) (scan : Option (List MirrorKey)) → Refuses (Contains (NoScan ∷ [])) (probes_reply limit base scan)
-scan_told limit base None = record { so = (0, omega arith, refl) }
-scan_told limit base (Some polled) = never _ _
-
-reply_so : (s : State) (q : Query) → Refuses (Contains (listed_for q)) (reply s q)
-unfolding reply
-reply_so s (query.Programs role page) = first_then _ _ _ (sight_so _ s.base (0, omega arith, refl) role) (λ sight. never _ _)
-reply_so s (query.Program role id) = first_then _ _ _ (sight_so _ s.base (0, omega arith, refl) role) (λ sight. told_so _ s.base (0, omega arith, refl) (1, omega arith, refl) sight _)
-reply_so s (query.Events role filter page) = first_then _ _ _ (sight_so _ s.base (0, omega arith, refl) role) (λ sight. never _ _)
-reply_so s (query.Event role id) = first_then _ _ _ (sight_so _ s.base (0, omega arith, refl) role) (λ sight. event_so _ s.base (0, omega arith, refl) (1, omega arith, refl) sight s (resource_part id) (event_part id))
-reply_so s (query.Vens role page) = first_then _ _ _ (sight_so _ s.base (0, omega arith, refl) role) (λ sight. never _ _)
-reply_so s (query.Ven role id) = first_then _ _ _ (sight_so _ s.base (0, omega arith, refl) role) (λ sight. ven_so _ s.base (0, omega arith, refl) (1, omega arith, refl) sight _)
-reply_so s (query.Resources role ven page) = first_then _ _ _ (sight_so _ s.base (0, omega arith, refl) role) (λ sight. resources_so _ s.base (0, omega arith, refl) (1, omega arith, refl) sight page _)
-reply_so s (query.Resource role ven id) = first_then _ _ _ (sight_so _ s.base (0, omega arith, refl) role) (λ sight. resource_so _ s.base (0, omega arith, refl) (1, omega arith, refl) sight ven _)
-reply_so s (query.Shares role program) = shown _ s.base (0, omega arith, refl) _ _
-reply_so s (query.Reports role filter page) = first_then _ _ _ (sight_so _ s.base (0, omega arith, refl) role) (λ sight. never _ _)
-reply_so s (query.Report role id) = first_then _ _ _ (sight_so _ s.base (0, omega arith, refl) role) (λ sight. report_so _ s.base (0, omega arith, refl) (1, omega arith, refl) sight s (report_with_id id s.base.portfolio))
-reply_so s (query.Rollup role event) = either _ (is_operator role) _ _ (rollup_so (1, omega arith, refl) event (rollup_at s.base.mirror s.base.portfolio event)) (record { so = (0, omega arith, refl) })
-reply_so s (query.Probes limit) = scan_told limit s.base s.base.scan
-
-pub reply_listed : (s : State) (q : Query) → IfErr (reply s q) (Contains (listed_for q))
-reply_listed s q = (reply_so s q).so
-
 -- ---- what is listed
 
 pub listed_of_machine : (c : Command) → list_all is_of_machine (listed c) ≡ true
@@ -351,29 +243,7 @@ listed_of_machine (ReportPost role report) = refl
 listed_of_machine (ReportPut role id report) = refl
 listed_of_machine (ReportDelete role id) = refl
 
-pub listed_for_of_machine : (q : Query) → list_all is_of_machine (listed_for q) ≡ true
-listed_for_of_machine (query.Programs role page) = refl
-listed_for_of_machine (query.Program role id) = refl
-listed_for_of_machine (query.Events role filter page) = refl
-listed_for_of_machine (query.Event role id) = refl
-listed_for_of_machine (query.Vens role page) = refl
-listed_for_of_machine (query.Ven role id) = refl
-listed_for_of_machine (query.Resources role ven page) = refl
-listed_for_of_machine (query.Resource role ven id) = refl
-listed_for_of_machine (query.Shares role program) = refl
-listed_for_of_machine (query.Reports role filter page) = refl
-listed_for_of_machine (query.Report role id) = refl
-listed_for_of_machine (query.Rollup role event) = refl
-listed_for_of_machine (query.Probes limit) = refl
-
--- ---- desks
-
--- a desk that refuses as the machine does, or for want of memory, refuses as is listed
-pub as_listed : {A B : Type 0} (these : List Refusal) (r : Result A Refusal) (taken : Result B Refusal) → IfErr taken (Contains these) → IfErr r (λ e. IsRefusalOf e taken) → r ≢ Err Store → IfErr r (IsListed ⊥ these)
-as_listed these (Ok a) taken so refused no_store = tt
-as_listed these (Err OutOfMemory) taken so refused no_store = tt
-as_listed these (Err Store) taken so refused no_store = no_store refl
-as_listed these (Err e) taken so refused no_store = IfErr-at_err (Contains these) refused so
+-- ---- runs
 
 -- one answer more
 pub AreListed-push : (P : Type 0) (cs : List (ℕ × Command)) (rs : List (Result Answer Refusal)) (c : ℕ × Command) (r : Result Answer Refusal) → AreListed P cs rs → IfErr r (IsListed P (listed c.1)) → AreListed P (cs ++ c ∷ []) (rs ++ r ∷ [])

@@ -19,15 +19,15 @@ use Rattle.adr_objects.specs.declared.site.ReportIn.{ReportIn}
 use Rattle.adr_objects.specs.declared.shown.ResourceObject.{ResourceObject}
 use Rattle.adr_objects.specs.declared.shown.ShareObject.{ShareObject}
 use Rattle.adr_view.specs.Reports.{report_post, report_put, report_delete}
-use Rattle.adr_machine.specs.declared.role.Role.{Role}
+use Rattle.adr_queries.specs.declared.role.Role.{Role}
 use Rattle.adr_machine.specs.declared.command.Command.{Command}
 use Rattle.adr_machine.specs.declared.command.Command.TheVariants.{Evidence, Gone, ScanBegin, ScanEnd, VenAdd, VenPut, VenRemove, ResourceAdd, ResourcePut, ResourceRemove, ShareSet, ReportPost, ReportPut, ReportDelete}
-use Rattle.adr_machine.specs.declared.answer.Object.TheVariants as object
-use Rattle.adr_machine.specs.declared.answer.Answer.{Answer}
-use Rattle.adr_machine.specs.declared.answer.Answer.TheVariants as answer
+use Rattle.adr_queries.specs.declared.answer.Object.TheVariants as object
+use Rattle.adr_queries.specs.declared.answer.Answer.{Answer}
+use Rattle.adr_queries.specs.declared.answer.Answer.TheVariants as answer
 use Rattle.adr_machine.specs.declared.outcome.Outcome.{Outcome}
 use Rattle.adr_machine.specs.declared.outcome.Outcome.TheVariants as outcome
-use Rattle.adr_machine.specs.Roles.{is_operator, sight_of}
+use Rattle.adr_queries.specs.Roles.{is_operator, sight_of}
 
 -- ---- who may give it
 

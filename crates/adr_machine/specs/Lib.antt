@@ -1,9 +1,3 @@
-pub mod Roles
-pub mod Listings
-pub mod Filters
-pub mod Shown
-pub mod Reported
-pub mod Changes
 pub mod Edits
 pub mod Listed
 pub mod Steps

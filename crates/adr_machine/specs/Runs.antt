@@ -5,8 +5,9 @@ use Rattle.adr_text.specs.declared.refusal.Refusal.TheVariants.{OutOfMemory, Sto
 use Rattle.adr_state.specs.declared.state.State.{State}
 use Rattle.adr_state.specs.declared.limits.Settings.{Settings}
 use Rattle.adr_machine.specs.declared.command.Command.{Command}
-use Rattle.adr_machine.specs.declared.answer.Answer.{Answer}
-use Rattle.adr_machine.specs.Listed.{listed, IsListed}
+use Rattle.adr_queries.specs.declared.answer.Answer.{Answer}
+use Rattle.adr_queries.specs.Listed.{IsListed}
+use Rattle.adr_machine.specs.Listed.{listed}
 use Rattle.adr_machine.specs.Steps.{step}
 
 -- what a step tells the caller

@@ -2,8 +2,8 @@
 ghost use Rattle.std.specs.Prelude.{◌≡◌};
 ghost use Rattle.std.specs.Option.{option_copied};
 
-use crate::role::{Role, is_operator};
 use adr_objects::{Found, Kind, ReportIn, ResourceIn, ShareIn, VenIn};
+use adr_queries::{Role, is_operator};
 use adr_text::{ObjectId, Rows};
 
 /// A command. Each is one step, at a moment.

@@ -1,15 +1,16 @@
 //! Steps: an edit, and then its commit.
 ghost use Rattle.std.specs.Prelude.{◌≡◌, ◌≢◌, Ok, Err, IfOk, IfErr};
 ghost use Rattle.adr_text.specs.declared.refusal.Refusal.TheVariants.{Store};
-ghost use Rattle.adr_machine.specs.Listed.{listed, IsListed};
+ghost use Rattle.adr_queries.specs.Listed.{IsListed};
+ghost use Rattle.adr_machine.specs.Listed.{listed};
 ghost use Rattle.adr_machine.specs.Steps.{changed, committed, step};
 ghost use Rattle.adr_text.specs.Refusals.{IsRefusalOf};
 
-use crate::answer::Answer;
 use crate::command::Command;
 use crate::edit::edited;
 use crate::outcome::{Outcome, answered_by};
 use adr_objects::Stamps;
+use adr_queries::Answer;
 use adr_state::{Base, Settings, State, ViewKey};
 use adr_text::{Moment, Refusal, Table};
 use adr_view::{changes_of, restamped, view_of};

@@ -2,23 +2,19 @@
 ghost use Rattle.std.specs.Prelude.{◌≡◌, ◌≢◌, Ok, Err, IfOk, IfErr};
 ghost use Rattle.adr_text.specs.declared.refusal.Refusal.TheVariants.{Store};
 ghost use Rattle.adr_text.specs.Refusals.{IsRefusalOf};
-ghost use Rattle.adr_machine.specs.declared.answer.Answer.TheVariants as answer;
+ghost use Rattle.adr_queries.specs.declared.answer.Answer.TheVariants as answer;
 ghost use Rattle.adr_state.specs.Evidence.{scan_begin};
 ghost use Rattle.adr_machine.specs.Edits.{answered, post_decided, put_decided, delete_decided, decided, carried_out_on};
 
-use crate::answer::Answer;
 use crate::command::Command;
-use crate::evidence::{take_deletion, take_evidence};
 use crate::outcome::Outcome;
-use crate::report::{report_delete, report_post, report_put};
-use crate::resource::{resource_add, resource_put, resource_remove};
-use crate::role::Role;
-use crate::scan::{begin_scan, end_scan};
-use crate::share::share_set;
-use crate::sight::sight_of;
 use crate::told::{counted, of_report, of_report_gone, of_resource, of_scan, of_share, of_ven};
-use crate::ven::{ven_add, ven_put, ven_remove};
+use adr_edits::{
+    begin_scan, end_scan, report_delete, report_post, report_put, resource_add, resource_put,
+    resource_remove, share_set, take_deletion, take_evidence, ven_add, ven_put, ven_remove,
+};
 use adr_objects::{Number, ReportIn};
+use adr_queries::{Answer, Role, sight_of};
 use adr_state::{Base, Limits};
 use adr_text::{Moment, ObjectId, Refusal};
 use std::alloc::Global;

@@ -2,13 +2,14 @@
 ghost use Rattle.std.specs.Prelude.{◌≡◌, [], Ok, IfOk, IfErr, OnErr};
 ghost use Rattle.adr_state.specs.declared.state.State.{State};
 ghost use Rattle.adr_state.specs.declared.limits.Settings.{Settings};
-ghost use Rattle.adr_machine.specs.Listed.{listed, listed_for, IsListed};
-ghost use Rattle.adr_machine.specs.Steps.{step, reply, image_of};
+ghost use Rattle.adr_queries.specs.Listed.{listed_for, IsListed};
+ghost use Rattle.adr_machine.specs.Listed.{listed};
+ghost use Rattle.adr_queries.specs.Replies.{reply};
+ghost use Rattle.adr_machine.specs.Steps.{step, image_of};
 ghost use Rattle.adr_text.specs.Refusals.{IsRefusalOf};
 
-use crate::answer::Answer;
 use crate::command::Command;
-use crate::query::Query;
+use adr_queries::{Answer, Query};
 use adr_state::{Settings, State};
 use adr_text::{Moment, Refusal};
 

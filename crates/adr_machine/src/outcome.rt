@@ -1,13 +1,11 @@
 //! What comes of a command.
-ghost use Rattle.std.specs.Prelude.{◌≡◌, Some, option_map};
+ghost use Rattle.std.specs.Prelude.{◌≡◌, option_map};
 ghost use Rattle.std.specs.Option.{option_copied};
-ghost use Rattle.adr_machine.specs.declared.answer.Object.TheVariants as object;
-ghost use Rattle.adr_machine.specs.Shown.{told};
+ghost use Rattle.adr_queries.specs.declared.answer.Object.TheVariants as object;
 ghost use Rattle.adr_machine.specs.Steps.{answered_by};
 
-use crate::answer::{Answer, Object};
-use crate::shown::told;
 use adr_objects::{Number, ReportBody, ReportObject, Stamps};
+use adr_queries::{Answer, Object, told};
 use adr_state::ViewKey;
 use adr_text::{Refusal, Table};
 use adr_view::row_at;

@@ -1,16 +1,16 @@
 //! The plain desk: it works on a copy, and puts that in place when nothing can fail any more.
 ghost use Rattle.std.specs.Prelude.{◌≡◌, [], Ok, IfOk, IfErr, OnErr};
 ghost use Rattle.adr_state.specs.States.{empty};
-ghost use Rattle.adr_machine.specs.Listed.{listed, listed_for, IsListed};
-ghost use Rattle.adr_machine.specs.Steps.{step, reply, image_of};
+ghost use Rattle.adr_queries.specs.Listed.{listed_for, IsListed};
+ghost use Rattle.adr_machine.specs.Listed.{listed};
+ghost use Rattle.adr_queries.specs.Replies.{reply};
+ghost use Rattle.adr_machine.specs.Steps.{step, image_of};
 ghost use Rattle.adr_text.specs.Refusals.{IsRefusalOf};
 
-use crate::answer::Answer;
 use crate::command::Command;
 use crate::commit::next;
 use crate::desk::Desk;
-use crate::query::Query;
-use crate::replies::reply;
+use adr_queries::{Answer, Query, reply};
 use adr_state::{Settings, State};
 use adr_text::{Moment, Refusal};
 use std::alloc::Global;

@@ -2,9 +2,9 @@
 ghost use Rattle.std.specs.Prelude.{◌≡◌, length, IfOk, OnErr};
 ghost use Rattle.adr_machine.specs.Runs.{IsRun, AreListed, step_at};
 
-use crate::answer::Answer;
 use crate::command::Command;
 use crate::desk::Desk;
+use adr_queries::Answer;
 use adr_text::{Moment, Refusal};
 use std::alloc::{AllocError, Global};
 

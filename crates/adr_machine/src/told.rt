@@ -1,12 +1,12 @@
 //! What comes of what was decided, for whoever carries it out.
 ghost use Rattle.std.specs.Prelude.{◌≡◌};
-ghost use Rattle.adr_machine.specs.declared.answer.Answer.TheVariants as answer;
+ghost use Rattle.adr_queries.specs.declared.answer.Answer.TheVariants as answer;
 ghost use Rattle.adr_machine.specs.declared.outcome.Outcome.TheVariants as outcome;
 ghost use Rattle.adr_machine.specs.Edits.{ven_outcome, resource_outcome, share_outcome, report_kept, report_gone, told_by};
 
-use crate::answer::{Answer, Object};
 use crate::outcome::Outcome;
 use adr_objects::{Number, ResourceObject, ShareObject, VenObject};
+use adr_queries::{Answer, Object};
 use adr_state::{MirrorKey, Report};
 use adr_text::{Refusal, Rows};
 

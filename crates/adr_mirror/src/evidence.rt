@@ -11,7 +11,8 @@ ghost use Rattle.adr_db.specs.BaseCalls.{Makes, RefusesOn};
 
 use crate::raise::raise;
 use crate::risen::Risen;
-use adr_db::{Meta, put_polled};
+use adr_db::Meta;
+use adr_db_mirror::put_polled;
 use adr_objects::{Found, Kind};
 use adr_state::{Limits, Mark, MirrorKey, key_of, mark_of};
 use adr_text::{ObjectId, Refusal, Rows};

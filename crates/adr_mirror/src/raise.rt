@@ -6,7 +6,7 @@ ghost use Rattle.adr_db.specs.Calls.{Turns, IsOfStore};
 ghost use Rattle.adr_mirror.specs.Raises.{is_raised, added_by, rise_of, with_raised};
 
 use crate::known::rise_of;
-use adr_db::{put_mark, read_mark};
+use adr_db_mirror::{put_mark, read_mark};
 use adr_state::{Mark, MirrorKey};
 use adr_text::Refusal;
 use sqlite::{Alter, Transaction};

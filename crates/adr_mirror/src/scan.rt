@@ -9,7 +9,8 @@ ghost use Rattle.adr_db.specs.Calls.{LeavesKept, IsOfStore};
 ghost use Rattle.adr_db.specs.BaseCalls.{Makes, RefusesOn};
 ghost use Rattle.adr_mirror.specs.Missed.{missed, closing, TellsOn};
 
-use adr_db::{Meta, clear_polled, read_unseen};
+use adr_db::Meta;
+use adr_db_mirror::{clear_polled, read_unseen};
 use adr_state::MirrorKey;
 use adr_text::{Refusal, Rows};
 use sqlite::{Alter, Transaction};

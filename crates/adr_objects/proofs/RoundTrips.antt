@@ -36,11 +36,11 @@ use Rattle.adr_objects.proofs.Written.{IsWritten, FieldIsWritten, read_back, str
 
 -- ---- one value reads back
 
-id_reads_back : (text : List ℕ) → is_id text ≡ true → id_in (string text) ≡ Ok text
+pub id_reads_back : (text : List ℕ) → is_id text ≡ true → id_in (string text) ≡ Ok text
 unfolding id_in
 id_reads_back text h = rw h refl
 
-name_reads_back : (text : List ℕ) → is_name text ≡ true → name_in (string text) ≡ Ok text
+pub name_reads_back : (text : List ℕ) → is_name text ≡ true → name_in (string text) ≡ Ok text
 unfolding name_in
 name_reads_back text h = rw h refl
 
@@ -72,12 +72,12 @@ reason_reads_back BadShape = refl
 
 -- what may be absent, and what is listed
 
-optional_reads_back : {X : Type 0} (P : X → Type 0) (write : X → Data) (reading : Data → Result X Fault) → ((x : X) → P x → present (write x) ≡ Some (write x)) → ((x : X) → P x → reading (write x) ≡ Ok x) → (o : Option X) → IfSome o P
+pub optional_reads_back : {X : Type 0} (P : X → Type 0) (write : X → Data) (reading : Data → Result X Fault) → ((x : X) → P x → present (write x) ≡ Some (write x)) → ((x : X) → P x → reading (write x) ≡ Ok x) → (o : Option X) → IfSome o P
     → optional (option_and_then present (over (option_map write o) None)) reading ≡ Ok o
 optional_reads_back P write reading there again None h = refl
 optional_reads_back P write reading there again (Some x) h = rw (there x h, again x h) refl
 
-each_reads_back : {X : Type 0} (P : X → Type 0) (write : X → Data) (reading : Data → Result X Fault) → ((x : X) → P x → reading (write x) ≡ Ok x) → (xs : List X) → AllByRecursion P xs → each reading (map write xs) ≡ Ok xs
+pub each_reads_back : {X : Type 0} (P : X → Type 0) (write : X → Data) (reading : Data → Result X Fault) → ((x : X) → P x → reading (write x) ≡ Ok x) → (xs : List X) → AllByRecursion P xs → each reading (map write xs) ≡ Ok xs
 each_reads_back P write reading again [] h = refl
 each_reads_back P write reading again (x ∷ xs) h = rw (again x h.0, each_reads_back P write reading again xs h.1) refl
 
@@ -164,7 +164,7 @@ i32_is_small : (z : ℤ) → is_i32 z ≡ true → mag z < 2 ^ 62
 i32_is_small (pos n) h = omega (arith, leb-true n 2147483647 h)
 i32_is_small (negsuc n) h = omega (arith, leb-true (suc n) 2147483648 h)
 
-field_written : {X : Type 0} (n : ℕ) (P : X → Type 0) (write : X → Data) → ((x : X) → P x → IsWritten n (write x)) → (o : Option X) → IfSome o P → FieldIsWritten n (option_map write o)
+pub field_written : {X : Type 0} (n : ℕ) (P : X → Type 0) (write : X → Data) → ((x : X) → P x → IsWritten n (write x)) → (o : Option X) → IfSome o P → FieldIsWritten n (option_map write o)
 field_written n P write h None k = tt
 field_written n P write h (Some x) k = h x k
 

@@ -2,6 +2,7 @@
 #![tactic(auto)]
 
 mod body;
+mod counts;
 mod interval;
 mod kind;
 pub mod laws;
@@ -18,6 +19,7 @@ mod write_body;
 mod write_fields;
 
 pub use body::{Body, EventBody, Found, Reason, UpstreamId};
+pub use counts::OutboxCounts;
 pub use interval::{HasId, Interval, IntervalList, Intervals, Period, has_id};
 pub use kind::Kind;
 pub use name_set::NameSet;

@@ -5,7 +5,7 @@ ghost use Rattle.adr_sql.specs.Calls.{Stays};
 ghost use Rattle.adr_db.specs.Calls.{Finds, IsOfStore};
 ghost use Rattle.adr_portfolio.specs.Parts.{those_for, parts_of};
 
-use adr_db::read_sharers;
+use adr_db_portfolio::read_sharers;
 use adr_objects::{EventBody, NameSet, Number};
 use adr_state::{Participant, Weight, is_for};
 use adr_text::{Refusal, Rows};

@@ -10,7 +10,7 @@ ghost use Rattle.adr_portfolio.specs.Refusals.{IsOneOf};
 ghost use Rattle.adr_portfolio.specs.Found.{found_under};
 
 use crate::names::is_another_there;
-use adr_db::{
+use adr_db_portfolio::{
     count_resources, put_resource, read_resource, read_resources_named, read_ven, remove_resource,
 };
 use adr_objects::{Number, ResourceName, ResourceObject};

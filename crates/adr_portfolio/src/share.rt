@@ -9,7 +9,7 @@ ghost use Rattle.adr_db.specs.BaseCalls.{Carries, Refuses};
 ghost use Rattle.adr_portfolio.specs.Refusals.{IsOneOf};
 ghost use Rattle.adr_portfolio.specs.Weights.{Sets};
 
-use adr_db::{count_shares, put_share, read_resource, read_share, remove_share};
+use adr_db_portfolio::{count_shares, put_share, read_resource, read_share, remove_share};
 use adr_objects::ShareObject;
 use adr_state::{Limits, ShareKey, Weight, number_in};
 use adr_text::{ObjectId, Refusal};

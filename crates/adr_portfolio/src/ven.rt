@@ -7,7 +7,7 @@ ghost use Rattle.adr_db.specs.BaseCalls.{Carries, Refuses};
 ghost use Rattle.adr_portfolio.specs.Refusals.{IsOneOf};
 
 use crate::names::is_another_there;
-use adr_db::{count_vens, put_ven, read_ven, read_vens_named, remove_ven};
+use adr_db_portfolio::{count_vens, put_ven, read_ven, read_vens_named, remove_ven};
 use adr_objects::{Number, VenObject};
 use adr_state::{Limits, Ven, check_free, check_new, fresh, modified_at, number_in};
 use adr_text::{Moment, Name, ObjectId, Refusal};

@@ -7,7 +7,8 @@ ghost use Rattle.adr_view.specs.Reports.{is_shown_to, reported_of, reported_by, 
 ghost use Rattle.adr_sql.specs.Calls.{Stays};
 ghost use Rattle.adr_db.specs.Calls.{Finds, IsOfStore};
 
-use adr_db::{read_known, read_resource, read_share, read_ven};
+use adr_db_mirror::read_known;
+use adr_db_portfolio::{read_resource, read_share, read_ven};
 use adr_objects::{EventBody, Number};
 use adr_state::{Resource, ShareKey, id_in, id_parts, is_for, number_in};
 use adr_text::{ObjectId, Refusal};

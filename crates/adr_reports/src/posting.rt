@@ -14,7 +14,7 @@ ghost use Rattle.adr_reports.specs.Decided.{FindsOr, Decides, put_again, replace
 
 use crate::on::reported;
 use crate::sight::{may_change, may_put, may_report};
-use adr_db::{count_reports, put_report, read_report, remove_report};
+use adr_db_portfolio::{count_reports, put_report, read_report, remove_report};
 use adr_objects::{Number, ReportIn};
 use adr_state::{Limits, Report, number_in};
 use adr_text::{ObjectId, Refusal};

@@ -4,7 +4,8 @@ ghost use Rattle.adr_view.specs.Rollups.{reporters, rollup_for, rollup_of, rollu
 ghost use Rattle.adr_sql.specs.Calls.{Stays};
 ghost use Rattle.adr_db.specs.Calls.{Finds, IsOfStore};
 
-use adr_db::{read_known, read_reports_of};
+use adr_db_mirror::read_known;
+use adr_db_portfolio::read_reports_of;
 use adr_objects::{EventBody, Number, Rollup};
 use adr_portfolio::named_participants;
 use adr_state::{Participant, Report};

@@ -10,7 +10,7 @@ ghost use Rattle.adr_db.specs.Calls.{Finds, IsOfStore};
 ghost use Rattle.adr_reports.specs.Decided.{resource_of};
 
 use crate::on::resource_named;
-use adr_db::read_resource;
+use adr_db_portfolio::read_resource;
 use adr_objects::{Number, ReportIn};
 use adr_state::{Report, Resource, id_parts};
 use adr_text::{ObjectId, Refusal};

@@ -13,7 +13,7 @@ use Rattle.std.proofs.lemmas.List.Sums.{sum_by-cons}
 use Rattle.serde_json.specs.Data.{Data}
 use Rattle.adr_text.specs.Refusals.{◌>>=◌}
 use Rattle.adr_text.specs.Faults.{as_refusal}
-use Rattle.adr_text.specs.Fields.{member_of, value_in, whole_of, required, optional, each, whole_from, id_in, name_in, i32_in}
+use Rattle.adr_text.specs.Fields.{member_of, objects_in, value_in, whole_of, required, optional, each, whole_from, id_in, name_in, i32_in}
 use Rattle.adr_text.specs.declared.number.Whole.{Whole}
 use Rattle.adr_text.specs.declared.fault.Fault.{Fault}
 use Rattle.adr_text.specs.declared.fault.Fault.TheVariants.{OutOfRange, Repeated, BadShape}
@@ -31,7 +31,7 @@ use Rattle.adr_objects.specs.ReadBack.{as_bad_shape}
 use Rattle.adr_schema.specs.declared.posted.PostedInterval.{PostedInterval}
 use Rattle.adr_schema.specs.declared.posted.PostedReport.{PostedReport}
 use Rattle.adr_schema.specs.Bytes.{bytes_as}
-use Rattle.adr_schema.specs.Events.{objects_in, only_value, payloads_in, targets_in, fresh_id, interval_in, intervals_from, intervals_in, event_in}
+use Rattle.adr_schema.specs.Events.{only_value, payloads_in, targets_in, fresh_id, interval_in, intervals_from, intervals_in, event_in}
 use Rattle.adr_schema.specs.Pages.{found_in, founds, skipped}
 use Rattle.adr_schema.specs.Reports.{posted_interval_in, posted_intervals_in, resource_of_report, posted_report_in, usage_at, usage_interval, usage_intervals, report_from, report_of}
 use Rattle.adr_schema.proofs.Reading.{differ-same_ids}

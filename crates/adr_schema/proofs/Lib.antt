@@ -1,4 +1,3 @@
-pub mod NoFloats
 pub mod Refusals
 pub mod Reading
 pub mod LawLemmas

@@ -1,10 +1,10 @@
 -- What a JSON value is as the body of an event. The first fault wins, in the order that stands here.
-use Rattle.std.specs.Prelude.{ℕ, ℤ, nat_le, List, [], ◌∷◌, ◌++◌, length, codes, filter, Bool, true, false, Option, Some, None, option_and_then, unwrap_or, Result, Ok, Err, if◌then◌else◌}
-use Rattle.std.specs.List.{list_all, list_any, flat_map}
+use Rattle.std.specs.Prelude.{ℕ, ℤ, nat_le, List, [], ◌∷◌, ◌++◌, length, codes, filter, Bool, false, Option, Some, None, option_and_then, unwrap_or, Result, Ok, Err, if◌then◌else◌}
+use Rattle.std.specs.List.{list_any, flat_map}
 use Rattle.std.specs.Str.{bytes_eq}
-use Rattle.serde_json.specs.Data.{Data, null, boolean, number, string, array, object}
+use Rattle.serde_json.specs.Data.{Data}
 use Rattle.adr_text.specs.Refusals.{◌>>=◌}
-use Rattle.adr_text.specs.Fields.{member_of, text_of, items_in, required, optional, each, id_in, name_in, i32_in}
+use Rattle.adr_text.specs.Fields.{member_of, text_of, items_in, objects_in, required, optional, each, id_in, name_in, i32_in}
 use Rattle.adr_text.specs.declared.fault.Fault.{Fault}
 use Rattle.adr_text.specs.declared.fault.Fault.TheVariants.{NotOne, Repeated, BadShape}
 use Rattle.adr_objects.specs.declared.interval.Interval.{Interval}
@@ -13,20 +13,6 @@ use Rattle.adr_objects.specs.Limits.{most_intervals}
 use Rattle.adr_objects.specs.Intervals.{has_id}
 use Rattle.adr_objects.specs.NameSets.{name_set_of}
 use Rattle.adr_objects.specs.Fields.{text_in, priority_in, setpoint_in, period_in}
-
-abbrev pub is_object : Data → Bool
-is_object null = false
-is_object (boolean b) = false
-is_object (number n) = false
-is_object (string s) = false
-is_object (array ds) = false
-is_object (object ms) = true
-
--- a list of objects. All of it is looked at before the first of them is read.
-unfoldable pub objects_in : Data → Result (List Data) Fault
-objects_in d = do
-  ds ← items_in d
-  if list_all is_object ds then Ok ds else Err BadShape
 
 -- ---- payloads and targets: objects with a type
 

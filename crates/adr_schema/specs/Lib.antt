@@ -1,10 +1,7 @@
 pub mod Bytes
-pub mod Ids
 pub mod Events
 pub mod Pages
 pub mod Notices
 pub mod Sites
 pub mod Reports
-pub mod Objects
-pub mod WrittenReports
 pub mod Laws

@@ -4,7 +4,7 @@ use Rattle.std.specs.Str.{bytes_eq}
 use Rattle.serde_json.specs.Data.{Data}
 use Rattle.adr_text.specs.Refusals.{◌>>=◌}
 use Rattle.adr_text.specs.Faults.{as_refusal}
-use Rattle.adr_text.specs.Fields.{member_of, required}
+use Rattle.adr_text.specs.Fields.{is_object, member_of, required}
 use Rattle.adr_text.specs.declared.fault.Fault.{Fault}
 use Rattle.adr_text.specs.declared.fault.Fault.TheVariants.{BadShape}
 use Rattle.adr_text.specs.declared.refusal.Refusal.{Refusal}
@@ -13,7 +13,7 @@ use Rattle.adr_objects.specs.declared.kind.Kind.TheVariants as kind
 use Rattle.adr_schema.specs.declared.notice.NoticeIn.{NoticeIn}
 use Rattle.adr_schema.specs.declared.notice.NoticeIn.TheVariants.{Found, Gone, Ignored}
 use Rattle.adr_schema.specs.Bytes.{bytes_as}
-use Rattle.adr_schema.specs.Events.{is_object, text_at}
+use Rattle.adr_schema.specs.Events.{text_at}
 use Rattle.adr_schema.specs.Pages.{upstream_id_in, found_in}
 
 -- one of the four words for what was done to an object

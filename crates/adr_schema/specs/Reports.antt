@@ -3,7 +3,7 @@ use Rattle.std.specs.Prelude.{ℕ, ℤ, nat_le, List, [], ◌∷◌, length, cod
 use Rattle.serde_json.specs.Data.{Data}
 use Rattle.adr_text.specs.Refusals.{◌>>=◌}
 use Rattle.adr_text.specs.Faults.{as_refusal}
-use Rattle.adr_text.specs.Fields.{whole_of, member_of, required, optional, each, whole_from, id_in, name_in, i32_in}
+use Rattle.adr_text.specs.Fields.{whole_of, member_of, objects_in, required, optional, each, whole_from, id_in, name_in, i32_in}
 use Rattle.adr_text.specs.declared.fault.Fault.{Fault}
 use Rattle.adr_text.specs.declared.fault.Fault.TheVariants.{BadShape}
 use Rattle.adr_text.specs.declared.number.Whole.{Whole}
@@ -18,7 +18,7 @@ use Rattle.adr_objects.specs.ReadBack.{as_bad_shape}
 use Rattle.adr_schema.specs.declared.posted.PostedInterval.{PostedInterval}
 use Rattle.adr_schema.specs.declared.posted.PostedReport.{PostedReport}
 use Rattle.adr_schema.specs.Bytes.{bytes_as}
-use Rattle.adr_schema.specs.Events.{objects_in, one_of, only_value}
+use Rattle.adr_schema.specs.Events.{one_of, only_value}
 
 -- ---- the shape
 

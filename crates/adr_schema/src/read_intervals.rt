@@ -6,9 +6,9 @@ ghost use Rattle.adr_text.specs.Fields.{member_of, optional};
 ghost use Rattle.adr_objects.specs.Intervals.{has_id, differ};
 ghost use Rattle.adr_schema.specs.Events.{payloads_in, fresh_id, interval_in, intervals_from, intervals_in};
 
-use crate::read_typed::{objects, only_value};
+use crate::read_typed::only_value;
 use adr_objects::{Interval, Intervals, Setpoint, has_id};
-use adr_text::{Fault, FromJson, maybe, member, needed};
+use adr_text::{Fault, FromJson, maybe, member, needed, objects};
 use serde_json::Value;
 use std::alloc::Global;
 use std::marker::Model;

@@ -12,9 +12,11 @@ ghost use Rattle.adr_schema.specs.Reports.{number_in, usage_in, posted_interval_
 
 use crate::posted::{PostedInterval, PostedReport};
 use crate::read_site::told;
-use crate::read_typed::{objects, one_of, only_value};
+use crate::read_typed::{one_of, only_value};
 use adr_objects::{IntervalList, ReportIn, Setpoint, Usage, UsageInterval, UsageIntervals};
-use adr_text::{Fault, FromJson, Refusal, Whole, all, maybe, member, needed, read_value, whole};
+use adr_text::{
+    Fault, FromJson, Refusal, Whole, all, maybe, member, needed, objects, read_value, whole,
+};
 use serde_json::Value;
 use std::alloc::Global;
 

@@ -1,30 +1,11 @@
 //! Lists of objects that have a type each, as payloads and targets are.
 ghost use Rattle.std.specs.Prelude.{◌≡◌, Ok, filter, map, option_map};
-ghost use Rattle.std.specs.List.{list_all};
 ghost use Rattle.serde_json.specs.View.{view};
 ghost use Rattle.adr_text.specs.Faults.{Finds};
-ghost use Rattle.adr_schema.specs.Events.{is_object, is_of_type, only_one, objects_in, text_at, typed_as, typed_in, values_in, one_of, value_of, only_value};
+ghost use Rattle.adr_schema.specs.Events.{is_of_type, only_one, text_at, typed_as, typed_in, values_in, one_of, value_of, only_value};
 
-use adr_text::{Fault, list, member, text};
+use adr_text::{Fault, list, member, objects, text};
 use serde_json::Value;
-
-fn all_objects(values: &[Value]) -> bool
-    ensures { result ≡ list_all (λ v. is_object (view v)) values.now }
-{
-    values.iter().all(|v| v.is_object())
-}
-
-// A list of objects. All of it is looked at before the first of them is read.
-#[tactic(auto, using(crate::proofs::Reading::rules_of_lists), unfolding(crate::specs::Events::objects_in))]
-pub(crate) fn objects(value: &Value) -> Result<&[Value], Fault>
-    ensures { Finds (λ vs. map view vs.now) result (objects_in (view value.now)) }
-{
-    let values = list(value)?;
-    if !all_objects(values) {
-        return Err(Fault::BadShape);
-    }
-    Ok(values)
-}
 
 // A member that is a text.
 pub(crate) fn text_at<'v>(value: &'v Value, name: &str) -> Result<&'v str, Fault>

@@ -3,7 +3,7 @@ use Rattle.std.proofs.Common.{◌≡◌, ℕ, Bool, List, Result, refl, ap, ◌�
 use Rattle.adr_text.specs.declared.refusal.Refusal.{Refusal}
 use Rattle.adr_text.specs.declared.refusal.Refusal.TheVariants.{OutOfMemory}
 use Rattle.adr_state.specs.declared.state.State.{State}
-use Rattle.adr_machine.specs.declared.answer.Answer.{Answer}
+use Rattle.adr_queries.specs.declared.answer.Answer.{Answer}
 use Rattle.adr_script.specs.declared.asked.Asked.{Asked}
 use Rattle.adr_script.specs.Bodies.{want_by, outcome_text}
 use Rattle.adr_script.specs.Turns.{Turn, turn_by, Outcome, as_machine, no_memory, store_refused, Takes, as_defined, without_memory, refused_by_store, without_text, MayLeave, no_step, step_taken}

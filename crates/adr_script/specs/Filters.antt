@@ -9,10 +9,10 @@ use Rattle.adr_text.specs.Refusals.{◌>>=◌}
 use Rattle.adr_text.specs.declared.refusal.Refusal.{Refusal}
 use Rattle.adr_text.specs.declared.refusal.Refusal.TheVariants.{BadShape}
 use Rattle.adr_state.specs.ShownIds.{id_in}
-use Rattle.adr_machine.specs.declared.filter.EventFilter.{EventFilter}
-use Rattle.adr_machine.specs.declared.filter.ReportFilter.{ReportFilter}
-use Rattle.adr_machine.specs.declared.filter.TargetFilter.{TargetFilter}
-use Rattle.adr_machine.specs.declared.filter.TargetFilter.TheVariants.{Any, VenName, ResourceName, Other}
+use Rattle.adr_queries.specs.declared.filter.EventFilter.{EventFilter}
+use Rattle.adr_queries.specs.declared.filter.ReportFilter.{ReportFilter}
+use Rattle.adr_queries.specs.declared.filter.TargetFilter.{TargetFilter}
+use Rattle.adr_queries.specs.declared.filter.TargetFilter.TheVariants.{Any, VenName, ResourceName, Other}
 use Rattle.adr_script.specs.Queries.{values_of, only_one}
 
 -- the program that is asked for, where one is: a value that is no id is that of none

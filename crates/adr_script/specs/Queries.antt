@@ -6,7 +6,7 @@ use Rattle.adr_text.specs.Refusals.{◌>>=◌, or_else}
 use Rattle.adr_text.specs.declared.refusal.Refusal.{Refusal}
 use Rattle.adr_text.specs.declared.refusal.Refusal.TheVariants.{BadShape}
 use Rattle.adr_state.specs.Digits.{number_within}
-use Rattle.adr_machine.specs.declared.query.Page.{Page}
+use Rattle.adr_queries.specs.declared.query.Page.{Page}
 
 -- a name or a value as text
 abbrev pub decoded_text : List ℕ → List ℕ

@@ -8,10 +8,10 @@ use Rattle.adr_text.specs.declared.refusal.Refusal.TheVariants.{Forbidden}
 use Rattle.adr_schema.specs.declared.notice.NoticeIn.{NoticeIn}
 use Rattle.adr_schema.specs.declared.notice.NoticeIn.TheVariants as notice
 use Rattle.adr_schema.specs.Notices.{notice_of}
-use Rattle.adr_machine.specs.declared.role.Role.{Role}
-use Rattle.adr_machine.specs.declared.role.Role.TheVariants.{Utility}
+use Rattle.adr_queries.specs.declared.role.Role.{Role}
+use Rattle.adr_queries.specs.declared.role.Role.TheVariants.{Utility}
 use Rattle.adr_machine.specs.declared.command.Command.TheVariants.{Evidence, Gone, VenAdd, VenPut, VenRemove, ResourceAdd, ResourcePut, ResourceRemove, ShareSet, ReportPost, ReportPut, ReportDelete}
-use Rattle.adr_machine.specs.declared.query.Query.TheVariants.{Programs, Program, Events, Event, Vens, Ven, Resources, Resource, Shares, Reports, Report, Rollup}
+use Rattle.adr_queries.specs.declared.query.Query.TheVariants.{Programs, Program, Events, Event, Vens, Ven, Resources, Resource, Shares, Reports, Report, Rollup}
 use Rattle.adr_script.specs.declared.asked.Asked.{Asked}
 use Rattle.adr_script.specs.declared.asked.Asked.TheVariants as asked
 use Rattle.adr_script.specs.Cuts.{cut}

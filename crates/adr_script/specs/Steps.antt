@@ -6,7 +6,7 @@ use Rattle.adr_objects.specs.declared.kind.Kind.{Kind}
 use Rattle.adr_objects.specs.declared.kind.Kind.TheVariants.{Program, Event}
 use Rattle.adr_schema.specs.Pages.{page_of}
 use Rattle.adr_machine.specs.declared.command.Command.TheVariants.{Evidence, Gone, ScanBegin, ScanEnd}
-use Rattle.adr_machine.specs.declared.query.Query.TheVariants.{Probes}
+use Rattle.adr_queries.specs.declared.query.Query.TheVariants.{Probes}
 use Rattle.adr_state.specs.Digits.{number_within}
 use Rattle.adr_script.specs.declared.asked.Asked.{Asked}
 use Rattle.adr_script.specs.declared.asked.Asked.TheVariants as asked

@@ -5,9 +5,10 @@ use Rattle.adr_text.specs.declared.refusal.Refusal.{Refusal}
 use Rattle.adr_text.specs.declared.refusal.Refusal.TheVariants.{OutOfMemory, Store}
 use Rattle.adr_state.specs.declared.state.State.{State}
 use Rattle.adr_state.specs.declared.limits.Settings.{Settings}
-use Rattle.adr_machine.specs.declared.answer.Answer.{Answer}
-use Rattle.adr_machine.specs.declared.answer.Answer.TheVariants as answer
-use Rattle.adr_machine.specs.Steps.{step, reply}
+use Rattle.adr_queries.specs.declared.answer.Answer.{Answer}
+use Rattle.adr_queries.specs.declared.answer.Answer.TheVariants as answer
+use Rattle.adr_queries.specs.Replies.{reply}
+use Rattle.adr_machine.specs.Steps.{step}
 use Rattle.adr_machine.specs.Runs.{told, state_after}
 use Rattle.adr_script.specs.declared.asked.Asked.{Asked}
 use Rattle.adr_script.specs.declared.asked.Asked.TheVariants as asked

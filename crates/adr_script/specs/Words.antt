@@ -5,8 +5,8 @@ use Rattle.std.specs.Str.{is_utf8}
 use Rattle.adr_text.specs.declared.refusal.Refusal.{Refusal}
 use Rattle.adr_text.specs.Ids.{id_of}
 use Rattle.adr_text.specs.Moments.{moment_of}
-use Rattle.adr_machine.specs.declared.role.Role.{Role}
-use Rattle.adr_machine.specs.declared.role.Role.TheVariants.{Operator, Ven, Utility}
+use Rattle.adr_queries.specs.declared.role.Role.{Role}
+use Rattle.adr_queries.specs.declared.role.Role.TheVariants.{Operator, Ven, Utility}
 use Rattle.adr_script.specs.Cuts.{behind}
 
 -- the bytes, where they are text

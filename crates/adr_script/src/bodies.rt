@@ -1,17 +1,17 @@
 //! The texts of answers and refusals.
 ghost use Rattle.std.specs.Prelude.{◌≡◌, ◌++◌, IfOk, OnOk, string_bytes};
-ghost use Rattle.adr_schema.specs.WrittenReports.{rollup_text as text_of_rollup};
+ghost use Rattle.adr_written.specs.WrittenReports.{rollup_text as text_of_rollup};
 ghost use Rattle.adr_script.specs.Bodies.{object_text, list_text, answer_text, reply_line, changes_line, bad_line, problem_line, refused_line, count_line, done_line, kind_word, key_text, probes_line, step_line, want_by, outcome_text};
 
 use crate::asked::{Asked, status_for};
 use adr_machine::{Answer, Object};
 use adr_objects::{Kind, Rollup, RollupObject};
-use adr_schema::{
+use adr_state::MirrorKey;
+use adr_text::{Name, ObjectId, Refusal};
+use adr_written::{
     write_event, write_problem, write_program, write_report, write_resource, write_rollup,
     write_share, write_ven,
 };
-use adr_state::MirrorKey;
-use adr_text::{Name, ObjectId, Refusal};
 use std::alloc::{AllocError, Global};
 
 fn object_text(alloc: Global, object: &Object) -> Result<String, AllocError>

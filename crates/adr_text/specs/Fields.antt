@@ -1,5 +1,6 @@
 -- Fields of JSON objects, as values or the first fault.
-use Rattle.std.specs.Prelude.{ℕ, suc, ◌^◌, nat_lt, nat_le, Bool, ℤ, pos, negsuc, List, [], ◌∷◌, Option, Some, None, option_and_then, option_map, Result, Ok, Err, if◌then◌else◌}
+use Rattle.std.specs.Prelude.{ℕ, suc, ◌^◌, nat_lt, nat_le, Bool, true, false, ℤ, pos, negsuc, List, [], ◌∷◌, Option, Some, None, option_and_then, option_map, Result, Ok, Err, if◌then◌else◌}
+use Rattle.std.specs.List.{list_all}
 use Rattle.std.specs.Str.{is_utf8}
 use Rattle.serde_json.specs.Data.{Num, unsigned, negative, float, Data, null, boolean, number, string, array, object, Items, no_items, item}
 use Rattle.serde_json.specs.Find.{get, as_str, as_array}
@@ -52,6 +53,20 @@ list_of (item d ds) = d ∷ list_of ds
 
 abbrev pub items_in : Data → Result (List Data) Fault
 items_in d = or_else fault.BadShape (option_map list_of (as_array d))
+
+abbrev pub is_object : Data → Bool
+is_object null = false
+is_object (boolean b) = false
+is_object (number n) = false
+is_object (string s) = false
+is_object (array ds) = false
+is_object (object ms) = true
+
+-- a list of objects. All of it is looked at before the first of them is read.
+unfoldable pub objects_in : Data → Result (List Data) Fault
+objects_in d = do
+  ds ← items_in d
+  if list_all is_object ds then Ok ds else Err fault.BadShape
 
 -- what the bytes are as JSON
 abbrev pub value_in : List ℕ → Result Data Fault

@@ -1,6 +1,7 @@
 ghost use Rattle.std.specs.Prelude.{◌≡◌, option_map, map};
+ghost use Rattle.std.specs.List.{list_all};
 ghost use Rattle.serde_json.specs.View.{view};
-ghost use Rattle.adr_text.specs.Fields.{whole_of, member_of, text_of, items_in, value_in};
+ghost use Rattle.adr_text.specs.Fields.{whole_of, member_of, text_of, is_object, items_in, objects_in, value_in};
 ghost use Rattle.adr_text.specs.Faults.{Finds};
 
 use crate::fault::Fault;
@@ -63,4 +64,22 @@ pub fn list(value: &Value) -> Result<&[Value], Fault>
         Some(values) => Ok(values.as_slice()),
         None => Err(Fault::BadShape),
     }
+}
+
+fn all_objects(values: &[Value]) -> bool
+    ensures { result ≡ list_all (λ v. is_object (view v)) values.now }
+{
+    values.iter().all(|v| v.is_object())
+}
+
+/// A list of objects, or `BadShape`. All of it is looked at before the first of them is read.
+#[tactic(auto, using(crate::proofs::FieldLemmas::rules_of_objects), unfolding(crate::specs::Fields::objects_in))]
+pub fn objects(value: &Value) -> Result<&[Value], Fault>
+    ensures { Finds (λ vs. map view vs.now) result (objects_in (view value.now)) }
+{
+    let values = list(value)?;
+    if !all_objects(values) {
+        return Err(Fault::BadShape);
+    }
+    Ok(values)
 }

@@ -20,7 +20,7 @@ mod wrapped;
 
 pub use counts::Counts;
 pub use fault::Fault;
-pub use field::{list, member, read_value, text, whole};
+pub use field::{list, member, objects, read_value, text, whole};
 pub use from_json::{FromJson, all, maybe, needed};
 pub use id::ObjectId;
 pub use kth::KthFails;

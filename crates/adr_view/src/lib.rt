@@ -4,6 +4,7 @@
 
 mod all;
 mod changes;
+mod enrolled;
 pub mod laws;
 mod parts;
 mod report;
@@ -15,6 +16,7 @@ mod view_map;
 
 pub use all::view_of;
 pub use changes::{Change, Operation, changes_of, restamped};
+pub use enrolled::{is_under, resource_at, resource_object, ven_at, ven_object, ven_with_id};
 pub use report::{Reported, fits, kept_report};
 pub use rollup::{
     Reporter, event_body, event_key, mark_at, reporters, rollup_at, rollup_for, rollup_of,

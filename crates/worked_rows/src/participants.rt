@@ -1,5 +1,6 @@
 //! The participants of events by number and weight, read from tables in memory: what no line of a script asks for alone.
-use adr_db::{create, put_resource, put_share, put_ven, read_sharers};
+use adr_db::create;
+use adr_db_portfolio::{put_resource, put_share, put_ven, read_sharers};
 use adr_objects::{EventBody, Intervals, NameSet, Number, ResourceName, Stamps};
 use adr_portfolio::participants;
 use adr_state::{Participant, Resource, ShareKey, Ven, Weight};

@@ -5,9 +5,9 @@ use adr_objects::{
 };
 use adr_schema::{
     NoticeIn, read_notice, read_one, read_page, read_report, read_resource, read_share, read_ven,
-    write_report,
 };
 use adr_text::{Fault, Moment, Name, ObjectId, Refusal, Whole, read_value, whole};
+use adr_written::write_report;
 use std::alloc::{AllocError, Global};
 use std::str::from_utf8;
 

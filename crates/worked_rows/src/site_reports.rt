@@ -1,13 +1,15 @@
 //! Reports in tables in memory, and the roll-up after each: the reports of rows 11 and 12 and those refused of row 19, by the
 //! calls alone, without a desk.
 use crate::participants::{resource, share, ven};
-use adr_db::{create, put_mark};
+use adr_db::create;
+use adr_db_mirror::put_mark;
 use adr_objects::{Kind, Number, Rollup, RollupObject};
 use adr_reports::{delete, post, put, rollup};
-use adr_schema::{read_page, read_report, write_rollup};
+use adr_schema::{read_page, read_report};
 use adr_state::{Limits, Report, key_of, mark_of};
 use adr_text::{Name, ObjectId, Refusal};
 use adr_view::Sight;
+use adr_written::write_rollup;
 use sqlite::{Alter, Connection, Transaction};
 use std::alloc::Global;
 

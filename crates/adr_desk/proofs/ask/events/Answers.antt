@@ -3,9 +3,9 @@ use Rattle.adr_db.proofs.Common.{IsRefusalOf}
 use Rattle.adr_db.specs.Bases.{kept_of}
 use Rattle.adr_db.proofs.ReadBack.{image_again}
 use Rattle.adr_db.proofs.Results.{handed_on}
-use Rattle.adr_machine.specs.declared.answer.Answer.TheVariants as answer
-use Rattle.adr_machine.specs.Shown.{events_reply}
-use Rattle.adr_machine.specs.Steps.{reply}
+use Rattle.adr_queries.specs.declared.answer.Answer.TheVariants as answer
+use Rattle.adr_queries.specs.Shown.{events_reply}
+use Rattle.adr_queries.specs.Replies.{reply}
 use Rattle.adr_desk.proofs.ask.events.Goals as goal
 
 pub returns-clause-tells : goal.returns-clause-tells

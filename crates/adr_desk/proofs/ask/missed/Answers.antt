@@ -3,8 +3,8 @@ use Rattle.adr_db.proofs.Common.{state, HasCleanDisk, IsRefusalOf}
 use Rattle.adr_text.specs.Refusals.{◌>>=◌}
 use Rattle.adr_db.specs.Bases.{beside_of, kept_of}
 use Rattle.adr_db.proofs.Results.{handed_on}
-use Rattle.adr_machine.specs.declared.answer.Answer.TheVariants as answer
-use Rattle.adr_machine.specs.Steps.{reply}
+use Rattle.adr_queries.specs.declared.answer.Answer.TheVariants as answer
+use Rattle.adr_queries.specs.Replies.{reply}
 use Rattle.adr_mirror.specs.Missed.{missed}
 use Rattle.adr_desk.proofs.DecisionLemmas.{then_refused}
 use Rattle.adr_desk.proofs.ReplyLemmas.{missed_told}

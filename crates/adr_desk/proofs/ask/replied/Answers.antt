@@ -3,9 +3,9 @@ use Rattle.std.proofs.lemmas.Result.{IfErr-weaker}
 use Rattle.adr_db.proofs.Common.{IsRefusalOf}
 use Rattle.adr_db.specs.Bases.{kept_of}
 use Rattle.adr_db.proofs.Results.{ok_then}
-use Rattle.adr_machine.specs.Listed.{listed_for}
-use Rattle.adr_machine.specs.Steps.{reply}
-use Rattle.adr_machine.proofs.Listed.{reply_listed, as_listed}
+use Rattle.adr_queries.specs.Listed.{listed_for}
+use Rattle.adr_queries.specs.Replies.{reply}
+use Rattle.adr_queries.proofs.Listed.{reply_listed, as_listed}
 use Rattle.adr_desk.proofs.ListedLemmas.{storeless_listed}
 use Rattle.adr_desk.proofs.ReplyLemmas.{reply_for}
 use Rattle.adr_desk.proofs.ask.replied.Goals as goal

@@ -1,10 +1,10 @@
 use Rattle.std.proofs.Common.{◌≡◌, true, false, refl, sym, ◌∙◌}
 use Rattle.adr_db.specs.Bases.{kept_of}
-use Rattle.adr_machine.specs.Listed.{listed_for}
-use Rattle.adr_machine.specs.declared.query.Query.TheVariants as query
-use Rattle.adr_machine.specs.Roles.{is_operator}
-use Rattle.adr_machine.specs.Reported.{rollup_told}
-use Rattle.adr_machine.specs.Steps.{reply}
+use Rattle.adr_queries.specs.Listed.{listed_for}
+use Rattle.adr_queries.specs.declared.query.Query.TheVariants as query
+use Rattle.adr_queries.specs.Roles.{is_operator}
+use Rattle.adr_queries.specs.Reported.{rollup_told}
+use Rattle.adr_queries.specs.Replies.{reply}
 use Rattle.adr_portfolio.proofs.Decisions.{refused_so}
 use Rattle.adr_desk.proofs.ListedLemmas.{contained_all}
 use Rattle.adr_desk.proofs.ReplyLemmas.{rollup_listed, rollup_replied}

@@ -2,7 +2,7 @@ use Rattle.std.proofs.Common.{[], ◌∷◌, refl, arith}
 use Rattle.adr_db.proofs.Common.{ven_add, ven_put, ven_remove, resource_add, resource_put, resource_remove, evidence, gone, Forbidden, LimitReached, NoScan}
 use Rattle.adr_text.specs.declared.refusal.Refusal.TheVariants.{NotFound, Conflict, BadShare, Exhausted}
 use Rattle.adr_state.specs.Shares.{share_set}
-use Rattle.adr_machine.specs.declared.answer.Answer.TheVariants as answer
+use Rattle.adr_queries.specs.declared.answer.Answer.TheVariants as answer
 use Rattle.adr_machine.specs.declared.outcome.Outcome.TheVariants as outcome
 use Rattle.adr_machine.specs.Edits.{ven_outcome, resource_outcome, share_outcome}
 use Rattle.adr_desk.proofs.DecisionLemmas.{portfolio_carries, counted_carries, begun_carries, ended_carries}

@@ -4,7 +4,7 @@ use Rattle.adr_db.specs.Bases.{Beside}
 use Rattle.adr_view.specs.declared.view.Content.{Content}
 use Rattle.adr_view.specs.Views.{view}
 use Rattle.adr_objects.specs.declared.kind.Kind.TheVariants as kind
-use Rattle.adr_machine.specs.Shown.{objects_seen}
+use Rattle.adr_queries.specs.Shown.{objects_seen}
 use Rattle.adr_events.proofs.listing.events_seen.Goals as goal
 
 pub returns-clause-finds : goal.returns-clause-finds

@@ -1,4 +1,5 @@
-use Rattle.adr_machine.proofs.Listed.{edit_listed, step_listed, reply_listed, listed_of_machine, listed_for_of_machine}
+use Rattle.adr_queries.proofs.Listed.{reply_listed, listed_for_of_machine}
+use Rattle.adr_machine.proofs.Listed.{edit_listed, step_listed, listed_of_machine}
 use Rattle.adr_laws.proofs.refusals.refusals_are_listed.Goals as goal
 
 pub returns : goal.returns

@@ -3,7 +3,8 @@ use Rattle.std.proofs.lemmas.Result.{err_from_is_err_and}
 use Rattle.adr_machine.specs.Edits.{edit}
 use Rattle.adr_machine.specs.Listed.{listed}
 use Rattle.adr_machine.specs.Steps.{committed}
-use Rattle.adr_machine.proofs.Listed.{edit_listed, committed_listed, as_listed}
+use Rattle.adr_queries.proofs.Listed.{as_listed}
+use Rattle.adr_machine.proofs.Listed.{edit_listed, committed_listed}
 use Rattle.adr_machine.proofs.commit.next.Goals as goal
 
 pub returns-in_err-comes-clause-listed : goal.returns-in_err-comes-clause-listed

@@ -1,7 +1,7 @@
 use Rattle.std.proofs.Common.{◌≡◌, Ok, IfOk, sym, subst, ◌∙◌}
 use Rattle.adr_view.specs.Reports.{report_put}
 use Rattle.adr_machine.specs.Edits.{report_kept, put_decided, carried_out_on}
-use Rattle.adr_machine.specs.Roles.{sight_of}
+use Rattle.adr_queries.specs.Roles.{sight_of}
 use Rattle.adr_machine.proofs.Outcomes.{told_seen}
 use Rattle.adr_machine.proofs.decided.put_again.Goals as goal
 

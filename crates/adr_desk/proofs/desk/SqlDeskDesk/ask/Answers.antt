@@ -2,7 +2,7 @@ use Rattle.std.proofs.lemmas.Result.{IfErr-weaker}
 use Rattle.adr_db.proofs.Common.{state}
 use Rattle.adr_db.proofs.ReadBack.{state_same}
 use Rattle.adr_db.proofs.Results.{ok_then}
-use Rattle.adr_machine.specs.Steps.{reply}
+use Rattle.adr_queries.specs.Replies.{reply}
 use Rattle.adr_desk.proofs.Soundness.{ok_given, err_given, own_still, held_before, reply_told, refused_as, answer_coded}
 use Rattle.adr_desk.proofs.desk.SqlDeskDesk.ask.Goals as goal
 

@@ -1,6 +1,6 @@
-use Rattle.adr_machine.specs.Listed.{listed_for}
-use Rattle.adr_machine.specs.Steps.{reply}
-use Rattle.adr_machine.proofs.Listed.{reply_listed, as_listed}
+use Rattle.adr_queries.specs.Listed.{listed_for}
+use Rattle.adr_queries.specs.Replies.{reply}
+use Rattle.adr_queries.proofs.Listed.{reply_listed, as_listed}
 use Rattle.adr_machine.proofs.plain.PlainDeskDesk.ask.Goals as goal
 
 pub returns-clause-listed : goal.returns-clause-listed

@@ -1,0 +1,158 @@
+//! The table `mirror`: what is known of each upstream key.
+ghost use Rattle.std.specs.Prelude.{◌≡◌, ⊤, [], map, option_map, IfOk, OnOk, IfErr};
+ghost use Rattle.adr_state.specs.Keys.{mirror_cmp, at};
+ghost use Rattle.adr_sql.specs.Calls.{Stays};
+ghost use Rattle.adr_db.specs.Rows.{key_row, mark_columns, mark_row, columns_row, mirror_row};
+ghost use Rattle.adr_db.specs.Kept.{IsMark, with_mark};
+ghost use Rattle.adr_db.specs.Calls.{LeavesKept, Finds, IsOfStore};
+ghost use Rattle.adr_db.specs.Refusals.{RefusesToPut, RefusesToPutText, RefusesToShow, CannotReadFirst, CannotReadAll};
+ghost use Rattle.adr_db.specs.Admitted.{AreColumns, IsMirrorRow, IsEntry, ReadsColumns, ReadsMirrorRow, ReadsMark, ReadsEntry};
+
+use adr_db::cells::{kind_number, number};
+use adr_db::reading::{all_of, first_in, first_of, table_of};
+use adr_db::statement::{rows_of, run};
+use adr_db::{MarkColumns, MirrorRow};
+use adr_objects::canonical;
+use adr_state::{Mark, MirrorKey};
+use adr_text::{Refusal, Rows, Table};
+use sqlite::types::ToSql;
+use sqlite::{Alter, Transaction};
+use std::alloc::{AllocError, Global};
+
+const PUT: &str =
+    "INSERT INTO mirror (kind, id, state, moment, body) VALUES (?1, ?2, ?3, ?4, ?5) ON CONFLICT (kind, id) DO UPDATE SET kind = excluded.kind, id = excluded.id, state = excluded.state, moment = excluded.moment, body = excluded.body";
+
+const READ_ONE: &str =
+    "SELECT kind, id, state, moment, body FROM mirror WHERE kind = ?1 AND id = ?2 ORDER BY kind, id";
+
+const READ_ALL: &str = "SELECT kind, id, state, moment, body FROM mirror ORDER BY kind, id";
+
+fn columns_of(alloc: Global, mark: &Mark) -> Result<MarkColumns, AllocError>
+    ensures same { IfOk result (λ columns. columns_row columns ≡ mark_columns mark.now) }
+    ensures valid { OnOk result (IsMark mark.now) }
+{
+    match mark {
+        Mark::Live(moment, body) => Ok(MarkColumns {
+            state: 1,
+            moment: moment.nanos(),
+            body: canonical(alloc, body)?,
+        }),
+        Mark::Dead => Ok(MarkColumns {
+            state: 2,
+            moment: 0,
+            body: String::new(alloc),
+        }),
+    }
+}
+
+fn put_columns<S: Alter>(
+    tx: &mut Transaction<'_, S>,
+    key: &MirrorKey,
+    mark: &Mark,
+    columns: &MarkColumns,
+) -> Result<(), Refusal>
+    requires same { columns_row columns.now ≡ mark_columns mark.now }
+    requires valid { IsMark mark.now }
+    ensures same_reference { tx.new.conn.ghost_name ≡ tx.old.conn.ghost_name }
+    ensures stays { Stays S.Store tx.old.conn.now tx.new.conn.now result }
+    ensures leaves { LeavesKept S.Store tx.old.conn.now tx.new.conn.now (with_mark key.now mark.now) result }
+    ensures refused { IfErr result IsOfStore }
+    ensures fails { RefusesToPut S.Store tx.old.conn.now tx.new.conn.now PUT.now (mark_row (key.now, mark.now)) result }
+{
+    run(
+        tx,
+        PUT,
+        &[
+            kind_number(key.kind).to_sql(),
+            key.id.as_str().to_sql(),
+            columns.state.to_sql(),
+            number(columns.moment)?,
+            (&columns.body).to_sql(),
+        ],
+    )
+}
+
+/// Puts the mark of a key, in the place of the one that it has.
+pub fn put_mark<S: Alter>(
+    alloc: Global,
+    tx: &mut Transaction<'_, S>,
+    key: &MirrorKey,
+    mark: &Mark,
+) -> Result<(), Refusal>
+    ensures same_reference { tx.new.conn.ghost_name ≡ tx.old.conn.ghost_name }
+    ensures stays { Stays S.Store tx.old.conn.now tx.new.conn.now result }
+    ensures leaves { LeavesKept S.Store tx.old.conn.now tx.new.conn.now (with_mark key.now mark.now) result }
+    ensures refused { IfErr result IsOfStore }
+    ensures fails { RefusesToPutText S.Store tx.old.conn.now tx.new.conn.now PUT.now (mark_row (key.now, mark.now)) result }
+{
+    let columns = columns_of(alloc, mark)?;
+    put_columns(tx, key, mark, &columns)
+}
+
+/// The mark of a key, where something is known of it.
+pub fn read_mark<S: Alter>(
+    tx: &mut Transaction<'_, S>,
+    key: &MirrorKey,
+) -> Result<Option<MarkColumns>, Refusal>
+    ensures same_reference { tx.new.conn.ghost_name ≡ tx.old.conn.ghost_name }
+    ensures stays { Stays S.Store tx.old.conn.now tx.new.conn.now result }
+    ensures finds { Finds S.Store tx.old.conn.now tx.new.conn.now (λ kept found. option_map columns_row found ≡ option_map mark_columns (at mirror_cmp key.now kept.mirror)) result }
+    ensures refused { IfErr result IsOfStore }
+    ensures fails { RefusesToShow S.Store tx.old.conn.now tx.new.conn.now READ_ONE.now (key_row key.now) (CannotReadFirst AreColumns ReadsColumns) result }
+{
+    let rows = rows_of(
+        tx,
+        READ_ONE,
+        &[kind_number(key.kind).to_sql(), key.id.as_str().to_sql()],
+    )?;
+    first_in(*rows.allocator(), &rows)
+}
+
+/// What is known of a key, read back as the mark that it has.
+pub fn read_known<S: Alter>(
+    alloc: Global,
+    tx: &mut Transaction<'_, S>,
+    key: &MirrorKey,
+) -> Result<Option<Mark>, Refusal>
+    ensures same_reference { tx.new.conn.ghost_name ≡ tx.old.conn.ghost_name }
+    ensures stays { Stays S.Store tx.old.conn.now tx.new.conn.now result }
+    ensures finds { Finds S.Store tx.old.conn.now tx.new.conn.now (λ kept known. known ≡ at mirror_cmp key.now kept.mirror) result }
+    ensures refused { IfErr result IsOfStore }
+    ensures fails { RefusesToShow S.Store tx.old.conn.now tx.new.conn.now READ_ONE.now (key_row key.now) (CannotReadFirst (λ mark. ⊤) ReadsMark) result }
+{
+    first_of(
+        alloc,
+        tx,
+        READ_ONE,
+        &[kind_number(key.kind).to_sql(), key.id.as_str().to_sql()],
+    )
+}
+
+/// The mirror: programs before events, each by the bytes of its id.
+pub fn read_marks<S: Alter>(
+    alloc: Global,
+    tx: &mut Transaction<'_, S>,
+) -> Result<Rows<MirrorRow>, Refusal>
+    ensures same_reference { tx.new.conn.ghost_name ≡ tx.old.conn.ghost_name }
+    ensures stays { Stays S.Store tx.old.conn.now tx.new.conn.now result }
+    ensures finds { Finds S.Store tx.old.conn.now tx.new.conn.now (λ kept rows. map mirror_row rows ≡ map mark_row kept.mirror) result }
+    ensures refused { IfErr result IsOfStore }
+    ensures fails { RefusesToShow S.Store tx.old.conn.now tx.new.conn.now READ_ALL.now [] (CannotReadAll IsMirrorRow ReadsMirrorRow) result }
+{
+    all_of(alloc, tx, READ_ALL, &[])
+}
+
+/// The whole mirror as the map that it is.
+pub fn read_mirror<S: Alter>(
+    alloc: Global,
+    tx: &mut Transaction<'_, S>,
+) -> Result<Table<MirrorKey, Mark>, Refusal>
+    ensures same_reference { tx.new.conn.ghost_name ≡ tx.old.conn.ghost_name }
+    ensures stays { Stays S.Store tx.old.conn.now tx.new.conn.now result }
+    ensures finds { Finds S.Store tx.old.conn.now tx.new.conn.now (λ kept mirror. mirror ≡ kept.mirror) result }
+    ensures refused { IfErr result IsOfStore }
+    ensures fails { RefusesToShow S.Store tx.old.conn.now tx.new.conn.now READ_ALL.now [] (CannotReadAll IsEntry ReadsEntry) result }
+{
+    let entries = all_of(alloc, tx, READ_ALL, &[])?;
+    table_of(alloc, entries)
+}

@@ -1,0 +1,31 @@
+//! The portfolio, as the tables hold it.
+ghost use Rattle.std.specs.Prelude.{◌≡◌, IfErr};
+ghost use Rattle.adr_sql.specs.Calls.{Stays};
+ghost use Rattle.adr_db.specs.Calls.{Finds, IsOfStore};
+
+use crate::report::read_reports;
+use crate::resource::read_resources;
+use crate::share::read_shares;
+use crate::ven::read_vens;
+use adr_state::Portfolio;
+use adr_text::Refusal;
+use sqlite::{Alter, Transaction};
+use std::alloc::Global;
+
+/// The vens, resources, shares and reports.
+pub fn read_portfolio<S: Alter>(
+    alloc: Global,
+    tx: &mut Transaction<'_, S>,
+) -> Result<Portfolio, Refusal>
+    ensures same_reference { tx.new.conn.ghost_name ≡ tx.old.conn.ghost_name }
+    ensures stays { Stays S.Store tx.old.conn.now tx.new.conn.now result }
+    ensures finds { Finds S.Store tx.old.conn.now tx.new.conn.now (λ kept portfolio. portfolio ≡ kept.portfolio) result }
+    ensures refused { IfErr result IsOfStore }
+{
+    Ok(Portfolio {
+        vens: read_vens(alloc, tx)?,
+        resources: read_resources(alloc, tx)?,
+        shares: read_shares(alloc, tx)?,
+        reports: read_reports(alloc, tx)?,
+    })
+}

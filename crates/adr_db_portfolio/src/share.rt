@@ -1,0 +1,108 @@
+//! The table `share`: the shares of resources in programs.
+ghost use Rattle.std.specs.Prelude.{◌≡◌, [], length, IfErr};
+ghost use Rattle.adr_state.specs.Keys.{share_cmp, at};
+ghost use Rattle.adr_sql.specs.Calls.{Stays};
+ghost use Rattle.adr_state.specs.Portfolios.{with_share, without_share};
+ghost use Rattle.adr_db.specs.Kept.{with_portfolio};
+ghost use Rattle.adr_db.specs.Rows.{share_key_row, share_row};
+ghost use Rattle.adr_db.specs.Refusals.{RefusesToPut, RefusesToShow, CannotReadAll, CannotReadFirst, CannotCount};
+ghost use Rattle.adr_db.specs.Admitted.{IsShareWeight, IsShare, ReadsShareWeight, ReadsShare};
+ghost use Rattle.adr_db.specs.Calls.{LeavesKept, Finds, IsOfStore};
+
+use adr_db::cells::number;
+use adr_db::reading::{all_of, count_of, first_in, table_of};
+use adr_db::statement::{rows_of, run};
+use adr_state::{ShareKey, Weight};
+use adr_text::{Refusal, Table};
+use sqlite::types::ToSql;
+use sqlite::{Alter, Transaction};
+use std::alloc::Global;
+
+const PUT: &str =
+    "INSERT INTO share (program, resource, weight) VALUES (?1, ?2, ?3) ON CONFLICT (program, resource) DO UPDATE SET program = excluded.program, resource = excluded.resource, weight = excluded.weight";
+
+const REMOVE: &str = "DELETE FROM share WHERE program = ?1 AND resource = ?2";
+
+const READ_ONE: &str =
+    "SELECT program, resource, weight FROM share WHERE program = ?1 AND resource = ?2 ORDER BY program, resource";
+
+const READ_ALL: &str = "SELECT program, resource, weight FROM share ORDER BY program, resource";
+
+const COUNT: &str = "SELECT count(*) FROM share";
+
+/// Puts the weight of a share, new or in the place of the one that it has.
+pub fn put_share<S: Alter>(
+    tx: &mut Transaction<'_, S>,
+    key: &ShareKey,
+    weight: Weight,
+) -> Result<(), Refusal>
+    ensures same_reference { tx.new.conn.ghost_name ≡ tx.old.conn.ghost_name }
+    ensures stays { Stays S.Store tx.old.conn.now tx.new.conn.now result }
+    ensures leaves { LeavesKept S.Store tx.old.conn.now tx.new.conn.now (with_portfolio (with_share key.now weight)) result }
+    ensures refused { IfErr result IsOfStore }
+    ensures fails { RefusesToPut S.Store tx.old.conn.now tx.new.conn.now PUT.now (share_row (key.now, weight)) result }
+{
+    run(
+        tx,
+        PUT,
+        &[
+            key.program.as_str().to_sql(),
+            number(key.resource.get())?,
+            weight.get().to_sql(),
+        ],
+    )
+}
+
+/// The share goes.
+pub fn remove_share<S: Alter>(tx: &mut Transaction<'_, S>, key: &ShareKey) -> Result<(), Refusal>
+    ensures same_reference { tx.new.conn.ghost_name ≡ tx.old.conn.ghost_name }
+    ensures stays { Stays S.Store tx.old.conn.now tx.new.conn.now result }
+    ensures leaves { LeavesKept S.Store tx.old.conn.now tx.new.conn.now (with_portfolio (without_share key.now)) result }
+    ensures refused { IfErr result IsOfStore }
+    ensures fails { RefusesToPut S.Store tx.old.conn.now tx.new.conn.now REMOVE.now (share_key_row key.now) result }
+{
+    let resource = number(key.resource.get())?;
+    run(tx, REMOVE, &[key.program.as_str().to_sql(), resource])
+}
+
+/// The weight of a share, where there is one.
+pub fn read_share<S: Alter>(
+    tx: &mut Transaction<'_, S>,
+    key: &ShareKey,
+) -> Result<Option<Weight>, Refusal>
+    ensures same_reference { tx.new.conn.ghost_name ≡ tx.old.conn.ghost_name }
+    ensures stays { Stays S.Store tx.old.conn.now tx.new.conn.now result }
+    ensures finds { Finds S.Store tx.old.conn.now tx.new.conn.now (λ kept found. found ≡ at share_cmp key.now kept.portfolio.shares) result }
+    ensures refused { IfErr result IsOfStore }
+    ensures fails { RefusesToShow S.Store tx.old.conn.now tx.new.conn.now READ_ONE.now (share_key_row key.now) (CannotReadFirst IsShareWeight ReadsShareWeight) result }
+{
+    let resource = number(key.resource.get())?;
+    let rows = rows_of(tx, READ_ONE, &[key.program.as_str().to_sql(), resource])?;
+    first_in(*rows.allocator(), &rows)
+}
+
+/// The shares, by program and resource.
+pub fn read_shares<S: Alter>(
+    alloc: Global,
+    tx: &mut Transaction<'_, S>,
+) -> Result<Table<ShareKey, Weight>, Refusal>
+    ensures same_reference { tx.new.conn.ghost_name ≡ tx.old.conn.ghost_name }
+    ensures stays { Stays S.Store tx.old.conn.now tx.new.conn.now result }
+    ensures finds { Finds S.Store tx.old.conn.now tx.new.conn.now (λ kept shares. shares ≡ kept.portfolio.shares) result }
+    ensures refused { IfErr result IsOfStore }
+    ensures fails { RefusesToShow S.Store tx.old.conn.now tx.new.conn.now READ_ALL.now [] (CannotReadAll IsShare ReadsShare) result }
+{
+    let entries = all_of(alloc, tx, READ_ALL, &[])?;
+    table_of(alloc, entries)
+}
+
+/// How many shares there are.
+pub fn count_shares<S: Alter>(tx: &mut Transaction<'_, S>) -> Result<u64, Refusal>
+    ensures same_reference { tx.new.conn.ghost_name ≡ tx.old.conn.ghost_name }
+    ensures stays { Stays S.Store tx.old.conn.now tx.new.conn.now result }
+    ensures finds { Finds S.Store tx.old.conn.now tx.new.conn.now (λ kept count. count ≡ length kept.portfolio.shares) result }
+    ensures refused { IfErr result IsOfStore }
+    ensures fails { RefusesToShow S.Store tx.old.conn.now tx.new.conn.now COUNT.now [] CannotCount result }
+{
+    count_of(tx, COUNT)
+}

@@ -1,0 +1,34 @@
+//! Who shares in a program, from the tables `share`, `resource` and `ven`.
+ghost use Rattle.std.specs.Prelude.{◌≡◌, [], ◌∷◌, IfErr};
+ghost use Rattle.adr_sql.specs.Calls.{Stays};
+ghost use Rattle.adr_db.specs.Sharing.{sharers};
+ghost use Rattle.adr_db.specs.Calls.{Finds, IsOfStore};
+ghost use Rattle.adr_db.specs.Admitted.{IsParticipant, ReadsParticipant};
+ghost use Rattle.adr_db.specs.Refusals.{RefusesToShow, CannotReadAll};
+ghost use Rattle.sqlite.specs.declared.types.Value.TheVariants.{Text};
+
+use adr_db::reading::all_of;
+use adr_state::Participant;
+use adr_text::{ObjectId, Refusal, Rows};
+use sqlite::types::ToSql;
+use sqlite::{Alter, Transaction};
+use std::alloc::Global;
+
+const READ_SHARERS: &str =
+    "SELECT s.resource, s.weight, r.name, v.name FROM share s JOIN resource r ON r.id = s.resource JOIN ven v ON v.id = r.ven WHERE s.program = ?1 ORDER BY s.program, s.resource";
+
+/// The resources with a share in the program, in the order of their numbers, each with its weight, its
+/// name and its ven's. It costs a look-up of a resource and a ven for each share in the program.
+pub fn read_sharers<S: Alter>(
+    alloc: Global,
+    tx: &mut Transaction<'_, S>,
+    program: &ObjectId,
+) -> Result<Rows<Participant>, Refusal>
+    ensures same_reference { tx.new.conn.ghost_name ≡ tx.old.conn.ghost_name }
+    ensures stays { Stays S.Store tx.old.conn.now tx.new.conn.now result }
+    ensures finds { Finds S.Store tx.old.conn.now tx.new.conn.now (λ kept all. all ≡ sharers program.now kept) result }
+    ensures refused { IfErr result IsOfStore }
+    ensures fails { RefusesToShow S.Store tx.old.conn.now tx.new.conn.now READ_SHARERS.now (Text program.now ∷ []) (CannotReadAll IsParticipant ReadsParticipant) result }
+{
+    all_of(alloc, tx, READ_SHARERS, &[program.as_str().to_sql()])
+}

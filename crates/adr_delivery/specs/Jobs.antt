@@ -1,0 +1,40 @@
+-- What is to be sent of an entry that was leased.
+use Rattle.std.specs.Prelude.{ℕ, List, ◌++◌, codes, Option, Some, None}
+use Rattle.adr_delivery.specs.declared.addressee.Addressee.{Addressee}
+use Rattle.adr_delivery.specs.declared.addressee.Addressee.TheVariants.{Utility, Subscriber}
+use Rattle.adr_delivery.specs.declared.entry.Entry.{Entry}
+use Rattle.adr_delivery.specs.declared.job.Job.{Job}
+use Rattle.adr_delivery.specs.declared.job.JobMethod.{JobMethod}
+use Rattle.adr_delivery.specs.declared.job.JobMethod.TheVariants.{Post, Put}
+use Rattle.adr_delivery.specs.declared.outbox.Outbox.{Outbox}
+use Rattle.adr_delivery.specs.Entries.{destination}
+use Rattle.adr_delivery.specs.Outboxes.{remote_for}
+
+-- where a report is sent to: a new one, or in the place of the one that the utility gave an id
+abbrev pub report_target : Option (List ℕ) → List ℕ
+report_target None = codes "/reports"
+report_target (Some remote) = codes "/reports/" ++ remote
+
+abbrev pub target_for : Option (List ℕ) → Addressee → List ℕ
+target_for remote (Utility event) = report_target remote
+target_for remote (Subscriber subscription address token) = address
+
+abbrev pub token_for : Addressee → Option (List ℕ)
+token_for (Utility event) = None
+token_for (Subscriber subscription address token) = token
+
+abbrev pub method_for : Option (List ℕ) → JobMethod
+method_for None = Post
+method_for (Some remote) = Put
+
+-- a notification is posted to its address; a report is put in the place of the one that the utility has of the same event, and else posted
+abbrev pub job_of : Outbox → ℕ × Entry → Job
+job_of o e = record {
+  entry = e.0;
+  lease = e.1.delivery.leases;
+  destination = destination e.1.addressee;
+  method = method_for (remote_for e.1.addressee o);
+  target = target_for (remote_for e.1.addressee o) e.1.addressee;
+  token = token_for e.1.addressee;
+  body = e.1.body;
+}

@@ -1,0 +1,7 @@
+pub mod Tallies
+pub mod Failing
+pub mod Deliveries
+pub mod Entries
+pub mod Next
+pub mod Outboxes
+pub mod Jobs

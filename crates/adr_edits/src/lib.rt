@@ -1,0 +1,16 @@
+//! What a command does with what is kept as plain maps: each call carries out one kind of decision on it.
+#![tactic(auto)]
+
+mod evidence;
+mod report;
+mod resource;
+mod scan;
+mod share;
+mod ven;
+
+pub use evidence::{take_deletion, take_evidence};
+pub use report::{report_delete, report_post, report_put};
+pub use resource::{resource_add, resource_put, resource_remove};
+pub use scan::{begin_scan, end_scan};
+pub use share::share_set;
+pub use ven::{ven_add, ven_put, ven_remove};

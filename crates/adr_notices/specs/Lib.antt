@@ -1,0 +1,7 @@
+pub mod Notices
+pub mod Matching
+pub mod RollupEntries
+pub mod Shown
+pub mod Made
+pub mod Committed
+pub mod Laws

@@ -1,0 +1,2 @@
+pub mod Refuses
+pub mod Listed

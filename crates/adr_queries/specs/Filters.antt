@@ -1,0 +1,42 @@
+-- Which events and which reports a query wants.
+use Rattle.std.specs.Prelude.{ℕ, Bool, true, false, ◌&&◌, List, filter, Option, None, Some}
+use Rattle.std.specs.List.{list_any}
+use Rattle.std.specs.Str.{bytes_eq}
+use Rattle.adr_objects.specs.declared.shown.ShownEvent.{ShownEvent}
+use Rattle.adr_queries.specs.declared.answer.Object.{Object}
+use Rattle.adr_queries.specs.declared.answer.Object.TheVariants as object
+use Rattle.adr_queries.specs.declared.filter.EventFilter.{EventFilter}
+use Rattle.adr_queries.specs.declared.filter.ReportFilter.{ReportFilter}
+use Rattle.adr_queries.specs.declared.filter.TargetFilter.{TargetFilter}
+use Rattle.adr_queries.specs.declared.filter.TargetFilter.TheVariants.{Any, VenName, ResourceName, Other}
+
+abbrev pub is_among : List (List ℕ) → List ℕ → Bool
+is_among texts text = list_any (λ t. bytes_eq t text) texts
+
+-- where nothing is said, it may be any
+abbrev pub is_among_all : Option (List (List ℕ)) → List ℕ → Bool
+is_among_all None text = true
+is_among_all (Some texts) text = is_among texts text
+
+-- whether an event is of the ven, or of the resource, of one of the names; no event has a target of another type
+abbrev pub has_target : TargetFilter → ShownEvent → Bool
+has_target Any event = true
+has_target (VenName names) event = is_among names event.ven_name
+has_target (ResourceName names) event = is_among names event.resource_name
+has_target Other event = false
+
+-- whether an object is an event of the programs and of the target that are wanted
+abbrev pub is_wanted : EventFilter → Object → Bool
+is_wanted f (object.Event e) = is_among_all f.programs e.shown.program && has_target f.target e.shown
+is_wanted f _ = false
+
+abbrev pub wanted_of : EventFilter → List Object → List Object
+wanted_of f objects = filter (is_wanted f) objects
+
+-- whether an object is a report of the programs and of the clients that are wanted
+abbrev pub is_wanted_report : ReportFilter → Object → Bool
+is_wanted_report f (object.Report r) = is_among_all f.programs r.body.head.program && is_among_all f.clients r.body.head.client
+is_wanted_report f _ = false
+
+abbrev pub wanted_reports : ReportFilter → List Object → List Object
+wanted_reports f objects = filter (is_wanted_report f) objects

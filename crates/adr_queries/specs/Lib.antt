@@ -1,0 +1,7 @@
+pub mod Roles
+pub mod Listings
+pub mod Filters
+pub mod Shown
+pub mod Reported
+pub mod Listed
+pub mod Replies

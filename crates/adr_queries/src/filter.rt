@@ -1,0 +1,129 @@
+//! Which events and which reports are wanted.
+ghost use Rattle.std.specs.Prelude.{◌≡◌, IfOk};
+ghost use Rattle.adr_queries.specs.Filters.{is_among, is_among_all, has_target, is_wanted, wanted_of, is_wanted_report, wanted_reports};
+
+use crate::answer::Object;
+use adr_objects::ShownEvent;
+use adr_text::{Name, ObjectId, Rows};
+use std::alloc::{AllocError, Global};
+
+/// Whose events are wanted (OpenADR 3.0, targetType and targetValues).
+#[derive(Clone, Drop)]
+pub enum TargetFilter {
+    Any,
+    /// Those of a ven of one of these names.
+    VenName(Rows<Name>),
+    /// Those of a resource of one of these names.
+    ResourceName(Rows<Name>),
+    /// Those with a target of another type, which no event has.
+    Other,
+}
+
+/// Which events are wanted.
+#[derive(Clone, Drop)]
+pub struct EventFilter {
+    /// Those of one of these programs, or of any (OpenADR 3.0, programID).
+    pub programs: Option<Rows<ObjectId>>,
+    pub target: TargetFilter,
+}
+
+/// Which reports are wanted.
+#[derive(Clone, Drop)]
+pub struct ReportFilter {
+    /// Those of one of these programs, or of any (OpenADR 3.0, programID).
+    pub programs: Option<Rows<ObjectId>>,
+    /// Those of one of these clients, or of any (OpenADR 3.0, clientName).
+    pub clients: Option<Rows<Name>>,
+}
+
+fn is_named(names: &Rows<Name>, name: &Name) -> bool
+    ensures { result ≡ is_among names.now name.now }
+{
+    names.as_slice().iter().any(|n| *n == *name)
+}
+
+fn has_id(ids: &Rows<ObjectId>, id: &ObjectId) -> bool
+    ensures { result ≡ is_among ids.now id.now }
+{
+    ids.as_slice().iter().any(|i| *i == *id)
+}
+
+/// Whether it is one of the programs, where there are any.
+fn is_of(programs: &Option<Rows<ObjectId>>, program: &ObjectId) -> bool
+    ensures { result ≡ is_among_all programs.now program.now }
+{
+    match programs {
+        Some(programs) => has_id(programs, program),
+        None => true,
+    }
+}
+
+fn has_target(target: &TargetFilter, event: &ShownEvent) -> bool
+    ensures { result ≡ has_target target.now event.now }
+{
+    match target {
+        TargetFilter::Any => true,
+        TargetFilter::VenName(names) => is_named(names, &event.ven_name),
+        TargetFilter::ResourceName(names) => is_named(names, &event.resource_name),
+        TargetFilter::Other => false,
+    }
+}
+
+/// Whether the object is an event that is wanted.
+fn is_wanted(filter: &EventFilter, object: &Object) -> bool
+    ensures { result ≡ is_wanted filter.now object.now }
+{
+    let Object::Event(event) = object else {
+        return false;
+    };
+    is_of(&filter.programs, &event.shown.program) && has_target(&filter.target, &event.shown)
+}
+
+/// The events among the objects that are wanted, in their order.
+pub fn wanted_of(
+    alloc: Global,
+    filter: &EventFilter,
+    objects: Vec<Object>,
+) -> Result<Vec<Object>, AllocError>
+    ensures { IfOk result (λ wanted. wanted.items ≡ wanted_of filter.now objects.items) }
+{
+    objects
+        .into_iter()
+        .filter(|object| is_wanted(filter, object))
+        .collect(alloc)
+}
+
+/// Whether it is one of the clients, where there are any.
+fn is_from(clients: &Option<Rows<Name>>, client: &Name) -> bool
+    ensures { result ≡ is_among_all clients.now client.now }
+{
+    match clients {
+        Some(clients) => is_named(clients, client),
+        None => true,
+    }
+}
+
+/// Whether the object is a report that is wanted.
+fn is_wanted_report(filter: &ReportFilter, object: &Object) -> bool
+    ensures { result ≡ is_wanted_report filter.now object.now }
+{
+    let Object::Report(report) = object else {
+        return false;
+    };
+    let head = &report.body.head;
+    is_of(&filter.programs, &head.program) && is_from(&filter.clients, &head.client)
+}
+
+/// The reports among the objects that are wanted, in their order.
+pub fn wanted_reports(
+    alloc: Global,
+    filter: &ReportFilter,
+    objects: Vec<Object>,
+) -> Result<Vec<Object>, AllocError>
+    ensures { IfOk result (λ wanted. wanted.items ≡ wanted_reports filter.now objects.items) }
+{
+    objects
+        .into_iter()
+        .filter(|object| is_wanted_report(filter, object))
+        .collect(alloc)
+}

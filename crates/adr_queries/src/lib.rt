@@ -1,0 +1,28 @@
+//! What the machine is asked, who asks and how much that one sees, and what is told.
+#![tactic(auto)]
+
+mod answer;
+mod event;
+mod filter;
+mod page;
+mod program;
+mod query;
+mod replies;
+mod reported;
+mod resource;
+mod role;
+mod scan;
+mod share;
+mod shown;
+mod sight;
+mod ven;
+
+pub use answer::{Answer, Object};
+pub use filter::{EventFilter, ReportFilter, TargetFilter, wanted_of, wanted_reports};
+pub use page::page_of;
+pub use query::{Page, Query};
+pub use replies::reply;
+pub use reported::rollup_told;
+pub use role::{Role, is_operator};
+pub use shown::{object_at, objects_seen, told};
+pub use sight::{owner_of, sight_of};

@@ -1,0 +1,49 @@
+-- Addresses that a notification may be sent to, and subscriptions as they are kept.
+use Rattle.std.specs.Prelude.{ℕ, nat_le, List, [], ◌∷◌, length, codes, Bool, true, false, ◌&&◌, Option, Some, None, Result, Ok, Err, if◌then◌else◌}
+use Rattle.std.specs.Str.{bytes_eq}
+use Rattle.url.specs.Parts.{Parts, nonempty_host, serialize}
+use Rattle.url.specs.Parser.{Parsed, parse_url}
+use Rattle.url.specs.Input.{is_empty}
+use Rattle.url.specs.declared.host.Host.{Host}
+use Rattle.url.specs.declared.host.Host.TheVariants.{Domain, Ipv4, Ipv6}
+use Rattle.adr_text.specs.Refusals.{◌>>=◌}
+use Rattle.adr_text.specs.declared.refusal.Refusal.{Refusal}
+use Rattle.adr_text.specs.declared.refusal.Refusal.TheVariants.{BadShape}
+use Rattle.adr_subscription.specs.declared.item.SubscriptionItem.{SubscriptionItem}
+use Rattle.adr_subscription.specs.declared.subscription.SubIn.{SubIn}
+
+-- an IP address, or this machine
+abbrev pub is_near : Option (Host (List ℕ)) → Bool
+is_near None = false
+is_near (Some (Domain name)) = bytes_eq name (codes "localhost")
+is_near (Some (Ipv4 address)) = true
+is_near (Some (Ipv6 address)) = true
+
+-- by the parts that the URL Standard's parser reads: http, no user and no password, and such a host
+abbrev pub is_callback : Parts → Bool
+is_callback url = bytes_eq url.scheme (codes "http") && (is_empty url.username && (is_empty url.password && is_near (nonempty_host url)))
+
+-- the URL, where the parser reads one
+abbrev pub address_as : Parsed Parts → Result Parts Refusal
+address_as (Ok url) = Ok url
+address_as (Err e) = Err BadShape
+
+-- the URL, where it may be called, as it is written
+abbrev pub callback_text : Parts → Result (List ℕ) Refusal
+callback_text url = if is_callback url then Ok (serialize url) else Err BadShape
+
+-- an address of at most 1,024 bytes that may be called, as it is kept
+abbrev pub settled_address : List ℕ → Result (List ℕ) Refusal
+settled_address text = if nat_le (length text) 1024 then address_as (parse_url None text) >>= callback_text else Err BadShape
+
+abbrev pub settled_item : SubscriptionItem → Result SubscriptionItem Refusal
+settled_item item = settled_address item.callback_url >>= λ address. Ok (record item { callback_url = address })
+
+-- each in turn, up to the first refusal
+abbrev pub settled_items : List SubscriptionItem → Result (List SubscriptionItem) Refusal
+settled_items [] = Ok []
+settled_items (item ∷ items) = settled_item item >>= λ kept. settled_items items >>= λ rest. Ok (kept ∷ rest)
+
+-- the subscription as it is kept, where each of its addresses may be called
+unfoldable pub settled : SubIn → Result SubIn Refusal
+settled sub = settled_items sub.items >>= λ items. Ok (record sub { items = items })

@@ -1,0 +1,9 @@
+pub mod Bounds
+pub mod Words
+pub mod Tokens
+pub mod Subscriptions
+pub mod Matching
+pub mod Callbacks
+pub mod Kept
+pub mod Types
+pub mod Laws

@@ -1,0 +1,6 @@
+pub mod Ids
+pub mod Objects
+pub mod WrittenReports
+pub mod WrittenSubs
+pub mod Counts
+pub mod WrittenNotices
