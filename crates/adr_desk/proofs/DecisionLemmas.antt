@@ -46,7 +46,7 @@ told_refused e (Ok x) f h is = absurd cc
 told_refused e (Err d) f h is = cc
 
 -- want of memory and the store's refusal stand in place of any
-of_store : {A : Type 0} (e : Refusal) (r : Result A Refusal) → IsOfStore e → IsRefusalOf e r
+pub of_store : {A : Type 0} (e : Refusal) (r : Result A Refusal) → IsOfStore e → IsRefusalOf e r
 of_store e r (inl is) = subst (λ (d : Refusal). IsRefusalOf d r) (sym is) tt
 of_store e r (inr is) = subst (λ (d : Refusal). IsRefusalOf d r) (sym is) tt
 

@@ -1,3 +1,4 @@
+mod After
 pub mod Empty
 pub mod Transactions
 pub mod Applied

@@ -41,6 +41,15 @@ fn put_changed<S: Alter>(
     put_meta(tx, after)
 }
 
+// What there is already, where what came last went well. Over any type, since what is dropped where it did not is
+// dropped here: in a caller each variant of a wide type would be a path of its own, at each refusal.
+fn after<T: Drop>(ended: Result<(), Refusal>, value: T) -> Result<T, Refusal>
+    ensures { result ≡ told_by (λ _. value) ended }
+{
+    ended?;
+    Ok(value)
+}
+
 /// What the command decides is carried out, and a number drawn where one is wanted. The numbers of the node
 /// are read once, and put at most once.
 fn numbered<S: Alter>(
@@ -68,9 +77,8 @@ fn numbered<S: Alter>(
         &mut meta,
         command,
     )?;
-    meta.serial.draw(limits, command.draws_number())?;
-    put_changed(tx, &before, &meta)?;
-    Ok(said)
+    let drawn = after(meta.serial.draw(limits, command.draws_number()), said)?;
+    after(put_changed(tx, &before, &meta), drawn)
 }
 
 /// The command of one who may give it: its edit, and then the stamps of what is shown. All that is shown is
@@ -115,14 +123,6 @@ fn stepped<S: Alter>(
     committed(alloc, tx, limits, now, command)
 }
 
-// The answer, where the commit went well.
-fn told(ended: Result<(), Refusal>, answer: Answer) -> Result<Answer, Refusal>
-    ensures { result ≡ told_by (λ _. answer) ended }
-{
-    ended?;
-    Ok(answer)
-}
-
 /// The command in a transaction of its own: all of it is committed, or nothing is left of it.
 pub(crate) fn apply_in<S: Alter>(
     alloc: Global,
@@ -144,5 +144,5 @@ pub(crate) fn apply_in<S: Alter>(
     let mut tx = begin(conn);
     let answer = stepped(alloc, &mut tx, limits, now, command)?;
     let ended = commit(tx);
-    told(ended, answer)
+    after(ended, answer)
 }

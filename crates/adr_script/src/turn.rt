@@ -57,6 +57,26 @@ fn words_asked(alloc: Global, role: &[u8], rest: &[u8]) -> Result<Option<Asked>,
     }
 }
 
+/// The turn of a role, or of the node itself, as those words were read.
+fn answer_words<D: Desk>(
+    alloc: Global,
+    desk: &mut D,
+    now: Moment,
+    role: &[u8],
+    words: &Result<Option<Asked>, Refusal>,
+) -> Result<String, AllocError>
+    ensures ok { IfOk result (λ out. D.is_sound desk.new → Takes D.may_refuse (want_by role.now) (D.state desk.old) (turn_of (D.settings desk.old) (D.state desk.old) now role.now words.now) (string_bytes out) (D.state desk.new)) }
+    ensures err { OnErr result (D.is_sound desk.new → MayLeave (D.state desk.old) (turn_of (D.settings desk.old) (D.state desk.old) now role.now words.now) (D.state desk.new)) }
+    ensures was_sound { D.is_sound desk.new → D.is_sound desk.old }
+    ensures same_settings { D.settings desk.new ≡ D.settings desk.old }
+{
+    match words {
+        Ok(Some(asked)) => answer_asked(alloc, desk, now, role, asked),
+        Ok(None) => bad_line(alloc),
+        Err(refusal) => want_by(alloc, role, *refusal),
+    }
+}
+
 /// The turn of a role, or of the node itself.
 fn answer_role<D: Desk>(
     alloc: Global,
@@ -70,11 +90,9 @@ fn answer_role<D: Desk>(
     ensures was_sound { D.is_sound desk.new → D.is_sound desk.old }
     ensures same_settings { D.settings desk.new ≡ D.settings desk.old }
 {
-    match words_asked(alloc, role, rest) {
-        Ok(Some(asked)) => answer_asked(alloc, desk, now, role, &asked),
-        Ok(None) => bad_line(alloc),
-        Err(refusal) => want_by(alloc, role, refusal),
-    }
+    // The words are looked at by reference: taken apart, each kind of what is asked would be a path of its own here.
+    let words = words_asked(alloc, role, rest);
+    answer_words(alloc, desk, now, role, &words)
 }
 
 /// The turn of a line.
