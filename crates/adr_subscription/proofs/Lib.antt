@@ -1,1 +1,2 @@
 pub mod KeptTexts
+pub mod Unsettled

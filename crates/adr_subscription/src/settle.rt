@@ -1,8 +1,9 @@
 //! The address of each item: one that may be called, as it is kept.
-ghost use Rattle.std.specs.Prelude.{◌≡◌, Ok, None, length, IfOk};
+ghost use Rattle.std.specs.Prelude.{◌≡◌, ◌≢◌, Ok, Err, None, length, IfOk};
 ghost use Rattle.url.specs.Parser.{parse_url};
 ghost use Rattle.url.specs.Parts.{nonempty_host};
 ghost use Rattle.adr_text.specs.Refusals.{Gives};
+ghost use Rattle.adr_text.specs.declared.refusal.Refusal.TheVariants.{Store};
 ghost use Rattle.adr_subscription.specs.Callbacks.{is_near, is_callback, address_as, settled_address, settled_item, settled_items, settled};
 
 use crate::bounded::Bounded;
@@ -96,7 +97,8 @@ fn settled_items(
 /// URL is written. Otherwise `BadShape`.
 #[tactic(auto, unfolding(crate::specs::Callbacks::settled))]
 pub fn settled(alloc: Global, sub: SubIn) -> Result<SubIn, Refusal>
-    ensures { Gives (λ kept. kept) result (settled sub) }
+    ensures gives { Gives (λ kept. kept) result (settled sub) }
+    ensures no_store { result ≢ Err Store }
 {
     let items = settled_items(alloc, sub.items.into_vec())?;
     Ok(SubIn {
