@@ -1,10 +1,11 @@
 -- That the machine refuses a command only as is listed.
-use Rattle.std.proofs.Common.{◌≡◌, ℕ, ◌+◌, ◌&&◌, Bool, true, false, cond, List, [], ◌∷◌, ◌++◌, Contains, Option, Some, None, Result, Ok, Err, IfErr, IfOk, refl, subst, arith}
+use Rattle.std.proofs.Common.{◌≡◌, ℕ, ◌+◌, ◌&&◌, Bool, true, false, cond, List, [], ◌∷◌, ◌++◌, Contains, Option, Some, None, Result, Ok, Err, IfErr, IfOk, refl, sym, subst, arith}
 use Rattle.std.specs.List.{list_all}
 use Rattle.std.proofs.lemmas.Bool.{cond_both}
+use Rattle.std.proofs.lemmas.Result.{IfErr-weaker}
 use Rattle.adr_text.specs.Refusals.{◌>>=◌}
 use Rattle.adr_text.specs.declared.refusal.Refusal.{Refusal}
-use Rattle.adr_text.specs.declared.refusal.Refusal.TheVariants.{Exhausted, NotFound, Conflict, Forbidden, BadShare, LimitReached, ResourceNotOfEvent, NoScan}
+use Rattle.adr_text.specs.declared.refusal.Refusal.TheVariants.{Exhausted, NotFound, Conflict, Forbidden, BadShare, LimitReached, ResourceNotOfEvent, NoScan, BadShape}
 use Rattle.adr_state.specs.declared.base.Base.{Base}
 use Rattle.adr_state.specs.declared.state.State.{State}
 use Rattle.adr_state.specs.declared.limits.Limits.{Limits}
@@ -30,12 +31,12 @@ use Rattle.adr_queries.specs.declared.answer.Answer.{Answer}
 use Rattle.adr_queries.specs.declared.answer.Answer.TheVariants as answer
 use Rattle.adr_queries.specs.declared.answer.Object.{Object}
 use Rattle.adr_machine.specs.declared.command.Command.{Command}
-use Rattle.adr_machine.specs.declared.command.Command.TheVariants.{Evidence, Gone, ScanBegin, ScanEnd, VenAdd, VenPut, VenRemove, ResourceAdd, ResourcePut, ResourceRemove, ShareSet, ReportPost, ReportPut, ReportDelete}
+use Rattle.adr_machine.specs.declared.command.Command.TheVariants.{Evidence, Gone, ScanBegin, ScanEnd, VenAdd, VenPut, VenRemove, ResourceAdd, ResourcePut, ResourceRemove, ShareSet, ReportPost, ReportPut, ReportDelete, SubPost, SubPut, SubDelete}
 use Rattle.adr_machine.specs.declared.outcome.Outcome.{Outcome}
 use Rattle.adr_machine.specs.declared.outcome.Outcome.TheVariants as outcome
 use Rattle.adr_queries.specs.declared.role.Role.{Role}
 use Rattle.adr_queries.specs.Roles.{sight_of}
-use Rattle.adr_machine.specs.Edits.{is_allowed, draws_number, counted, answered, of_portfolio, ven_outcome, resource_outcome, share_outcome, post_decided, put_decided, delete_decided, decided, edit_of, edit}
+use Rattle.adr_machine.specs.Edits.{Decision, is_allowed, draws_number, counted, answered, of_portfolio, ven_outcome, resource_outcome, share_outcome, sub_outcome, post_decided, put_decided, delete_decided, sub_post_decided, sub_put_decided, sub_delete_decided, decided, edit_of, edit}
 use Rattle.adr_queries.specs.Listed.{is_of_machine, IsListed}
 use Rattle.adr_machine.specs.Listed.{listed}
 use Rattle.adr_queries.specs.Shown.{object_at, told}
@@ -43,6 +44,13 @@ use Rattle.adr_view.specs.declared.view.Content.TheVariants as content
 use Rattle.adr_view.specs.Reports.{reported, fits, report_on, report_with_id, may_report, may_change, report_post, report_put, report_delete}
 use Rattle.adr_machine.specs.Runs.{AreListed}
 use Rattle.adr_machine.specs.Steps.{answered_by, changed, committed, step}
+use Rattle.adr_subscription.specs.declared.subscription.SubIn.{SubIn}
+use Rattle.adr_subscription.specs.Callbacks.{settled}
+use Rattle.adr_subscription.proofs.Unsettled.{settled_refused}
+use Rattle.adr_state.specs.Subs.{sub_post, sub_with_id}
+use Rattle.adr_view.specs.declared.sight.Sight.{Sight}
+use Rattle.adr_view.specs.Sights.{sees_owner, owner_in}
+use Rattle.adr_view.specs.Subs.{sub_in_sight, sub_put, sub_delete}
 use Rattle.adr_queries.proofs.Refuses.{Refuses, never, either, tested, first_then, found_then, sight_so}
 
 -- ---- names
@@ -94,6 +102,30 @@ module _ (P : Refusal → Type 0) (limits : Limits) (base : Base) (forbidden : P
         (either P (may_change sight id base.portfolio && may_report sight report base.portfolio) _ _
         (found_then P NotFound (report_with_id id base.portfolio) _ missing (λ old. first_then P (report_on report base.mirror base.portfolio) _ (on_so report) (λ on. never P _))) (record { so = forbidden })))
 
+-- what is decided of subscriptions
+module _ (P : Refusal → Type 0) (base : Base) (forbidden : P Forbidden) where
+  in_sight_so : (sight : Sight) (id : List ℕ) → P NotFound → Refuses P (sub_in_sight sight id base.portfolio)
+  in_sight_so sight id missing = found_then P NotFound (sub_with_id id base.portfolio) _ missing (λ s. either P (sees_owner sight s.1.owner) (Ok s) (Err Forbidden) (never P s) (record { so = forbidden }))
+
+  sub_delete_so : (role : Role) (id : List ℕ) → P NotFound → Refuses P (sub_delete_decided role id base)
+  sub_delete_so role id missing =
+      first_then P (sight_of base role) _ (sight_so P base forbidden role)
+      (λ sight. first_then P (sub_delete sight id base.portfolio) _ (first_then P (sub_in_sight sight id base.portfolio) _ (in_sight_so sight id missing) (λ s. never P _)) (λ d. never P _))
+
+  module _ (bad : P BadShape) where
+    settled_so : (sub : SubIn) → Refuses P (settled sub)
+    settled_so sub = record { so = IfErr-weaker (settled sub) (λ e. e ≡ BadShape) P (λ e is. subst P (sym is) bad) (settled_refused sub) }
+
+    sub_post_so : (limits : Limits) (now n : ℕ) (role : Role) (sub : SubIn) → P LimitReached → Refuses P (sub_post_decided limits now n role sub base)
+    sub_post_so limits now n role sub limit =
+        first_then P (settled sub) _ (settled_so sub) (λ body. first_then P (sight_of base role) _ (sight_so P base forbidden role)
+        (λ sight. first_then P (sub_post limits now n (owner_in sight) body base.portfolio) _ (tested P (is_full limits.subs base.portfolio.subs) LimitReached (Ok _) limit (never P _)) (λ d. never P _)))
+
+    sub_put_so : (now : ℕ) (role : Role) (id : List ℕ) (sub : SubIn) → P NotFound → Refuses P (sub_put_decided now role id sub base)
+    sub_put_so now role id sub missing =
+        first_then P (settled sub) _ (settled_so sub) (λ body. first_then P (sight_of base role) _ (sight_so P base forbidden role)
+        (λ sight. first_then P (sub_put sight now id body base.portfolio) _ (first_then P (sub_in_sight sight id base.portfolio) _ (in_sight_so sight id missing) (λ s. never P _)) (λ d. never P _)))
+
 decided_listed : (limits : Limits) (now n : ℕ) (base : Base) (c : Command) → Refuses (Contains (listed c)) (decided limits now n base c)
 decided_listed limits now n base (Evidence founds polled) = first_then _ (evidence limits founds polled base) _ (joined_so _ limits base (evidence_of founds) (scan_with base.scan founds polled) (0, omega arith, refl)) (λ change. never _ _)
 decided_listed limits now n base (Gone kind id) =
@@ -120,12 +152,16 @@ decided_listed limits now n base (ShareSet role program resource share) =
 decided_listed limits now n base (ReportPost role report) = post_so (Contains (listed (ReportPost role report))) limits base (0, omega arith, refl) (1, omega arith, refl) (2, omega arith, refl) n role report (3, omega arith, refl)
 decided_listed limits now n base (ReportPut role id report) = put_so (Contains (listed (ReportPut role id report))) limits base (0, omega arith, refl) (1, omega arith, refl) (2, omega arith, refl) n role id report
 decided_listed limits now n base (ReportDelete role id) = delete_so (Contains (listed (ReportDelete role id))) limits base (0, omega arith, refl) (1, omega arith, refl) role id
+decided_listed limits now n base (SubPost role sub) = sub_post_so (Contains (listed (SubPost role sub))) base (1, omega arith, refl) (0, omega arith, refl) limits now n role sub (2, omega arith, refl)
+decided_listed limits now n base (SubPut role id sub) = sub_put_so (Contains (listed (SubPut role id sub))) base (1, omega arith, refl) (0, omega arith, refl) now role id sub (2, omega arith, refl)
+decided_listed limits now n base (SubDelete role id) = sub_delete_so (Contains (listed (SubDelete role id))) base (0, omega arith, refl) role id (1, omega arith, refl)
 
 exhausted_listed : (c : Command) → draws_number c ≡ true → Contains (listed c) Exhausted
 exhausted_listed (VenAdd role ven) draws = (3, omega arith, refl)
 exhausted_listed (ResourceAdd role ven resource) draws = (4, omega arith, refl)
 exhausted_listed (ReportPost role report) draws = (4, omega arith, refl)
 exhausted_listed (ReportPut role id report) draws = (3, omega arith, refl)
+exhausted_listed (SubPost role sub) draws = (3, omega arith, refl)
 exhausted_listed c draws = absurd (let no : false ≡ true = draws in cc)
 
 pub forbidden_listed : (c : Command) → is_allowed c ≡ false → Contains (listed c) Forbidden
@@ -136,6 +172,9 @@ forbidden_listed ScanEnd is = absurd (let yes : true ≡ false = is in cc)
 forbidden_listed (ReportPost role report) is = absurd (let yes : true ≡ false = is in cc)
 forbidden_listed (ReportPut role id report) is = absurd (let yes : true ≡ false = is in cc)
 forbidden_listed (ReportDelete role id) is = absurd (let yes : true ≡ false = is in cc)
+forbidden_listed (SubPost role sub) is = absurd (let yes : true ≡ false = is in cc)
+forbidden_listed (SubPut role id sub) is = absurd (let yes : true ≡ false = is in cc)
+forbidden_listed (SubDelete role id) is = absurd (let yes : true ≡ false = is in cc)
 forbidden_listed c is = (0, omega arith, refl)
 
 drawn_so : (P : Refusal → Type 0) (limits : Limits) (serial : ℕ) (draws : Bool) → (draws ≡ true → P Exhausted) → Refuses P (drawn limits serial draws)
@@ -202,6 +241,18 @@ decided_answered limits now n base (ShareSet role program resource share) = made
 decided_answered limits now n base (ReportPost role report) = any (λ d. IsAnswered (ReportPost role report) d.outcome) _ (λ d. answered_so (Contains (listed (ReportPost role report))) (1, omega arith, refl) d.outcome)
 decided_answered limits now n base (ReportPut role id report) = any (λ d. IsAnswered (ReportPut role id report) d.outcome) _ (λ d. answered_so (Contains (listed (ReportPut role id report))) (1, omega arith, refl) d.outcome)
 decided_answered limits now n base (ReportDelete role id) = any (λ d. IsAnswered (ReportDelete role id) d.outcome) _ (λ d. answered_so (Contains (listed (ReportDelete role id))) (1, omega arith, refl) d.outcome)
+decided_answered limits now n base (SubPost role sub) =
+    let Q = λ (d : Decision). IsAnswered (SubPost role sub) d.outcome in
+    made_with Q (λ b. Unit {0}) (settled sub) _ (any (λ b. Unit {0}) (settled sub) (λ b. tt)) (λ body u. made_with Q (λ x. Unit {0}) (sight_of base role) _ (any (λ x. Unit {0}) (sight_of base role) (λ x. tt))
+    (λ sight u. made Q (sub_post limits now n (owner_in sight) body base.portfolio) (λ d. record { outcome = sub_outcome d.0; change = ChangePortfolio d.1 }) (λ d before after. never (Contains (listed (SubPost role sub))) _)))
+decided_answered limits now n base (SubPut role id sub) =
+    let Q = λ (d : Decision). IsAnswered (SubPut role id sub) d.outcome in
+    made_with Q (λ b. Unit {0}) (settled sub) _ (any (λ b. Unit {0}) (settled sub) (λ b. tt)) (λ body u. made_with Q (λ x. Unit {0}) (sight_of base role) _ (any (λ x. Unit {0}) (sight_of base role) (λ x. tt))
+    (λ sight u. made Q (sub_put sight now id body base.portfolio) (λ d. record { outcome = sub_outcome d.0; change = ChangePortfolio d.1 }) (λ d before after. never (Contains (listed (SubPut role id sub))) _)))
+decided_answered limits now n base (SubDelete role id) =
+    let Q = λ (d : Decision). IsAnswered (SubDelete role id) d.outcome in
+    made_with Q (λ x. Unit {0}) (sight_of base role) _ (any (λ x. Unit {0}) (sight_of base role) (λ x. tt))
+    (λ sight u. made Q (sub_delete sight id base.portfolio) (λ d. record { outcome = sub_outcome d.0; change = ChangePortfolio d.1 }) (λ d before after. never (Contains (listed (SubDelete role id))) _))
 
 edit_answered : (limits : Limits) (now : ℕ) (base : Base) (c : Command) → IfOk (edit limits now base c) (λ e. IsAnswered c e.0)
 unfolding edit
@@ -242,6 +293,9 @@ listed_of_machine (ShareSet role program resource share) = refl
 listed_of_machine (ReportPost role report) = refl
 listed_of_machine (ReportPut role id report) = refl
 listed_of_machine (ReportDelete role id) = refl
+listed_of_machine (SubPost role sub) = refl
+listed_of_machine (SubPut role id sub) = refl
+listed_of_machine (SubDelete role id) = refl
 
 -- ---- runs
 

@@ -18,10 +18,16 @@ use Rattle.adr_objects.specs.declared.shown.VenObject.{VenObject}
 use Rattle.adr_objects.specs.declared.site.ReportIn.{ReportIn}
 use Rattle.adr_objects.specs.declared.shown.ResourceObject.{ResourceObject}
 use Rattle.adr_objects.specs.declared.shown.ShareObject.{ShareObject}
+use Rattle.adr_subscription.specs.declared.object.SubObject.{SubObject}
+use Rattle.adr_subscription.specs.declared.subscription.SubIn.{SubIn}
+use Rattle.adr_subscription.specs.Callbacks.{settled}
+use Rattle.adr_state.specs.Subs.{sub_post}
+use Rattle.adr_view.specs.Sights.{owner_in}
+use Rattle.adr_view.specs.Subs.{sub_put, sub_delete}
 use Rattle.adr_view.specs.Reports.{report_post, report_put, report_delete}
 use Rattle.adr_queries.specs.declared.role.Role.{Role}
 use Rattle.adr_machine.specs.declared.command.Command.{Command}
-use Rattle.adr_machine.specs.declared.command.Command.TheVariants.{Evidence, Gone, ScanBegin, ScanEnd, VenAdd, VenPut, VenRemove, ResourceAdd, ResourcePut, ResourceRemove, ShareSet, ReportPost, ReportPut, ReportDelete}
+use Rattle.adr_machine.specs.declared.command.Command.TheVariants.{Evidence, Gone, ScanBegin, ScanEnd, VenAdd, VenPut, VenRemove, ResourceAdd, ResourcePut, ResourceRemove, ShareSet, ReportPost, ReportPut, ReportDelete, SubPost, SubPut, SubDelete}
 use Rattle.adr_queries.specs.declared.answer.Object.TheVariants as object
 use Rattle.adr_queries.specs.declared.answer.Answer.{Answer}
 use Rattle.adr_queries.specs.declared.answer.Answer.TheVariants as answer
@@ -53,6 +59,7 @@ draws_number (VenAdd role ven) = true
 draws_number (ResourceAdd role ven resource) = true
 draws_number (ReportPost role report) = true
 draws_number (ReportPut role id report) = true
+draws_number (SubPost role sub) = true
 draws_number _ = false
 
 -- what comes of it, and the change of the base
@@ -87,6 +94,19 @@ report_kept r = outcome.ReportKept r.0 r.1.body
 abbrev pub report_gone : ℕ × Report → Outcome
 report_gone r = outcome.ReportGone r.0 r.1.body
 
+abbrev pub sub_outcome : SubObject → Outcome
+sub_outcome sub = outcome.Told (answer.Object (object.Sub sub))
+
+-- what is decided of subscriptions, by who gives the command: first whether the addresses may be called
+abbrev pub sub_post_decided : Limits → ℕ → ℕ → Role → SubIn → Base → Result Decision Refusal
+sub_post_decided limits now n role sub base = settled sub >>= λ body. sight_of base role >>= λ sight. of_portfolio sub_outcome (sub_post limits now n (owner_in sight) body base.portfolio)
+
+abbrev pub sub_put_decided : ℕ → Role → List ℕ → SubIn → Base → Result Decision Refusal
+sub_put_decided now role id sub base = settled sub >>= λ body. sight_of base role >>= λ sight. of_portfolio sub_outcome (sub_put sight now id body base.portfolio)
+
+abbrev pub sub_delete_decided : Role → List ℕ → Base → Result Decision Refusal
+sub_delete_decided role id base = sight_of base role >>= λ sight. of_portfolio sub_outcome (sub_delete sight id base.portfolio)
+
 -- what is decided of reports, by who gives the command
 abbrev pub post_decided : Limits → ℕ → Role → ReportIn → Base → Result Decision Refusal
 post_decided limits n role report base = sight_of base role >>= λ sight. of_portfolio report_kept (report_post limits sight n report base.mirror base.portfolio)
@@ -113,6 +133,9 @@ decided limits now n base (ShareSet role program resource share) = of_portfolio 
 decided limits now n base (ReportPost role report) = post_decided limits n role report base
 decided limits now n base (ReportPut role id report) = put_decided n role id report base
 decided limits now n base (ReportDelete role id) = delete_decided role id base
+decided limits now n base (SubPost role sub) = sub_post_decided limits now n role sub base
+decided limits now n base (SubPut role id sub) = sub_put_decided now role id sub base
+decided limits now n base (SubDelete role id) = sub_delete_decided role id base
 
 -- what is told of what was carried out
 abbrev pub told_by : {A B : Type 0} → (A → B) → Result A Refusal → Result B Refusal

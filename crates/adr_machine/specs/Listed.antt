@@ -1,9 +1,9 @@
 -- The refusals that are listed for each command, in the order in which each is first tested.
 use Rattle.std.specs.Prelude.{List, [], ◌∷◌}
 use Rattle.adr_text.specs.declared.refusal.Refusal.{Refusal}
-use Rattle.adr_text.specs.declared.refusal.Refusal.TheVariants.{Exhausted, NotFound, Conflict, Forbidden, BadShare, LimitReached, ResourceNotOfEvent, NoScan}
+use Rattle.adr_text.specs.declared.refusal.Refusal.TheVariants.{Exhausted, NotFound, Conflict, Forbidden, BadShare, LimitReached, ResourceNotOfEvent, NoScan, BadShape}
 use Rattle.adr_machine.specs.declared.command.Command.{Command}
-use Rattle.adr_machine.specs.declared.command.Command.TheVariants.{Evidence, Gone, ScanBegin, ScanEnd, VenAdd, VenPut, VenRemove, ResourceAdd, ResourcePut, ResourceRemove, ShareSet, ReportPost, ReportPut, ReportDelete}
+use Rattle.adr_machine.specs.declared.command.Command.TheVariants.{Evidence, Gone, ScanBegin, ScanEnd, VenAdd, VenPut, VenRemove, ResourceAdd, ResourcePut, ResourceRemove, ShareSet, ReportPost, ReportPut, ReportDelete, SubPost, SubPut, SubDelete}
 
 -- what a command may be refused by
 abbrev pub listed : Command → List Refusal
@@ -21,3 +21,6 @@ listed (ShareSet role program resource share) = Forbidden ∷ NotFound ∷ BadSh
 listed (ReportPost role report) = Forbidden ∷ NotFound ∷ ResourceNotOfEvent ∷ LimitReached ∷ Exhausted ∷ []
 listed (ReportPut role id report) = Forbidden ∷ NotFound ∷ ResourceNotOfEvent ∷ Exhausted ∷ []
 listed (ReportDelete role id) = Forbidden ∷ NotFound ∷ []
+listed (SubPost role sub) = BadShape ∷ Forbidden ∷ LimitReached ∷ Exhausted ∷ []
+listed (SubPut role id sub) = BadShape ∷ Forbidden ∷ NotFound ∷ []
+listed (SubDelete role id) = Forbidden ∷ NotFound ∷ []

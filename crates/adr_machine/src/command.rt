@@ -4,6 +4,7 @@ ghost use Rattle.std.specs.Option.{option_copied};
 
 use adr_objects::{Found, Kind, ReportIn, ResourceIn, ShareIn, VenIn};
 use adr_queries::{Role, is_operator};
+use adr_subscription::SubIn;
 use adr_text::{ObjectId, Rows};
 
 /// A command. Each is one step, at a moment.
@@ -93,6 +94,25 @@ pub enum Command {
         role: Role,
         id: ObjectId,
     },
+    /// Makes a subscription of who has the role. Refused where one of its addresses may not be called, for the
+    /// utility, for a ven that isn't enrolled, at the limit of subscriptions, and where the serial is used up.
+    SubPost {
+        role: Role,
+        sub: SubIn,
+    },
+    /// The subscription of that id says this from now on. Refused where one of its addresses may not be called, for
+    /// the utility, for a ven that isn't enrolled, and where the subscription is another's or isn't there.
+    SubPut {
+        role: Role,
+        id: ObjectId,
+        sub: SubIn,
+    },
+    /// Removes the subscription of that id. Refused for the utility, for a ven that isn't enrolled, and where the
+    /// subscription is another's or isn't there.
+    SubDelete {
+        role: Role,
+        id: ObjectId,
+    },
 }
 
 impl Command {
@@ -109,7 +129,10 @@ impl Command {
             | Command::ScanEnd
             | Command::ReportPost { .. }
             | Command::ReportPut { .. }
-            | Command::ReportDelete { .. } => None,
+            | Command::ReportDelete { .. }
+            | Command::SubPost { .. }
+            | Command::SubPut { .. }
+            | Command::SubDelete { .. } => None,
             Command::VenAdd { role, .. }
             | Command::VenPut { role, .. }
             | Command::VenRemove { role, .. }
@@ -140,6 +163,7 @@ impl Command {
                 | Command::ResourceAdd { .. }
                 | Command::ReportPost { .. }
                 | Command::ReportPut { .. }
+                | Command::SubPost { .. }
         )
     }
 }

@@ -8,6 +8,7 @@ ghost use Rattle.adr_machine.specs.Edits.{answered, post_decided, put_decided, d
 
 use crate::command::Command;
 use crate::outcome::Outcome;
+use crate::subscribe::{resubscribed, subscribed, unsubscribed};
 use crate::told::{counted, of_report, of_report_gone, of_resource, of_scan, of_share, of_ven};
 use adr_edits::{
     begin_scan, end_scan, report_delete, report_post, report_put, resource_add, resource_put,
@@ -140,5 +141,8 @@ pub(crate) fn carry_out(
         Command::ReportPost { role, report } => posted(alloc, limits, number, base, role, report),
         Command::ReportPut { role, id, report } => put_again(alloc, number, base, role, id, report),
         Command::ReportDelete { role, id } => removed(base, role, id),
+        Command::SubPost { role, sub } => subscribed(alloc, limits, now, number, base, role, sub),
+        Command::SubPut { role, id, sub } => resubscribed(alloc, now, base, role, id, sub),
+        Command::SubDelete { role, id } => unsubscribed(base, role, id),
     }
 }

@@ -7,6 +7,7 @@ ghost use Rattle.adr_machine.specs.Edits.{edit_of, edit};
 use crate::command::Command;
 use crate::decided::carry_out;
 use crate::outcome::Outcome;
+use crate::told::after;
 use adr_state::{Base, Limits};
 use adr_text::{Moment, Refusal};
 use std::alloc::Global;
@@ -25,8 +26,7 @@ fn numbered(
 {
     let number = base.serial.next();
     let comes = carry_out(alloc, limits, now, number, base, command)?;
-    base.serial.draw(limits, command.draws_number())?;
-    Ok(comes)
+    after(base.serial.draw(limits, command.draws_number()), comes)
 }
 
 /// What the command makes of the base, and what comes of it.

@@ -9,6 +9,7 @@ mod edit;
 mod outcome;
 mod plain;
 mod runs;
+mod subscribe;
 pub mod told;
 
 pub use adr_queries::{
@@ -22,3 +23,4 @@ pub use desk::Desk;
 pub use outcome::{Outcome, answered_by};
 pub use plain::PlainDesk;
 pub use runs::run;
+pub use subscribe::settled_copy;

@@ -2,13 +2,23 @@
 ghost use Rattle.std.specs.Prelude.{◌≡◌};
 ghost use Rattle.adr_queries.specs.declared.answer.Answer.TheVariants as answer;
 ghost use Rattle.adr_machine.specs.declared.outcome.Outcome.TheVariants as outcome;
-ghost use Rattle.adr_machine.specs.Edits.{ven_outcome, resource_outcome, share_outcome, report_kept, report_gone, told_by};
+ghost use Rattle.adr_machine.specs.Edits.{ven_outcome, resource_outcome, share_outcome, sub_outcome, report_kept, report_gone, told_by};
 
 use crate::outcome::Outcome;
 use adr_objects::{Number, ResourceObject, ShareObject, VenObject};
 use adr_queries::{Answer, Object};
 use adr_state::{MirrorKey, Report};
+use adr_subscription::SubObject;
 use adr_text::{Refusal, Rows};
+
+/// What there is already, where what came last went well. Over any type, since what is dropped where it did not is
+/// dropped here: in a caller each variant of a wide type would be a path of its own, at each refusal.
+pub fn after<T: Drop>(ended: Result<(), Refusal>, value: T) -> Result<T, Refusal>
+    ensures { result ≡ told_by (λ _. value) ended }
+{
+    ended?;
+    Ok(value)
+}
 
 /// The number of changes.
 pub fn counted<T: Drop>(decided: Result<T, Refusal>) -> Result<Outcome, Refusal>
@@ -52,6 +62,13 @@ pub fn of_share(decided: Result<ShareObject, Refusal>) -> Result<Outcome, Refusa
     ensures { result ≡ told_by share_outcome decided }
 {
     Ok(Outcome::Told(Answer::Share(decided?)))
+}
+
+/// The subscription.
+pub fn of_sub(decided: Result<SubObject, Refusal>) -> Result<Outcome, Refusal>
+    ensures { result ≡ told_by sub_outcome decided }
+{
+    Ok(Outcome::Told(Answer::Object(Object::Sub(decided?))))
 }
 
 /// The report, as it is kept.

@@ -2,7 +2,8 @@
 use Rattle.std.proofs.Common.{◌≡◌, ◌≢◌, ℕ, not, Bool, true, cond, List, [], ◌∷◌, Contains, Option, Some, None, Result, Ok, Err, IfErr, refl, arith}
 use Rattle.std.specs.List.{list_all}
 use Rattle.std.proofs.lemmas.Result.{IfErr-at_err}
-use Rattle.adr_text.specs.Refusals.{IsRefusalOf}
+use Rattle.adr_subscription.specs.declared.kept_sub.Sub.{Sub}
+use Rattle.adr_text.specs.Refusals.{IsRefusalOf, or_else}
 use Rattle.adr_text.specs.declared.refusal.Refusal.{Refusal}
 use Rattle.adr_text.specs.declared.refusal.Refusal.TheVariants.{OutOfMemory, Store, NotFound, Forbidden, NoScan}
 use Rattle.adr_state.specs.declared.base.Base.{Base}
@@ -24,7 +25,9 @@ use Rattle.adr_state.specs.ShownIds.{resource_part, event_part, resource_named}
 use Rattle.adr_queries.specs.Shown.{told, event_shown, event_told, event_named}
 use Rattle.adr_view.specs.Reports.{report_with_id}
 use Rattle.adr_view.specs.Rollups.{rollup_at}
-use Rattle.adr_view.specs.Sights.{sees_ven}
+use Rattle.adr_state.specs.Subs.{sub_with_id}
+use Rattle.adr_view.specs.Sights.{sees_ven, sees_owner}
+use Rattle.adr_view.specs.Subs.{sub_in_sight}
 use Rattle.adr_queries.specs.Listings.{ven_told, resources_told, resource_told}
 use Rattle.adr_queries.specs.Reported.{sees_report, report_told, rollup_told}
 use Rattle.adr_queries.specs.Replies.{reply, probes_reply}
@@ -63,6 +66,13 @@ module _ (P : Refusal → Type 0) (base : Base) (forbidden : P Forbidden) where
     resource_so ven None = record { so = missing }
     resource_so ven (Some (n, resource)) = tested P (not (sees_ven sight resource.ven)) Forbidden _ forbidden (either P (is_under ven base.portfolio resource) _ _ (never P _) (record { so = missing }))
 
+    sub_found_so : (o : Option (ℕ × Sub)) → Refuses P (or_else NotFound o)
+    sub_found_so None = record { so = missing }
+    sub_found_so (Some s) = never P _
+
+    sub_so : (id : List ℕ) → Refuses P (sub_in_sight sight id base.portfolio)
+    sub_so id = first_then P _ _ (sub_found_so (sub_with_id id base.portfolio)) (λ s. shown (sees_owner sight s.1.owner) s)
+
 rollup_so : {P : Refusal → Type 0} → P NotFound → (event : List ℕ) (o : Option Rollup) → Refuses P (rollup_told event o)
 rollup_so missing event None = record { so = missing }
 rollup_so missing event (Some rollup) = never _ _
@@ -85,6 +95,8 @@ reply_so s (query.Shares role program) = shown _ s.base (0, omega arith, refl) _
 reply_so s (query.Reports role filter page) = first_then _ _ _ (sight_so _ s.base (0, omega arith, refl) role) (λ sight. never _ _)
 reply_so s (query.Report role id) = first_then _ _ _ (sight_so _ s.base (0, omega arith, refl) role) (λ sight. report_so _ s.base (0, omega arith, refl) (1, omega arith, refl) sight s (report_with_id id s.base.portfolio))
 reply_so s (query.Rollup role event) = either _ (is_operator role) _ _ (rollup_so (1, omega arith, refl) event (rollup_at s.base.mirror s.base.portfolio event)) (record { so = (0, omega arith, refl) })
+reply_so s (query.Subs role filter page) = first_then _ _ _ (sight_so _ s.base (0, omega arith, refl) role) (λ sight. never _ _)
+reply_so s (query.Sub role id) = first_then _ _ _ (sight_so _ s.base (0, omega arith, refl) role) (λ sight. first_then _ _ _ (sub_so _ s.base (0, omega arith, refl) (1, omega arith, refl) sight id) (λ sub. never _ _))
 reply_so s (query.Probes limit) = scan_told limit s.base s.base.scan
 
 pub reply_listed : (s : State) (q : Query) → IfErr (reply s q) (Contains (listed_for q))
@@ -105,6 +117,8 @@ listed_for_of_machine (query.Shares role program) = refl
 listed_for_of_machine (query.Reports role filter page) = refl
 listed_for_of_machine (query.Report role id) = refl
 listed_for_of_machine (query.Rollup role event) = refl
+listed_for_of_machine (query.Subs role filter page) = refl
+listed_for_of_machine (query.Sub role id) = refl
 listed_for_of_machine (query.Probes limit) = refl
 
 -- ---- desks

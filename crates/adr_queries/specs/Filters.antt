@@ -1,6 +1,7 @@
--- Which events and which reports a query wants.
+-- Which events, which reports and which subscriptions a query wants.
 use Rattle.std.specs.Prelude.{ℕ, Bool, true, false, ◌&&◌, List, filter, Option, None, Some}
 use Rattle.std.specs.List.{list_any}
+use Rattle.std.specs.Option.{option_map_or}
 use Rattle.std.specs.Str.{bytes_eq}
 use Rattle.adr_objects.specs.declared.shown.ShownEvent.{ShownEvent}
 use Rattle.adr_queries.specs.declared.answer.Object.{Object}
@@ -40,3 +41,16 @@ is_wanted_report f _ = false
 
 abbrev pub wanted_reports : ReportFilter → List Object → List Object
 wanted_reports f objects = filter (is_wanted_report f) objects
+
+-- whether it names one of the programs, where something is said of them; what is about all programs names none
+abbrev pub is_about : Option (List (List ℕ)) → Option (List ℕ) → Bool
+is_about None program = true
+is_about (Some programs) program = option_map_or (is_among programs) program false
+
+-- whether an object is a subscription that names one of the programs, and of the clients that are wanted
+abbrev pub is_wanted_sub : ReportFilter → Object → Bool
+is_wanted_sub f (object.Sub s) = is_about f.programs s.sub.program && is_among_all f.clients s.sub.client_name
+is_wanted_sub f _ = false
+
+abbrev pub wanted_subs : ReportFilter → List Object → List Object
+wanted_subs f objects = filter (is_wanted_sub f) objects

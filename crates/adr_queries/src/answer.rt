@@ -3,6 +3,7 @@ use adr_objects::{
     EventObject, ProgramObject, ReportObject, ResourceObject, Rollup, ShareObject, VenObject,
 };
 use adr_state::MirrorKey;
+use adr_subscription::SubObject;
 use adr_text::{ObjectId, Rows};
 
 /// An object as it is shown.
@@ -14,6 +15,7 @@ pub enum Object {
     Ven(VenObject),
     Resource(ResourceObject),
     Share(ShareObject),
+    Sub(SubObject),
 }
 
 /// An answer to a command or a query.

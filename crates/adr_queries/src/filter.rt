@@ -1,6 +1,6 @@
-//! Which events and which reports are wanted.
+//! Which events, which reports and which subscriptions are wanted.
 ghost use Rattle.std.specs.Prelude.{◌≡◌, IfOk};
-ghost use Rattle.adr_queries.specs.Filters.{is_among, is_among_all, has_target, is_wanted, wanted_of, is_wanted_report, wanted_reports};
+ghost use Rattle.adr_queries.specs.Filters.{is_among, is_among_all, has_target, is_wanted, wanted_of, is_wanted_report, wanted_reports, is_about, is_wanted_sub, wanted_subs};
 
 use crate::answer::Object;
 use adr_objects::ShownEvent;
@@ -27,7 +27,7 @@ pub struct EventFilter {
     pub target: TargetFilter,
 }
 
-/// Which reports are wanted.
+/// Which reports, or which subscriptions, are wanted.
 #[derive(Clone, Drop)]
 pub struct ReportFilter {
     /// Those of one of these programs, or of any (OpenADR 3.0, programID).
@@ -125,5 +125,41 @@ pub fn wanted_reports(
     objects
         .into_iter()
         .filter(|object| is_wanted_report(filter, object))
+        .collect(alloc)
+}
+
+/// Whether it names one of the programs, where there are any. What is about all programs names none.
+fn is_about(programs: &Option<Rows<ObjectId>>, program: &Option<ObjectId>) -> bool
+    ensures { result ≡ is_about programs.now program.now }
+{
+    match (programs, program) {
+        (None, _) => true,
+        (Some(programs), Some(program)) => has_id(programs, program),
+        (Some(_), None) => false,
+    }
+}
+
+/// Whether the object is a subscription that is wanted.
+fn is_wanted_sub(filter: &ReportFilter, object: &Object) -> bool
+    ensures { result ≡ is_wanted_sub filter.now object.now }
+{
+    let Object::Sub(object) = object else {
+        return false;
+    };
+    is_about(&filter.programs, &object.sub.program)
+        && is_from(&filter.clients, &object.sub.client_name)
+}
+
+/// The subscriptions among the objects that are wanted, in their order.
+pub fn wanted_subs(
+    alloc: Global,
+    filter: &ReportFilter,
+    objects: Vec<Object>,
+) -> Result<Vec<Object>, AllocError>
+    ensures { IfOk result (λ wanted. wanted.items ≡ wanted_subs filter.now objects.items) }
+{
+    objects
+        .into_iter()
+        .filter(|object| is_wanted_sub(filter, object))
         .collect(alloc)
 }

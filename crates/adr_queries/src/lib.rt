@@ -15,10 +15,11 @@ mod scan;
 mod share;
 mod shown;
 mod sight;
+mod subscribed;
 mod ven;
 
 pub use answer::{Answer, Object};
-pub use filter::{EventFilter, ReportFilter, TargetFilter, wanted_of, wanted_reports};
+pub use filter::{EventFilter, ReportFilter, TargetFilter, wanted_of, wanted_reports, wanted_subs};
 pub use page::page_of;
 pub use query::{Page, Query};
 pub use replies::reply;

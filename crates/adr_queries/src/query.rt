@@ -81,6 +81,17 @@ pub enum Query {
         role: Role,
         event: ObjectId,
     },
+    /// The subscriptions that the role sees and the filter wants, by number.
+    Subs {
+        role: Role,
+        filter: ReportFilter,
+        page: Page,
+    },
+    /// The subscription of an id. Refused where it isn't there, and where it is another's.
+    Sub {
+        role: Role,
+        id: ObjectId,
+    },
     /// The first keys that the end of the scan would answer. Refused where no scan is open.
     Probes {
         limit: u32,

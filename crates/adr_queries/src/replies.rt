@@ -12,6 +12,7 @@ use crate::reported::{report_reply, reports_reply, rollup_reply};
 use crate::resource::{resource_reply, resources_reply};
 use crate::scan::probes_reply;
 use crate::share::shares_reply;
+use crate::subscribed::{sub_reply, subs_reply};
 use crate::ven::{ven_reply, vens_reply};
 use adr_state::State;
 use adr_text::Refusal;
@@ -39,6 +40,10 @@ pub fn reply(alloc: Global, state: &State, query: &Query) -> Result<Answer, Refu
         Query::Reports { role, filter, page } => reports_reply(alloc, state, role, filter, *page),
         Query::Report { role, id } => report_reply(state, role, id),
         Query::Rollup { role, event } => rollup_reply(alloc, &state.base, role, event),
+        Query::Subs { role, filter, page } => {
+            subs_reply(alloc, &state.base, role, filter, *page)
+        }
+        Query::Sub { role, id } => sub_reply(&state.base, role, id),
         Query::Probes { limit } => probes_reply(alloc, &state.base, *limit),
     }
 }

@@ -17,5 +17,6 @@ pub mod Vens
 pub mod Resources
 pub mod ShownIds
 pub mod Shares
+pub mod Subs
 pub mod States
 pub mod Laws

@@ -1,9 +1,10 @@
--- The vens, their resources, the shares and the reports, and the kinds of change that a command may make of them.
+-- The vens, their resources, the shares, the reports and the subscriptions, and the kinds of change that a command may make of them.
 use Rattle.std.specs.Prelude.{ℕ, Bool, false, not, ◌==◌, List, [], filter, Result, Ok}
 use Rattle.std.specs.Map.{remove_entry}
 use Rattle.std.specs.Option.{option_map_or}
 use Rattle.std.specs.BTreeMap.{is_at, insert_entry}
 use Rattle.std.specs.Ordering.{nat_cmp}
+use Rattle.adr_subscription.specs.declared.kept_sub.Sub.{Sub}
 use Rattle.adr_text.specs.Refusals.{◌>>=◌}
 use Rattle.adr_text.specs.declared.refusal.Refusal.{Refusal}
 use Rattle.adr_state.specs.declared.portfolio.Portfolio.{Portfolio}
@@ -14,7 +15,7 @@ use Rattle.adr_state.specs.declared.keys.ShareKey.{ShareKey}
 use Rattle.adr_state.specs.Keys.{share_cmp, at}
 
 abbrev pub nobody : Portfolio
-nobody = record { vens = []; resources = []; shares = []; reports = [] }
+nobody = record { vens = []; resources = []; shares = []; reports = []; subs = [] }
 
 -- ---- with one more, or another at its key: each in its place in the order
 
@@ -30,6 +31,9 @@ with_share key weight p = record p { shares = insert_entry share_cmp p.shares ke
 abbrev pub with_report : ℕ → Report → Portfolio → Portfolio
 with_report n report p = record p { reports = insert_entry nat_cmp p.reports n report }
 
+abbrev pub with_sub : ℕ → Sub → Portfolio → Portfolio
+with_sub n sub p = record p { subs = insert_entry nat_cmp p.subs n sub }
+
 -- ---- without one
 
 -- whether a resource is there and belongs to a ven
@@ -40,13 +44,18 @@ is_of_ven ven resources resource = option_map_or (λ r. r.ven == ven) (at nat_cm
 abbrev pub reported_on : ℕ × Report → ℕ
 reported_on r = r.1.body.head.resource
 
--- without a ven: its resources go, their shares, and the reports on them
+-- whether a subscription is of a ven
+abbrev pub is_sub_of : ℕ → Sub → Bool
+is_sub_of ven sub = option_map_or (λ owner. owner == ven) sub.owner false
+
+-- without a ven: its resources go, their shares, and the reports on them; and its subscriptions
 abbrev pub without_ven : ℕ → Portfolio → Portfolio
 without_ven n p = record p {
   vens = remove_entry (is_at (nat_cmp n)) p.vens;
   resources = filter (λ r. not (r.1.ven == n)) p.resources;
   shares = filter (λ s. not (is_of_ven n p.resources s.0.resource)) p.shares;
   reports = filter (λ r. not (is_of_ven n p.resources (reported_on r))) p.reports;
+  subs = filter (λ s. not (is_sub_of n s.1)) p.subs;
 }
 
 -- without a resource: its shares go, and the reports on it
@@ -63,6 +72,9 @@ without_share key p = record p { shares = remove_entry (is_at (share_cmp key)) p
 abbrev pub without_report : ℕ → Portfolio → Portfolio
 without_report n p = record p { reports = remove_entry (is_at (nat_cmp n)) p.reports }
 
+abbrev pub without_sub : ℕ → Portfolio → Portfolio
+without_sub n p = record p { subs = remove_entry (is_at (nat_cmp n)) p.subs }
+
 -- ---- the kinds of change
 
 -- one is put at its key, or goes with all that hangs on it
@@ -75,6 +87,8 @@ pub data PortfolioChange : Type 0 where
   DropShare : ShareKey → PortfolioChange
   PutReport : ℕ → Report → PortfolioChange
   DropReport : ℕ → PortfolioChange
+  PutSub : ℕ → Sub → PortfolioChange
+  DropSub : ℕ → PortfolioChange
 
 abbrev pub portfolio_after : PortfolioChange → Portfolio → Portfolio
 portfolio_after (PutVen n ven) p = with_ven n ven p
@@ -85,6 +99,8 @@ portfolio_after (PutShare key weight) p = with_share key weight p
 portfolio_after (DropShare key) p = without_share key p
 portfolio_after (PutReport n report) p = with_report n report p
 portfolio_after (DropReport n) p = without_report n p
+portfolio_after (PutSub n sub) p = with_sub n sub p
+portfolio_after (DropSub n) p = without_sub n p
 
 -- a decision is an answer and a change: the answer, and the portfolio after the change
 abbrev pub carried_out : {A : Type 0} → Portfolio → Result (A × PortfolioChange) Refusal → Result (A × Portfolio) Refusal

@@ -1,4 +1,5 @@
-//! The vens that are enrolled, their resources, the shares of those in programs, and the reports on them.
+//! The vens that are enrolled, their resources, the shares of those in programs, the reports on them, and
+//! subscriptions.
 ghost use Rattle.std.specs.Prelude.{◌≡◌, ◌≤◌, ◌<◌, ◌==◌, not, [], length, filter, IsSome, IsTrue, OnOk, OnErr};
 ghost use Rattle.std.specs.Ordering.{nat_cmp};
 ghost use Rattle.std.specs.Option.{option_copied};
@@ -6,10 +7,11 @@ ghost use Rattle.std.specs.Map.{remove_entry};
 ghost use Rattle.std.specs.BTreeMap.{is_at, insert_entry};
 ghost use Rattle.adr_state.specs.Weights.{is_weight, weight_of, most_weight, most_resources};
 ghost use Rattle.adr_state.specs.Keys.{at};
-ghost use Rattle.adr_state.specs.Portfolios.{nobody, is_of_ven, without_ven, without_resource};
+ghost use Rattle.adr_state.specs.Portfolios.{nobody, is_of_ven, is_sub_of, without_ven, without_resource};
 
 use crate::keys::ShareKey;
 use adr_objects::{Number, ReportBody, ResourceName, Stamps};
+use adr_subscription::Sub;
 use adr_text::{Name, Table};
 use std::alloc::{AllocError, Global};
 use std::collections::btree_map::Iter;
@@ -168,13 +170,14 @@ pub struct Report {
     pub body: ReportBody,
 }
 
-/// Who takes part in events, and what they report of them.
+/// Who takes part in events, what they report of them, and of what they want to be told.
 #[derive(Clone, Drop)]
 pub struct Portfolio {
     pub vens: Table<Number, Ven>,
     pub resources: Resources,
     pub shares: Table<ShareKey, Weight>,
     pub reports: Table<Number, Report>,
+    pub subs: Table<Number, Sub>,
 }
 
 /// Whether the resource is there and belongs to the ven.
@@ -215,6 +218,23 @@ fn remove_reports_of(reports: &mut Table<Number, Report>, resource: Number)
     reports.retain(|_, report| report.body.head.resource != resource)
 }
 
+/// Whether the subscription is of the ven.
+fn is_sub_of(ven: Number, sub: &Sub) -> bool
+    ensures { result ≡ is_sub_of ven sub.now }
+{
+    match sub.owner {
+        Some(owner) => owner == ven,
+        None => false,
+    }
+}
+
+/// Removes the subscriptions of the ven.
+fn remove_subs_of(subs: &mut Table<Number, Sub>, ven: Number)
+    ensures { subs.new ≡ filter (λ s. not (is_sub_of ven s.1)) subs.old }
+{
+    subs.retain(|_, sub| !is_sub_of(ven, sub))
+}
+
 impl Portfolio {
     /// Nobody yet.
     pub fn new(alloc: Global) -> Portfolio
@@ -225,13 +245,15 @@ impl Portfolio {
             resources: Resources::new(alloc),
             shares: Table::new(alloc),
             reports: Table::new(alloc),
+            subs: Table::new(alloc),
         }
     }
 
-    /// Removes the ven, its resources, their shares and the reports on them.
+    /// Removes the ven, its resources, their shares and the reports on them, and its subscriptions.
     pub fn remove_ven(&mut self, ven: Number)
         ensures { self.new ≡ without_ven ven self.old }
     {
+        remove_subs_of(&mut self.subs, ven);
         remove_reports_of_ven(&mut self.reports, &self.resources, ven);
         remove_shares_of_ven(&mut self.shares, &self.resources, ven);
         self.resources.remove_of(ven);

@@ -1,6 +1,7 @@
 pub mod Rollups
 pub mod Views
 pub mod Sights
+pub mod Subs
 pub mod Reports
 pub mod Same
 pub mod Changes

@@ -11,6 +11,7 @@ mod report;
 mod rollup;
 mod same;
 mod sight;
+mod sub;
 mod view;
 mod view_map;
 
@@ -21,6 +22,7 @@ pub use report::{Reported, fits, kept_report};
 pub use rollup::{
     Reporter, event_body, event_key, mark_at, reporters, rollup_at, rollup_for, rollup_of,
 };
-pub use sight::{Sight, sees_ven};
+pub use sight::{Sight, owner_in, sees_owner, sees_ven};
+pub use sub::{sub_in_sight, sub_object};
 pub use view::{Content, View, carries, rows_for};
 pub use view_map::row_at;

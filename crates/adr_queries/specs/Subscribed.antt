@@ -1,0 +1,32 @@
+-- What a role is told of subscriptions.
+use Rattle.std.specs.Prelude.{ℕ, List, map, filter, Result, Ok}
+use Rattle.adr_text.specs.Refusals.{◌>>=◌}
+use Rattle.adr_text.specs.declared.refusal.Refusal.{Refusal}
+use Rattle.adr_state.specs.declared.portfolio.Portfolio.{Portfolio}
+use Rattle.adr_state.specs.declared.base.Base.{Base}
+use Rattle.adr_state.specs.Subs.{sub_object}
+use Rattle.adr_view.specs.declared.sight.Sight.{Sight}
+use Rattle.adr_view.specs.Sights.{sees_owner}
+use Rattle.adr_view.specs.Subs.{sub_in_sight}
+use Rattle.adr_queries.specs.declared.role.Role.{Role}
+use Rattle.adr_queries.specs.declared.filter.ReportFilter.{ReportFilter}
+use Rattle.adr_queries.specs.declared.query.Page.{Page}
+use Rattle.adr_queries.specs.declared.answer.Object.{Object}
+use Rattle.adr_queries.specs.declared.answer.Object.TheVariants as object
+use Rattle.adr_queries.specs.declared.answer.Answer.{Answer}
+use Rattle.adr_queries.specs.declared.answer.Answer.TheVariants as answer
+use Rattle.adr_queries.specs.Filters.{wanted_subs}
+use Rattle.adr_queries.specs.Listings.{page_of}
+use Rattle.adr_queries.specs.Roles.{sight_of}
+
+-- the subscriptions in sight, by number: a ven sees its own alone
+abbrev pub subs_in_sight : Sight → Portfolio → List Object
+subs_in_sight sight p = map (λ s. object.Sub (sub_object s)) (filter (λ s. sees_owner sight s.1.owner) p.subs)
+
+-- what isn't wanted is left out before the page is cut
+abbrev pub subs_reply : Base → Role → ReportFilter → Page → Result Answer Refusal
+subs_reply base role wanted page = sight_of base role >>= λ sight. Ok (answer.List (page_of page (wanted_subs wanted (subs_in_sight sight base.portfolio))))
+
+-- one that is out of sight is forbidden
+abbrev pub sub_reply : Base → Role → List ℕ → Result Answer Refusal
+sub_reply base role id = sight_of base role >>= λ sight. sub_in_sight sight id base.portfolio >>= λ s. Ok (answer.Object (object.Sub (sub_object s)))
