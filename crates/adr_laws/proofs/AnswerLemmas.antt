@@ -21,7 +21,7 @@ use Rattle.adr_view.proofs.ListLemmas.{in_map}
 use Rattle.adr_view.proofs.OrderLemmas.{in_order_put}
 use Rattle.adr_view.proofs.OtherLemmas.{others_shown}
 use Rattle.adr_view.proofs.ShownLemmas.{view_total}
-use Rattle.adr_machine.specs.declared.command.Command.TheVariants.{Evidence, Gone, ScanBegin, ScanEnd, VenAdd, VenPut, VenRemove, ResourceAdd, ResourcePut, ResourceRemove, ShareSet, ReportPost, ReportPut, ReportDelete}
+use Rattle.adr_machine.specs.declared.command.Command.TheVariants.{Evidence, Gone, ScanBegin, ScanEnd, VenAdd, VenPut, VenRemove, ResourceAdd, ResourcePut, ResourceRemove, ShareSet, ReportPost, ReportPut, ReportDelete, SubPost, SubPut, SubDelete}
 use Rattle.adr_machine.specs.declared.outcome.Outcome.{Outcome}
 use Rattle.adr_machine.specs.declared.outcome.Outcome.TheVariants as outcome
 use Rattle.adr_machine.specs.Edits.{Decision}
@@ -96,6 +96,9 @@ module _ (s : State) (stamped : IsStampedAsShown s) (stands : StandsInOrder s.ba
   by_command (ReportPost role report) comes = kept_answered comes
   by_command (ReportPut role id report) comes = kept_answered comes
   by_command (ReportDelete role id) comes = gone_answered comes
+  by_command (SubPost role sub) comes = plain_answered comes
+  by_command (SubPut role id sub) comes = plain_answered comes
+  by_command (SubDelete role id) comes = plain_answered comes
 
 -- the commit of what is answered stands
 stands_then : {A B : Type 0} (r : Result A Refusal) (f : A → B) → IsOk r → IsOk (r >>= λ x. Ok (f x))

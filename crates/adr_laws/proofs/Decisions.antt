@@ -8,6 +8,8 @@ use Rattle.adr_text.specs.Refusals.{◌>>=◌}
 use Rattle.adr_text.specs.declared.refusal.Refusal.TheVariants as refusal
 use Rattle.adr_state.specs.declared.base.Mark.{Mark}
 use Rattle.adr_state.specs.declared.base.Mark.TheVariants.{Dead}
+use Rattle.adr_subscription.specs.declared.kept_sub.Sub.{Sub}
+use Rattle.adr_subscription.specs.Callbacks.{settled}
 use Rattle.adr_state.specs.declared.portfolio.Portfolio.{Portfolio}
 use Rattle.adr_state.specs.declared.portfolio.Resource.{Resource}
 use Rattle.adr_state.specs.declared.keys.MirrorKey.{MirrorKey}
@@ -17,11 +19,15 @@ use Rattle.adr_state.specs.Digits.{number_in}
 use Rattle.adr_state.specs.Mirror.{evidence_of, joined}
 use Rattle.adr_state.specs.Weights.{most_weight}
 use Rattle.adr_state.specs.Stamping.{fresh, modified_at}
-use Rattle.adr_state.specs.Portfolios.{PortfolioChange, PutVen, PutResource, PutShare, DropShare, PutReport, DropReport}
+use Rattle.adr_state.specs.Portfolios.{PortfolioChange, PutVen, PutResource, PutShare, DropShare, PutReport, DropReport, PutSub, DropSub}
 use Rattle.adr_state.specs.Evidence.{adds_beyond, joining, scan_with, open_scan, scan_end}
 use Rattle.adr_state.specs.Vens.{ven_with_id, ven_at, putting_ven}
 use Rattle.adr_state.specs.Resources.{resource_with_id, resource_at, is_under, resource_under, putting_resource}
 use Rattle.adr_state.specs.Shares.{is_beyond, weight_set, share_of}
+use Rattle.adr_state.specs.Subs.{sub_with_id, sub_post}
+use Rattle.adr_view.specs.declared.sight.Sight.{Sight}
+use Rattle.adr_view.specs.Sights.{sees_owner, owner_in}
+use Rattle.adr_view.specs.Subs.{sub_in_sight, sub_put, sub_delete}
 use Rattle.adr_objects.specs.declared.site.ReportIn.{ReportIn}
 use Rattle.adr_objects.specs.declared.body.EventBody.{EventBody}
 use Rattle.adr_state.specs.declared.portfolio.Report.{Report}
@@ -30,16 +36,18 @@ use Rattle.adr_view.specs.declared.report.Reported.{Reported}
 use Rattle.adr_view.specs.Reports.{is_shown_to, reported_of, reported_by, reported_in, reported, fits, kept_report, report_on, report_with_id, putting_report, report_made, report_replaced, report_removed, may_report, may_change}
 use Rattle.adr_view.specs.Rollups.{event_at}
 use Rattle.adr_queries.specs.declared.answer.Answer.{Answer}
-use Rattle.adr_machine.specs.declared.command.Command.TheVariants.{Evidence, Gone, ScanBegin, ScanEnd, VenAdd, VenPut, VenRemove, ResourceAdd, ResourcePut, ResourceRemove, ShareSet, ReportPost, ReportPut, ReportDelete}
+use Rattle.adr_machine.specs.declared.command.Command.TheVariants.{Evidence, Gone, ScanBegin, ScanEnd, VenAdd, VenPut, VenRemove, ResourceAdd, ResourcePut, ResourceRemove, ShareSet, ReportPost, ReportPut, ReportDelete, SubPost, SubPut, SubDelete}
 use Rattle.adr_machine.specs.declared.outcome.Outcome.{Outcome}
 use Rattle.adr_machine.specs.declared.outcome.Outcome.TheVariants as outcome
-use Rattle.adr_queries.specs.Roles.{sight_of}
+use Rattle.adr_queries.specs.declared.role.Role.{Role}
+use Rattle.adr_queries.specs.declared.role.Role.TheVariants as role
+use Rattle.adr_queries.specs.Roles.{sight_by, sight_of}
 use Rattle.adr_state.specs.Serials.{drawn}
-use Rattle.adr_machine.specs.Edits.{Decision, is_allowed, counted, of_portfolio, report_kept, report_gone, draws_number, decided, numbered, edit_of, edit}
+use Rattle.adr_machine.specs.Edits.{Decision, is_allowed, counted, of_portfolio, report_kept, report_gone, sub_outcome, draws_number, decided, numbered, edit_of, edit}
 use Rattle.adr_machine.specs.Steps.{answered_by}
 use Rattle.adr_machine.specs.Steps.{changed as restamped_by, committed}
 use Rattle.adr_laws.specs.Reported.{SaysAsSent}
-use Rattle.adr_laws.specs.Laws.{HasVen, HasResource, evidence_in, HasWeight, HasReported}
+use Rattle.adr_laws.specs.Laws.{HasVen, HasResource, evidence_in, HasWeight, HasReported, HasOwner}
 use Rattle.adr_laws.proofs.EditLemmas.{tested, first_then, found_then, new_then, free_then, whatever}
 use Rattle.adr_laws.proofs.NameLemmas.{Free, free_new, free_again}
 use Rattle.adr_laws.proofs.NumberLemmas.{IsNumber, serial_then}
@@ -52,6 +60,8 @@ FitsPortfolio next draws p (PutResource n resource) = IsNumber next draws p.reso
 FitsPortfolio next draws p (PutShare key weight) = HasResource p.resources (key, weight) × HasWeight (key, weight)
 FitsPortfolio next true p (PutReport n report) = (report.revision ≡ next) × ((n ≡ next) ⊎ IsSome (at nat_cmp n p.reports)) × HasReported p.resources (n, report)
 FitsPortfolio next false p (PutReport n report) = ⊥
+FitsPortfolio next true p (PutSub n sub) = (n ≡ next) × HasOwner p.vens (n, sub)
+FitsPortfolio next false p (PutSub n sub) = (old : Sub) × (at nat_cmp n p.subs ≡ Some old) × (sub.owner ≡ old.owner)
 FitsPortfolio next draws p _ = Unit {0}
 
 abbrev pub FitsBase : ℕ → Bool → Base → BaseChange → Type 0
@@ -156,19 +166,46 @@ under_there ven id p =
     passing (λ r. IsFound p.resources r.0) (IsHeld p) (λ r. is_under ven p r.1) (resource_with_id id p) (resource_there id p)
     (λ r there under. (there, owner_there p.vens r.1.ven (ven_at ven p) (number_there p.vens (ven_with_id ven p) (ven_there ven p)) under))
 
--- the report of an id
+-- the row of a number, where there is one
+abbrev IsRow : {V : Type 0} → List (ℕ × V) → Option ℕ → ℕ × V → Type 0
+IsRow rows number r = (number ≡ Some r.0) × (at nat_cmp r.0 rows ≡ Some r.1)
+
+row_is : {V : Type 0} (rows : List (ℕ × V)) (o : Option ℕ) → IfSome {T = ℕ × V} (option_and_then (λ n. option_map (λ v. (n, v)) (at nat_cmp n rows)) o) (IsRow rows o)
+row_is rows None = tt
+row_is {V} rows (Some n) = elim (at nat_cmp n rows) as (λ o. at nat_cmp n rows ≡ o → IfSome {T = ℕ × V} (option_map (λ v. (n, v)) o) (IsRow rows (Some n))) [
+  | None ↦ λ is. tt
+  | Some v ↦ λ is. (refl, is)
+] refl
+
+-- the report of an id, and the subscription of one
 abbrev IsReportOf : List ℕ → Portfolio → ℕ × Report → Type 0
-IsReportOf id p r = (number_in 112 id ≡ Some r.0) × (at nat_cmp r.0 p.reports ≡ Some r.1)
+IsReportOf id p r = IsRow p.reports (number_in 112 id) r
 
 report_there : (id : List ℕ) (p : Portfolio) → IfSome (report_with_id id p) (IsReportOf id p)
-report_there id p = by (number_in 112 id) refl
+report_there id p = row_is p.reports (number_in 112 id)
+
+abbrev IsSubOf : List ℕ → Portfolio → ℕ × Sub → Type 0
+IsSubOf id p s = IsRow p.subs (number_in 115 id) s
+
+sub_there : (id : List ℕ) (p : Portfolio) → IfSome (sub_with_id id p) (IsSubOf id p)
+sub_there id p = row_is p.subs (number_in 115 id)
+
+in_sight_there : (sight : Sight) (id : List ℕ) (p : Portfolio) → IfOk (sub_in_sight sight id p) (IsSubOf id p)
+in_sight_there sight id p =
+    found_then (IsSubOf id p) (IsSubOf id p) refusal.NotFound (sub_with_id id p) _ (sub_there id p) (λ s there. cond_both (sees_owner sight s.1.owner) (Ok s) (Err refusal.Forbidden) (λ r. IfOk r (IsSubOf id p)) (λ seen. there) (λ unseen. tt))
+
+-- what belongs to who sees this much is of a ven that is there
+abbrev OwnerIsThere : Base → Sight → Type 0
+OwnerIsThere base sight = IfSome (owner_in sight) (IsFound base.portfolio.vens)
+
+owner_seen : (base : Base) (role : Role) → IfOk (sight_of base role) (OwnerIsThere base)
+owner_seen base role.Operator = tt
+owner_seen base (role.Ven id) = by (ven_at id base.portfolio) (number_there base.portfolio.vens (ven_with_id id base.portfolio) (ven_there id base.portfolio))
   where
-    by : (o : Option ℕ) → number_in 112 id ≡ o → IfSome {T = ℕ × Report} (option_and_then (λ n. option_map (λ r. (n, r)) (at nat_cmp n p.reports)) o) (IsReportOf id p)
-    by None number = tt
-    by (Some n) number = elim (at nat_cmp n p.reports) as (λ o. at nat_cmp n p.reports ≡ o → IfSome {T = ℕ × Report} (option_map (λ r. (n, r)) o) (IsReportOf id p)) [
-      | None ↦ λ is. tt
-      | Some r ↦ λ is. (number, is)
-    ] refl
+    by : (o : Option ℕ) → IfSome o (IsFound base.portfolio.vens) → IfOk (sight_by o) (OwnerIsThere base)
+    by None there = tt
+    by (Some n) there = there
+owner_seen base role.Utility = tt
 
 -- what is there is that
 itself : {A : Type 0} (P : A → Type 0) (o : Option A) → IfSome o P → IfSome o (λ x. (o ≡ Some x) × P x)
@@ -331,6 +368,17 @@ module _ (limits : Limits) (now next : ℕ) (base : Base) where
   decided_fits (ReportDelete role id) =
       first_then (Fits next false base [] (IsGone base id)) (λ sight. Unit {0}) (sight_of base role) _ (whatever (sight_of base role)) (λ sight h.
       gone_fits id _ (seen_fits (Goes id) (may_change sight id base.portfolio) (report_removed id base.portfolio) (removed_fits id)))
+  decided_fits (SubPost role sub) =
+      first_then (Fits next true base [] IsPlain) (λ body. Unit {0}) (settled sub) _ (whatever (settled sub)) (λ body h. first_then (Fits next true base [] IsPlain) (OwnerIsThere base) (sight_of base role) _ (owner_seen base role) (λ sight owner.
+      portfolio_fits true sub_outcome (λ x. tt) (sub_post limits now next (owner_in sight) body base.portfolio) (tested (Draws true) (is_full limits.subs base.portfolio.subs) refusal.LimitReached _ (λ room. ((refl, owner), refl)))))
+  decided_fits (SubPut role id sub) =
+      first_then (Fits next false base [] IsPlain) (λ body. Unit {0}) (settled sub) _ (whatever (settled sub)) (λ body h. first_then (Fits next false base [] IsPlain) (λ sight. Unit {0}) (sight_of base role) _ (whatever (sight_of base role)) (λ sight h.
+      portfolio_fits false sub_outcome (λ x. tt) (sub_put sight now id body base.portfolio)
+      (first_then (Draws false) (IsSubOf id base.portfolio) (sub_in_sight sight id base.portfolio) _ (in_sight_there sight id base.portfolio) (λ s there. ((s.1, there.1, refl), refl)))))
+  decided_fits (SubDelete role id) =
+      first_then (Fits next false base [] IsPlain) (λ sight. Unit {0}) (sight_of base role) _ (whatever (sight_of base role)) (λ sight h.
+      portfolio_fits false sub_outcome (λ x. tt) (sub_delete sight id base.portfolio)
+      (first_then (Draws false) (λ s. Unit {0}) (sub_in_sight sight id base.portfolio) _ (whatever (sub_in_sight sight id base.portfolio)) (λ s there. (tt, refl))))
 
 -- ---- a step
 

@@ -2,7 +2,7 @@
 use Rattle.std.proofs.Common.{◌≡◌, ◌≤◌, ℕ, List, ◌++◌, Option, Some, None, refl, sym, ap, subst, ◌∙◌, arith}
 use Rattle.std.specs.Prelude.{IsSome, is_some, IsOk}
 use Rattle.std.proofs.lemmas.Cmp.{tied_itself}
-use Rattle.std.proofs.lemmas.List.Elements.{Contains-append_right}
+use Rattle.std.proofs.lemmas.List.Elements.{Contains-append_left, Contains-append_right}
 use Rattle.std.proofs.lemmas.Map.{lookup-remove_entry}
 use Rattle.std.proofs.lemmas.Map.Views.{IsSome-lookup_from_Contains}
 use Rattle.std.proofs.lemmas.Option.{same_Some}
@@ -65,7 +65,9 @@ never_return settings cs others more n was_there gone = by (at nat_cmp n later.p
     was_drawn : n ≤ between.serial
     was_drawn =
         let own : HaveOwnNumbers first = numbers_own settings cs in
-        let low : n ≤ first.serial = All-contains (λ n. n ≤ first.serial) (numbers_of first) n own.up_to_the_serial (Contains-append_right (keys_of first.portfolio.vens ++ keys_of first.portfolio.resources) (keys_of first.portfolio.reports) n (number_there n first.portfolio.reports was_there)) in
+        let both : List ℕ = keys_of first.portfolio.vens ++ keys_of first.portfolio.resources in
+        let of_reports : Contains (both ++ keys_of first.portfolio.reports) n = Contains-append_right both (keys_of first.portfolio.reports) n (number_there n first.portfolio.reports was_there) in
+        let low : n ≤ first.serial = All-contains (λ n. n ≤ first.serial) (numbers_of first) n own.up_to_the_serial (Contains-append_left (both ++ keys_of first.portfolio.reports) (keys_of first.portfolio.subs) n of_reports) in
         let rose : AreDrawnOnce first between = numbers_drawn_once settings cs others in
         let passed = rose.serial_never_falls in
         omega (arith, low, passed)

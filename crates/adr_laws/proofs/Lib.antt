@@ -5,6 +5,7 @@ pub mod ReportLemmas
 pub mod EditLemmas
 pub mod RunLemmas
 pub mod Decisions
+pub mod SubLemmas
 pub mod MirrorLemmas
 pub mod PortfolioLemmas
 pub mod StampLemmas

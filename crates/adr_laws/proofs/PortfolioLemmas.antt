@@ -1,5 +1,5 @@
--- After every step each resource has its ven, each share its resource and a weight, each report its resource, no two vens have one name, and no two resources; and each ven, resource and report has a number of its own, that is drawn once.
-use Rattle.std.proofs.Common.{◌≡◌, ℕ, ◌+◌, ◌≤◌, Bool, true, false, not, ◌==◌, List, ◌++◌, filter, Option, Some, None, inl, inr, sym, subst, arith, refl}
+-- After every step each resource has its ven, each share its resource and a weight, each report its resource, each subscription of a ven that ven, no two vens have one name, and no two resources; and each ven, resource, report and subscription has a number of its own, that is drawn once.
+use Rattle.std.proofs.Common.{◌≡◌, ℕ, ◌+◌, ◌≤◌, Bool, true, false, not, ◌==◌, List, [], ◌++◌, filter, Option, Some, None, inl, inr, sym, subst, arith, refl}
 use Rattle.std.specs.Prelude.{IsSome}
 use Rattle.adr_laws.proofs.Common.{All, All-append, Contains, nat_cmp, keys_of, is_at, nat_cmp_total, eq_by_cmp_equiv, IsDistinct-from_sorted, exact_unsigned, Base, Settings, State, share_cmp, at, empty, ven_name, resource_name, BaseChange, JoinMarks, SetScan, ChangePortfolio, changed, Command, state_after, step_at}
 use Rattle.std.specs.Option.{option_map_or}
@@ -8,14 +8,15 @@ use Rattle.adr_state.specs.declared.portfolio.Portfolio.{Portfolio}
 use Rattle.adr_state.specs.declared.portfolio.Resource.{Resource}
 use Rattle.adr_state.specs.declared.keys.ShareKey.{ShareKey}
 use Rattle.adr_state.specs.declared.portfolio.Report.{Report}
-use Rattle.adr_state.specs.Portfolios.{is_of_ven, reported_on, PortfolioChange, PutVen, DropVen, PutResource, DropResource, PutShare, DropShare, PutReport, DropReport, portfolio_after}
+use Rattle.adr_state.specs.Portfolios.{is_of_ven, reported_on, PortfolioChange, PutVen, DropVen, PutResource, DropResource, PutShare, DropShare, PutReport, DropReport, PutSub, DropSub, portfolio_after}
 use Rattle.adr_machine.specs.Edits.{draws_number}
 use Rattle.adr_laws.specs.Standing.{state_of}
-use Rattle.adr_laws.specs.Laws.{HasVen, HasResource, HasWeight, HasReported, NamesDiffer, PortfolioIsWhole, RowsStandInOrder, AreDrawnOnce, NumbersAreOwn, RevisionsAreOwn, NumbersAreDrawnOnce}
+use Rattle.adr_laws.specs.Laws.{HasVen, HasResource, HasWeight, HasReported, HasOwner, NamesDiffer, PortfolioIsWhole, RowsStandInOrder, AreDrawnOnce, numbers_of, NumbersAreOwn, RevisionsAreOwn, NumbersAreDrawnOnce}
 use Rattle.adr_laws.proofs.Decisions.{FitsPortfolio, FitsBase, after_step}
 use Rattle.adr_laws.proofs.MirrorLemmas.{mirror_in_order}
-use Rattle.adr_laws.proofs.NumberLemmas.{serial_then, rises, HaveOwn, BothOwn, none_own, turned, some_both, put_both, both_from_here, each_number, each_drawn}
+use Rattle.adr_laws.proofs.NumberLemmas.{serial_then, rises, HaveOwn, BothOwn, IsDrawn, none_own, turned, some_both, put_both, both_from_here, each_number, each_drawn}
 use Rattle.adr_laws.proofs.ReportLemmas.{HaveReports, is_one, one_put, no_reports, some_reports, later_reports, reports_from_here, put_reports, reports_differ}
+use Rattle.adr_laws.proofs.SubLemmas.{IsUsed, HaveSubs, no_subs, subs_after, later_subs, subs_from_here, subs_differ}
 use Rattle.adr_view.proofs.KeyLemmas.{share_exact}
 use Rattle.adr_view.proofs.OrderLemmas.{InOrder, in_order_removed, in_order_filtered}
 use Rattle.adr_view.proofs.RowLemmas.{each_there, from_put, from_removal, from_filter, found_after_put, found_after_removal}
@@ -42,8 +43,12 @@ module _ (first : Base) where
       BothOwn ven_name resource_name first.serial (keys_of first.portfolio.vens) (keys_of first.portfolio.resources) serial p.vens p.resources
       × Stands p × HaveReports first.serial (keys_of first.portfolio.reports) serial p.vens p.resources p.reports
 
+  -- and so have its subscriptions
+  abbrev SubsWhole : ℕ → Portfolio → Type 0
+  SubsWhole serial p = HaveSubs first.serial (keys_of first.portfolio.subs) serial p
+
   abbrev Whole : Base → Type 0
-  Whole base = AreWhole base.serial base.portfolio
+  Whole base = AreWhole base.serial base.portfolio × SubsWhole base.serial base.portfolio
 
   -- more numbers were drawn
   later : (serial next : ℕ) (p : Portfolio) → serial ≤ next → AreWhole serial p → AreWhole next p
@@ -123,10 +128,26 @@ module _ (first : Base) where
         some_reports h.2 p.vens p.resources _ (rises serial draws) (in_order_removed nat_cmp (is_at (nat_cmp n)) p.reports h.2.own.in_order) left (is_one serial p.vens) (is_one serial p.resources) (λ r there. h.2.on_others r (left r there)),
       )
 
-  base_whole : (draws : Bool) (base : Base) (change : BaseChange) → FitsBase (base.serial + 1) draws base change → Whole base → AreWhole (serial_then base.serial draws) (changed change base).portfolio
-  base_whole draws base (JoinMarks marks scan) fits h = later base.serial (serial_then base.serial draws) base.portfolio (rises base.serial draws) h
-  base_whole draws base (SetScan scan) fits h = later base.serial (serial_then base.serial draws) base.portfolio (rises base.serial draws) h
-  base_whole draws base (ChangePortfolio change) fits h = change_whole base.serial draws base.portfolio change fits h
+  change_whole serial draws p (PutSub n sub) fits h = later serial (serial_then serial draws) p (rises serial draws) h
+  change_whole serial draws p (DropSub n) fits h = later serial (serial_then serial draws) p (rises serial draws) h
+
+  -- what is used was drawn by then
+  used_low : (serial : ℕ) (p : Portfolio) → AreWhole serial p → (n : ℕ) → IsUsed p n → n ≤ serial
+  used_low serial p h n (inl v) = let low = (h.0.ones.drawn v.0 v.1).up_to_the_serial in let same = v.2 in omega arith
+  used_low serial p h n (inr (inl r)) = let low = (h.0.others.drawn r.0 r.1).up_to_the_serial in let same = r.2 in omega arith
+  used_low serial p h n (inr (inr r)) = let low = (h.2.own.drawn r.0 r.1).up_to_the_serial in let same = r.2 in omega arith
+
+  abbrev Grows : Bool → Base → BaseChange → Type 0
+  Grows draws base change = AreWhole (serial_then base.serial draws) (changed change base).portfolio × SubsWhole (serial_then base.serial draws) (changed change base).portfolio
+
+  -- the portfolio stays, and a number is drawn or none
+  all_later : (draws : Bool) (base : Base) → Whole base → AreWhole (serial_then base.serial draws) base.portfolio × SubsWhole (serial_then base.serial draws) base.portfolio
+  all_later draws base h = (later base.serial (serial_then base.serial draws) base.portfolio (rises base.serial draws) h.0, later_subs h.1 h.0.0.rose (used_low base.serial base.portfolio h.0) h.0.0.ones.in_order draws)
+
+  base_whole : (draws : Bool) (base : Base) (change : BaseChange) → FitsBase (base.serial + 1) draws base change → Whole base → Grows draws base change
+  base_whole draws base (JoinMarks marks scan) fits h = all_later draws base h
+  base_whole draws base (SetScan scan) fits h = all_later draws base h
+  base_whole draws base (ChangePortfolio change) fits h = (change_whole base.serial draws base.portfolio change fits h.0, subs_after h.1 h.0.0.rose (used_low base.serial base.portfolio h.0) h.0.0.ones.in_order draws change fits)
 
   run_whole : (settings : Settings) (s : State) (cs : List (ℕ × Command)) → Whole s.base → Whole (state_of (step_at settings) s cs).base
   run_whole settings =
@@ -138,7 +159,7 @@ after settings cs = state_of (step_at settings) empty cs
 
 -- nothing is there at first
 whole_after : (settings : Settings) (cs : List (ℕ × Command)) → Whole empty.base (after settings cs).base
-whole_after settings cs = run_whole empty.base settings empty cs (none_own, (λ r none. absurd (omega (arith, none.1)), λ s none. absurd (omega (arith, none.1)), λ s none. absurd (omega (arith, none.1))), no_reports)
+whole_after settings cs = run_whole empty.base settings empty cs ((none_own, (λ r none. absurd (omega (arith, none.1)), λ s none. absurd (omega (arith, none.1)), λ s none. absurd (omega (arith, none.1))), no_reports), no_subs)
 
 -- no two rows of those of one kind have one name
 all_differ : {V X : Type 0} {name : V → X} {first : ℕ} {had : List ℕ} {serial : ℕ} (rows : List (ℕ × V)) → HaveOwn name first had serial rows → NamesDiffer name rows
@@ -147,36 +168,43 @@ all_differ {name = name} rows own = each_there (λ a. All (λ b. name a.1 ≡ na
 pub portfolio_whole : PortfolioIsWhole
 portfolio_whole settings cs =
     let base : Base = (after settings cs).base in
-    let h : Whole empty.base base = whole_after settings cs in
+    let whole : Whole empty.base base = whole_after settings cs in
+    let h = whole.0 in
     record {
       resources_have_vens = each_there (HasVen base.portfolio.vens) base.portfolio.resources h.1.0;
       shares_have_resources = each_there (HasResource base.portfolio.resources) base.portfolio.shares h.1.1;
       shares_have_weights = each_there HasWeight base.portfolio.shares h.1.2;
       reports_have_resources = each_there (HasReported base.portfolio.resources) base.portfolio.reports h.2.on_others;
+      subs_have_owners = each_there (HasOwner base.portfolio.vens) base.portfolio.subs whole.1.owned;
       ven_names_differ = all_differ base.portfolio.vens h.0.ones;
       resource_names_differ = all_differ base.portfolio.resources h.0.others;
     }
 
 pub rows_in_order : RowsStandInOrder
 rows_in_order settings cs =
-    let h : Whole empty.base (after settings cs).base = whole_after settings cs in
+    let h = (whole_after settings cs).0 in
     record { upstream_keys = mirror_in_order settings cs; resources = h.0.others.in_order; reports = h.2.own.in_order }
 
 pub numbers_own : NumbersAreOwn
 numbers_own settings cs =
     let base : Base = (after settings cs).base in
     let both : List ℕ = keys_of base.portfolio.vens ++ keys_of base.portfolio.resources in
-    let h : Whole empty.base base = whole_after settings cs in
+    let whole : Whole empty.base base = whole_after settings cs in
+    let h = whole.0 in
+    let each : (P : ℕ → Type 0) → ((n : ℕ) (had : List ℕ) → IsDrawn 0 had base.serial n → P n) → All P (numbers_of base) =
+        λ P from. All-append P (both ++ keys_of base.portfolio.reports) (keys_of base.portfolio.subs)
+        (All-append P both (keys_of base.portfolio.reports) (each_drawn h.0 P from) (each_number P base.portfolio.reports (λ r there. from r.0 [] (h.2.own.drawn r there))))
+        (each_number P base.portfolio.subs (λ s there. from s.0 [] (whole.1.drawn s there))) in
     record {
-      at_least_one = All-append (λ n. 1 ≤ n) both (keys_of base.portfolio.reports) (each_drawn h.0 (λ n. 1 ≤ n) (λ n had drawn. drawn.at_least_one)) (each_number (λ n. 1 ≤ n) base.portfolio.reports (λ r there. (h.2.own.drawn r there).at_least_one));
-      up_to_the_serial = All-append (λ n. n ≤ base.serial) both (keys_of base.portfolio.reports) (each_drawn h.0 (λ n. n ≤ base.serial) (λ n had drawn. drawn.up_to_the_serial)) (each_number (λ n. n ≤ base.serial) base.portfolio.reports (λ r there. (h.2.own.drawn r there).up_to_the_serial));
-      no_two_are_one = reports_differ h.0 h.2;
+      at_least_one = each (λ n. 1 ≤ n) (λ n had drawn. drawn.at_least_one);
+      up_to_the_serial = each (λ n. n ≤ base.serial) (λ n had drawn. drawn.up_to_the_serial);
+      no_two_are_one = subs_differ whole.1 (reports_differ h.0 h.2);
     }
 
 pub revisions_own : RevisionsAreOwn
 revisions_own settings cs =
     let base : Base = (after settings cs).base in
-    let h : Whole empty.base base = whole_after settings cs in
+    let h = (whole_after settings cs).0 in
     record {
       from_their_number = each_there (λ r. r.0 ≤ r.1.revision) base.portfolio.reports (λ r there. (h.2.revised r there).0);
       up_to_the_serial = each_there (λ r. r.1.revision ≤ base.serial) base.portfolio.reports (λ r there. (h.2.revised r there).1);
@@ -188,10 +216,11 @@ numbers_drawn_once settings cs more =
     let s : State = after settings cs in
     let t : State = state_of (step_at settings) s more in
     let first : Whole empty.base s.base = whole_after settings cs in
-    let h : Whole s.base t.base = run_whole s.base settings s more (both_from_here first.0, first.1, reports_from_here first.2) in
+    let h : Whole s.base t.base = run_whole s.base settings s more ((both_from_here first.0.0, first.0.1, reports_from_here first.0.2), subs_from_here first.1) in
     subst (λ (t : State). AreDrawnOnce s.base t.base) (sym (state_of-append (step_at settings) empty cs more)) (record {
-      serial_never_falls = h.0.rose;
-      vens_were_there = each_number (λ n. n ≤ s.base.serial → Contains (keys_of s.base.portfolio.vens) n) t.base.portfolio.vens (λ r there. (h.0.ones.drawn r there).was_there);
-      resources_were_there = each_number (λ n. n ≤ s.base.serial → Contains (keys_of s.base.portfolio.resources) n) t.base.portfolio.resources (λ r there. (h.0.others.drawn r there).was_there);
-      reports_were_there = each_number (λ n. n ≤ s.base.serial → Contains (keys_of s.base.portfolio.reports) n) t.base.portfolio.reports (λ r there. (h.2.own.drawn r there).was_there);
+      serial_never_falls = h.0.0.rose;
+      vens_were_there = each_number (λ n. n ≤ s.base.serial → Contains (keys_of s.base.portfolio.vens) n) t.base.portfolio.vens (λ r there. (h.0.0.ones.drawn r there).was_there);
+      resources_were_there = each_number (λ n. n ≤ s.base.serial → Contains (keys_of s.base.portfolio.resources) n) t.base.portfolio.resources (λ r there. (h.0.0.others.drawn r there).was_there);
+      reports_were_there = each_number (λ n. n ≤ s.base.serial → Contains (keys_of s.base.portfolio.reports) n) t.base.portfolio.reports (λ r there. (h.0.2.own.drawn r there).was_there);
+      subs_were_there = each_number (λ n. n ≤ s.base.serial → Contains (keys_of s.base.portfolio.subs) n) t.base.portfolio.subs (λ r there. (h.1.drawn r there).was_there);
     })

@@ -13,7 +13,7 @@ use Rattle.adr_state.specs.declared.keys.ViewKey.{ViewKey}
 use Rattle.adr_state.specs.declared.keys.ViewKey.TheVariants as key
 use Rattle.adr_state.specs.declared.portfolio.Portfolio.{Portfolio}
 use Rattle.adr_state.specs.declared.portfolio.Report.{Report}
-use Rattle.adr_state.specs.Portfolios.{is_of_ven, reported_on, PortfolioChange, PutVen, DropVen, PutResource, DropResource, PutShare, DropShare, PutReport, DropReport, portfolio_after}
+use Rattle.adr_state.specs.Portfolios.{is_of_ven, reported_on, PortfolioChange, PutVen, DropVen, PutResource, DropResource, PutShare, DropShare, PutReport, DropReport, PutSub, DropSub, portfolio_after}
 use Rattle.adr_state.proofs.LawLemmas.{at-insert_entry}
 use Rattle.adr_text.specs.declared.refusal.Refusal.TheVariants as refusal
 use Rattle.adr_view.specs.declared.view.Content.TheVariants as content
@@ -23,7 +23,7 @@ use Rattle.adr_view.proofs.RowLemmas.{from_put, from_removal, from_filter}
 use Rattle.adr_queries.specs.declared.answer.Answer.{Answer}
 use Rattle.adr_queries.specs.declared.answer.Answer.TheVariants as answer
 use Rattle.adr_queries.specs.declared.answer.Object.TheVariants as object
-use Rattle.adr_machine.specs.declared.command.Command.TheVariants.{Evidence, Gone, ScanBegin, ScanEnd, VenAdd, VenPut, VenRemove, ResourceAdd, ResourcePut, ResourceRemove, ShareSet, ReportPost, ReportPut, ReportDelete}
+use Rattle.adr_machine.specs.declared.command.Command.TheVariants.{Evidence, Gone, ScanBegin, ScanEnd, VenAdd, VenPut, VenRemove, ResourceAdd, ResourcePut, ResourceRemove, ShareSet, ReportPost, ReportPut, ReportDelete, SubPost, SubPut, SubDelete}
 use Rattle.adr_machine.specs.Edits.{Decision, draws_number}
 use Rattle.adr_queries.specs.Shown.{object_at, told}
 use Rattle.adr_machine.specs.Steps.{answered_by}
@@ -158,6 +158,9 @@ written_as_sent settings s c = after_step settings s c (λ r. IfOk r (λ taken. 
     by_command d a (ReportPost role sent) comes is = kept_writes s c.0 d (base_after s.base (ReportPost role sent) d) a comes is
     by_command d a (ReportPut role id sent) comes is = kept_writes s c.0 d (base_after s.base (ReportPut role id sent) d) a comes is
     by_command d a (ReportDelete role id) comes is = refl
+    by_command d a (SubPost role sub) comes is = refl
+    by_command d a (SubPut role id sub) comes is = refl
+    by_command d a (SubDelete role id) comes is = refl
 
 -- all that was written stands, each with its revision
 abbrev pub IsWritten : List (ℕ × ReportBody) → Base → Type 0
@@ -175,6 +178,8 @@ portfolio_leaves p (DropResource n) none h = let goes : ℕ × Report → Bool =
 portfolio_leaves p (PutShare key weight) none h = (h, λ r there. there)
 portfolio_leaves p (DropShare key) none h = (h, λ r there. there)
 portfolio_leaves p (PutReport n report) none h = absurd (cc)
+portfolio_leaves p (PutSub n sub) none h = (h, λ r there. there)
+portfolio_leaves p (DropSub n) none h = (h, λ r there. there)
 portfolio_leaves p (DropReport n) none h = (in_order_removed nat_cmp (is_at (nat_cmp n)) p.reports h, from_removal (is_at (nat_cmp n)) p.reports)
 
 base_leaves : (base : Base) (change : BaseChange) → puts_in change ≡ [] → InOrder nat_cmp base.portfolio.reports → AreLeft (changed change base).portfolio.reports base.portfolio.reports
@@ -220,6 +225,9 @@ module _ (writes : List (ℕ × ReportBody)) (s : State) (h : IsWritten writes s
   by_command (ReportPost role report) a comes fits is = kept_written (base_after s.base (ReportPost role report) d) a comes fits is
   by_command (ReportPut role id report) a comes fits is = kept_written (base_after s.base (ReportPut role id report) d) a comes fits is
   by_command (ReportDelete role id) a comes fits is = nothing_written false (ap puts_in comes.goes)
+  by_command (SubPost role sub) a comes fits is = nothing_written true comes.puts_none
+  by_command (SubPut role id sub) a comes fits is = nothing_written false comes.puts_none
+  by_command (SubDelete role id) a comes fits is = nothing_written false comes.puts_none
 
 step_written : (settings : Settings) (writes : List (ℕ × ReportBody)) (s : State) (c : ℕ × Command) → IsWritten writes s.base → IsWritten (writes ++ written_in (step_at settings s c) c.1) (state_after s (step_at settings s c)).base
 step_written settings writes s c h =

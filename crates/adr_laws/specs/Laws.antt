@@ -1,5 +1,5 @@
 -- Laws over whole runs.
-use Rattle.std.specs.Prelude.{◌≡◌, ◌≢◌, ◌≤◌, ℕ, true, false, List, [], ◌∷◌, ◌++◌, map, filter, Option, Some, IsSome, Result, Ok, Err, IfOk, IsOk}
+use Rattle.std.specs.Prelude.{◌≡◌, ◌≢◌, ◌≤◌, ℕ, true, false, List, [], ◌∷◌, ◌++◌, map, filter, Option, Some, IsSome, IfSome, Result, Ok, Err, IfOk, IsOk}
 use Rattle.std.specs.List.{All, AllPairs, AllZip, Contains}
 use Rattle.std.specs.List.Sorted.{IsStrictlySortedBy, IsNonDecreasing}
 use Rattle.std.specs.Map.{keys_of, values_of}
@@ -7,6 +7,7 @@ use Rattle.std.specs.Ordering.{nat_cmp}
 use Rattle.adr_text.specs.declared.refusal.Refusal.{Refusal}
 use Rattle.adr_objects.specs.declared.body.EventBody.{EventBody}
 use Rattle.adr_objects.specs.declared.kind.Kind.{Kind}
+use Rattle.adr_subscription.specs.declared.kept_sub.Sub.{Sub}
 use Rattle.adr_state.specs.declared.base.Base.{Base}
 use Rattle.adr_state.specs.declared.portfolio.Ven.{Ven}
 use Rattle.adr_state.specs.declared.portfolio.Resource.{Resource}
@@ -86,20 +87,25 @@ HasWeight s = (1 ≤ s.1) × (s.1 ≤ most_weight)
 abbrev pub HasReported : List (ℕ × Resource) → ℕ × Report → Type 0
 HasReported resources r = IsSome (at nat_cmp (reported_on r) resources)
 
+-- the ven of a subscription is there, where it is of one
+abbrev pub HasOwner : List (ℕ × Ven) → ℕ × Sub → Type 0
+HasOwner vens s = IfSome s.1.owner (λ ven. IsSome (at nat_cmp ven vens))
+
 -- rows of one name, or of whatever names a row, have one number
 abbrev pub NamesDiffer : {V X : Type 0} → (V → X) → List (ℕ × V) → Type 0
 NamesDiffer name rows = All (λ a. All (λ b. name a.1 ≡ name b.1 → a.0 ≡ b.0) rows) rows
 
--- nothing is left of a ven or of a resource that is not there, no resource, no share and no report; each share has a weight within its bounds, and no two vens have one name, nor two resources
+-- nothing is left of a ven or of a resource that is not there, no resource, no share, no report and no subscription; each share has a weight within its bounds, and no two vens have one name, nor two resources
 pub record IsWhole (base : Base) : Type 0 where
   pub resources_have_vens : All (HasVen base.portfolio.vens) base.portfolio.resources
   pub shares_have_resources : All (HasResource base.portfolio.resources) base.portfolio.shares
   pub shares_have_weights : All HasWeight base.portfolio.shares
   pub reports_have_resources : All (HasReported base.portfolio.resources) base.portfolio.reports
+  pub subs_have_owners : All (HasOwner base.portfolio.vens) base.portfolio.subs
   pub ven_names_differ : NamesDiffer (λ ven. ven.name) base.portfolio.vens
   pub resource_names_differ : NamesDiffer (λ resource. resource.name) base.portfolio.resources
 
--- after any run from an empty start, each resource has its ven, each share its resource and a weight, each report its resource, and names are unique
+-- after any run from an empty start, each resource has its ven, each share its resource and a weight, each report its resource, each subscription of a ven that ven, and names are unique
 abbrev pub PortfolioIsWhole : Type 0
 PortfolioIsWhole = (settings : Settings) (cs : List (ℕ × Command)) → IsWhole (state_of (step_at settings) empty cs).base
 
@@ -129,9 +135,9 @@ OnlyLiveEventsAreShown = (base : Base) (id : List ℕ) (resource : ℕ) → Stan
 
 -- ---- numbers
 
--- the numbers of the vens, of the resources and of the reports
+-- the numbers of the vens, of the resources, of the reports and of the subscriptions
 abbrev pub numbers_of : Base → List ℕ
-numbers_of base = (keys_of base.portfolio.vens ++ keys_of base.portfolio.resources) ++ keys_of base.portfolio.reports
+numbers_of base = ((keys_of base.portfolio.vens ++ keys_of base.portfolio.resources) ++ keys_of base.portfolio.reports) ++ keys_of base.portfolio.subs
 
 -- each number was drawn, and no two of them are one, neither of one kind nor of two
 pub record HaveOwnNumbers (base : Base) : Type 0 where
@@ -139,14 +145,15 @@ pub record HaveOwnNumbers (base : Base) : Type 0 where
   pub up_to_the_serial : All (λ n. n ≤ base.serial) (numbers_of base)
   pub no_two_are_one : AllPairs (λ m n. m ≢ n) (numbers_of base)
 
--- from one base to a later one the serial does not fall, and no number that was drawn before is drawn again: a ven, a resource or a report that has one was there with it before
+-- from one base to a later one the serial does not fall, and no number that was drawn before is drawn again: a ven, a resource, a report or a subscription that has one was there with it before
 pub record AreDrawnOnce (before after : Base) : Type 0 where
   pub serial_never_falls : before.serial ≤ after.serial
   pub vens_were_there : All (λ n. n ≤ before.serial → Contains (keys_of before.portfolio.vens) n) (keys_of after.portfolio.vens)
   pub resources_were_there : All (λ n. n ≤ before.serial → Contains (keys_of before.portfolio.resources) n) (keys_of after.portfolio.resources)
   pub reports_were_there : All (λ n. n ≤ before.serial → Contains (keys_of before.portfolio.reports) n) (keys_of after.portfolio.reports)
+  pub subs_were_there : All (λ n. n ≤ before.serial → Contains (keys_of before.portfolio.subs) n) (keys_of after.portfolio.subs)
 
--- after any run from an empty start, each ven, each resource and each report has a number of its own, that was drawn
+-- after any run from an empty start, each ven, each resource, each report and each subscription has a number of its own, that was drawn
 abbrev pub NumbersAreOwn : Type 0
 NumbersAreOwn = (settings : Settings) (cs : List (ℕ × Command)) → HaveOwnNumbers (state_of (step_at settings) empty cs).base
 
