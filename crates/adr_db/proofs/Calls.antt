@@ -8,7 +8,7 @@ use Rattle.adr_db.specs.Calls.{LeavesKept, Finds, Shows}
 
 -- a plain query leaves what is kept
 keeps_still : (sql : List ℕ) (params : Row) (old new : State) (rows : List Row) (kept : Kept) → IsPlain (understood schema sql) → Shown sql params old new rows → Keeps kept old → Keeps kept new
-keeps_still sql params old new rows kept plain shown was = record { rows = holds_still schema sql params old new rows (contents_of kept) plain shown was.rows; marks = was.marks }
+keeps_still sql params old new rows kept plain shown was = record { rows = holds_still schema sql params old new rows (contents_of kept) plain shown was.rows; marks = was.marks; subs = was.subs }
 
 module _ {S : Type 0} (g : Ghosts S) (old new : Held S) (sql : List ℕ) (params : Row) where
   -- a statement that writes

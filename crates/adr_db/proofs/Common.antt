@@ -10,13 +10,14 @@ pub use Rattle.adr_text.specs.Refusals.{Gives, IsRefusalOf}
 pub use Rattle.adr_objects.specs.declared.shown.Stamps.{Stamps}
 pub use Rattle.adr_text.specs.declared.refusal.Refusal.{Refusal}
 pub use Rattle.adr_text.specs.declared.refusal.Refusal.TheVariants.{BadShape, Forbidden, LimitReached, NoScan, OutOfMemory, Store}
+pub use Rattle.adr_subscription.specs.declared.kept_sub.Sub.{Sub}
 pub use Rattle.adr_state.specs.BaseChanges.{BaseChange, ChangePortfolio, JoinMarks, SetScan, changed}
 pub use Rattle.adr_state.specs.Digits.{number_in}
 pub use Rattle.adr_state.specs.Evidence.{evidence, gone, joining, open_scan, scan_begin, scan_end, scan_with}
 pub use Rattle.adr_state.specs.Keys.{at, id_cmp, kind_cmp, map_of, mirror_cmp, share_cmp, view_cmp}
 pub use Rattle.adr_state.specs.Mirror.{evidence_of, joined, key_of, mark_of, raised}
 pub use Rattle.adr_state.specs.Names.{if_free, if_new, is_full, is_taken, is_taken_by_another, resource_name, ven_name}
-pub use Rattle.adr_state.specs.Portfolios.{DropResource, DropShare, DropVen, PortfolioChange, PutResource, PutShare, PutVen, is_of_ven, with_share, without_resource, without_ven}
+pub use Rattle.adr_state.specs.Portfolios.{DropResource, DropShare, DropSub, DropVen, PortfolioChange, PutResource, PutShare, PutSub, PutVen, is_of_ven, is_sub_of, with_share, without_resource, without_ven}
 pub use Rattle.adr_state.specs.Resources.{putting_resource, resource_add, resource_put, resource_remove}
 pub use Rattle.adr_state.specs.Scans.{is_live, keys_found, probes}
 pub use Rattle.adr_state.specs.Stamping.{fresh, modified_at}

@@ -8,7 +8,7 @@ use Rattle.adr_sql.specs.Codecs.{entry_at}
 use Rattle.adr_sql.proofs.References.{is_childless}
 use Rattle.adr_sql.proofs.KeyedMaps.{KeyedMap, key_width, entries_rise, entries_again, upsert_entry_runs, clear_runs, remove_entry_runs, read_entry_runs, read_all_runs, count_all_runs}
 use Rattle.adr_db.specs.Tables.{schema}
-use Rattle.adr_db.specs.Kept.{Kept, Keeps, AreMarks, contents_of}
+use Rattle.adr_db.specs.Kept.{Kept, Keeps, AreMarks, AreSubs, contents_of}
 use Rattle.adr_db.specs.Calls.{LeavesKept, Finds, Shows}
 use Rattle.adr_db.proofs.Calls.{run_leaves, shown_finds}
 
@@ -19,6 +19,10 @@ pub record KeptMap (K V : Type 0) : Type 0 where
   pub with_entries : List (K × V) → Kept → Kept
   pub stored : (kept : Kept) → rows_of_table (contents_of kept) rows.at ≡ map rows.row_of (entries kept)
   pub changed : (es : List (K × V)) (kept : Kept) → with_table (contents_of kept) rows.at (map rows.row_of es) ≡ contents_of (with_entries es kept)
+
+-- the texts that are kept read back: each version and each subscription says what the types admit
+abbrev pub AreTexts : Kept → Type 0
+AreTexts kept = AreMarks kept.mirror × AreSubs kept.portfolio.subs
 
 -- what `refl` finds of the texts on such a table that put, remove and read an entry and read all of them, and of its values
 pub record HasTexts {K V : Type 0} (m : KeptMap K V) (put remove one all : List ℕ) : Type 0 where
@@ -42,9 +46,9 @@ module _ {K V : Type 0} (m : KeptMap K V) where
   abbrev pub without : K → Kept → Kept
   without k kept = m.with_entries (remove_entry (is_at (m.rows.cmp k)) (m.entries kept)) kept
 
-  -- a change leaves the marks of the mirror valid
-  abbrev pub KeepsMarks : (Kept → Kept) → Type 0
-  KeepsMarks change = (kept : Kept) → AreMarks kept.mirror → AreMarks (change kept).mirror
+  -- after a change they still do
+  abbrev pub KeepsTexts : (Kept → Kept) → Type 0
+  KeepsTexts change = (kept : Kept) → AreTexts kept → AreTexts (change kept)
 
   module _ (kept : Kept) (s : State) (was : Keeps kept s) where
     pub rises : IsAscending (λ a b. m.rows.cmp a.0 b.0 ≡ Less) (m.entries kept)
@@ -54,26 +58,26 @@ module _ {K V : Type 0} (m : KeptMap K V) where
     pub again : map_of m.rows.cmp (m.entries kept) ≡ m.entries kept
     again = entries_again m.rows (contents_of kept) (m.entries kept) (m.stored kept) s was.rows
 
-  abbrev keeps : (es : List (K × V)) (kept : Kept) (s : State) → AreMarks (m.with_entries es kept).mirror → Holds schema (with_table (contents_of kept) m.rows.at (map m.rows.row_of es)) s → Keeps (m.with_entries es kept) s
-  keeps es kept s are h = record { rows = subst (λ all. Holds schema all s) (m.changed es kept) h; marks = are }
+  abbrev keeps : (es : List (K × V)) (kept : Kept) (s : State) → AreTexts (m.with_entries es kept) → Holds schema (with_table (contents_of kept) m.rows.at (map m.rows.row_of es)) s → Keeps (m.with_entries es kept) s
+  keeps es kept s are h = record { rows = subst (λ all. Holds schema all s) (m.changed es kept) h; marks = are.0; subs = are.1 }
 
   module _ {S E : Type 0} (g : Ghosts S) (old new : Held S) (sql : List ℕ) where
-    pub put_leaves : (params : Row) (k : K) (v : V) (r : Result Unit E) → IsUpsertText schema m.rows.at m.rows.table sql params (m.rows.row_of (k, v)) → AreValues m.rows.table (m.rows.row_of (k, v)) → KeepsMarks (with_put k v)
+    pub put_leaves : (params : Row) (k : K) (v : V) (r : Result Unit E) → IsUpsertText schema m.rows.at m.rows.table sql params (m.rows.row_of (k, v)) → AreValues m.rows.table (m.rows.row_of (k, v)) → KeepsTexts (with_put k v)
         → Runs g old new sql params r → LeavesKept g old new (with_put k v) r
-    put_leaves params k v r text fit marks =
+    put_leaves params k v r text fit texts =
         run_leaves g old new sql params (with_put k v) r (λ count h kept was.
-        keeps (insert_entry m.rows.cmp (m.entries kept) k v) kept (state g new) (marks kept was.marks) (upsert_entry_runs m.rows (contents_of kept) (m.entries kept) (m.stored kept) sql params (state g old) (state g new) k v text fit count h was.rows))
+        keeps (insert_entry m.rows.cmp (m.entries kept) k v) kept (state g new) (texts kept (was.marks, was.subs)) (upsert_entry_runs m.rows (contents_of kept) (m.entries kept) (m.stored kept) sql params (state g old) (state g new) k v text fit count h was.rows))
 
-    pub remove_leaves : (k : K) (r : Result Unit E) → are_full 0 (key_width m.rows) (m.rows.key_of k) ≡ true → is_childless schema m.rows.table.tree ≡ true → IsRemoveText schema m.rows.at m.rows.table end (equalities 0 (key_width m.rows)) sql → KeepsMarks (without k)
+    pub remove_leaves : (k : K) (r : Result Unit E) → are_full 0 (key_width m.rows) (m.rows.key_of k) ≡ true → is_childless schema m.rows.table.tree ≡ true → IsRemoveText schema m.rows.at m.rows.table end (equalities 0 (key_width m.rows)) sql → KeepsTexts (without k)
         → Runs g old new sql (m.rows.key_of k) r → LeavesKept g old new (without k) r
-    remove_leaves k r full childless text marks =
+    remove_leaves k r full childless text texts =
         run_leaves g old new sql (m.rows.key_of k) (without k) r (λ count h kept was.
-        keeps (remove_entry (is_at (m.rows.cmp k)) (m.entries kept)) kept (state g new) (marks kept was.marks) (remove_entry_runs m.rows (contents_of kept) (m.entries kept) (m.stored kept) sql (state g old) (state g new) k full childless text count h was.rows))
+        keeps (remove_entry (is_at (m.rows.cmp k)) (m.entries kept)) kept (state g new) (texts kept (was.marks, was.subs)) (remove_entry_runs m.rows (contents_of kept) (m.entries kept) (m.stored kept) sql (state g old) (state g new) k full childless text count h was.rows))
 
-    pub clear_leaves : (r : Result Unit E) → is_childless schema m.rows.table.tree ≡ true → IsRemoveText schema m.rows.at m.rows.table end [] sql → KeepsMarks (m.with_entries []) → Runs g old new sql [] r → LeavesKept g old new (m.with_entries []) r
-    clear_leaves r childless text marks =
+    pub clear_leaves : (r : Result Unit E) → is_childless schema m.rows.table.tree ≡ true → IsRemoveText schema m.rows.at m.rows.table end [] sql → KeepsTexts (m.with_entries []) → Runs g old new sql [] r → LeavesKept g old new (m.with_entries []) r
+    clear_leaves r childless text texts =
         run_leaves g old new sql [] (m.with_entries []) r (λ count h kept was.
-        keeps [] kept (state g new) (marks kept was.marks) (clear_runs m.rows (contents_of kept) (m.entries kept) (m.stored kept) sql [] (state g old) (state g new) childless text count h was.rows))
+        keeps [] kept (state g new) (texts kept (was.marks, was.subs)) (clear_runs m.rows (contents_of kept) (m.entries kept) (m.stored kept) sql [] (state g old) (state g new) childless text count h was.rows))
 
     -- how many there are
     pub count_finds : (r : Result ℕ E) → IsCountText schema 0 m.rows.table sql → Shows g old new sql [] (λ rows n. (c : ℕ) → rows ≡ (count c ∷ []) ∷ [] → n ≡ c) r → Finds g old new (λ kept n. n ≡ length (m.entries kept)) r
@@ -83,10 +87,10 @@ module _ {K V : Type 0} (m : KeptMap K V) where
 
     -- all rows are read
     pub all_find : {T : Type 0} (Reads : Row → T → Type 0) (IsRight : Kept → List T → Type 0) (r : Result (List T) E) → IsSelectText schema m.rows.table (whole_rows 0 m.rows.table) end sql
-        → ((ts : List T) (kept : Kept) → AreMarks kept.mirror → AllZip Reads (map m.rows.row_of (m.entries kept)) ts → IsRight kept ts) → Shows g old new sql [] (AllZip Reads) r → Finds g old new IsRight r
+        → ((ts : List T) (kept : Kept) → AreTexts kept → AllZip Reads (map m.rows.row_of (m.entries kept)) ts → IsRight kept ts) → Shows g old new sql [] (AllZip Reads) r → Finds g old new IsRight r
     all_find Reads IsRight r text right =
         shown_finds g old new sql [] (AllZip Reads) IsRight r text.alone (λ ts rows kept shown was read.
-        right ts kept was.marks (subst (λ rows. AllZip Reads rows ts) (read_all_runs m.rows (contents_of kept) (m.entries kept) (m.stored kept) sql [] (state g old) (state g new) text rows shown was.rows) read))
+        right ts kept (was.marks, was.subs) (subst (λ rows. AllZip Reads rows ts) (read_all_runs m.rows (contents_of kept) (m.entries kept) (m.stored kept) sql [] (state g old) (state g new) text rows shown was.rows) read))
 
     -- the row of a key is read, where there is one
     pub one_finds : {T : Type 0} (Reads : Row → T → Type 0) (IsRight : Option T → Option V → Type 0) (k : K) (r : Result (Option T) E) → are_full 0 (key_width m.rows) (m.rows.key_of k) ≡ true
@@ -105,7 +109,7 @@ module _ {K V : Type 0} (m : KeptMap K V) where
 
     -- entries that are read back make the map again
     pub map_finds : (Reads : Row → K × V → Type 0) (es : List (K × V)) (r : Result (List (K × V)) E) → IsSelectText schema m.rows.table (whole_rows 0 m.rows.table) end sql
-        → ((kept : Kept) → AreMarks kept.mirror → (d e : K × V) → Has (m.entries kept) e → Reads (m.rows.row_of e) d → d ≡ e) → Shows g old new {E = E} sql [] (AllZip Reads) (Ok es) → IfOk r (λ table. table ≡ map_of m.rows.cmp es)
+        → ((kept : Kept) → AreTexts kept → (d e : K × V) → Has (m.entries kept) e → Reads (m.rows.row_of e) d → d ≡ e) → Shows g old new {E = E} sql [] (AllZip Reads) (Ok es) → IfOk r (λ table. table ≡ map_of m.rows.cmp es)
         → Finds g old new (λ kept table. table ≡ m.entries kept) r
     map_finds Reads es r text back shows = by r (all_find Reads (λ kept es. es ≡ m.entries kept) (Ok es) text (λ es kept are. read_back Reads m.rows.row_of es (m.entries kept) (back kept are)) shows)
       where

@@ -8,7 +8,9 @@ pub mod Creating
 pub mod MetaStatements
 pub mod Reports
 pub mod Calls
+pub mod Entries
 pub mod Marks
+pub mod Subs
 pub mod ReadBack
 pub mod Results
 pub mod Unread

@@ -1,8 +1,8 @@
 -- A mark that is kept reads back.
-use Rattle.std.proofs.Common.{◌≡◌, ℕ, pos, Bool, true, false, cond, nat_le, List, [], ◌∷◌, map, Some, Result, Ok, Err, refl, sym, ap, ap₂, ◌∙◌}
+use Rattle.std.proofs.Common.{◌≡◌, ℕ, pos, Bool, true, false, cond, nat_le, List, [], ◌∷◌, map, Result, Ok, Err, refl, sym, ap, ap₂, ◌∙◌}
 use Rattle.std.specs.String.{string_bytes}
 use Rattle.std.specs.Prelude.{IfSome}
-use Rattle.adr_db.proofs.Common.{Text, Has, Refusal, BadShape, Mark, Live, Dead, MirrorKey, at, is_eq, mirror_cmp}
+use Rattle.adr_db.proofs.Common.{Text, Has, Refusal, BadShape, Mark, Live, Dead, MirrorKey, at, mirror_cmp}
 use Rattle.sqlite_rules.proofs.ListLemmas.{all_has}
 use Rattle.adr_text.specs.Moments.{moment_at, last_nanos}
 use Rattle.adr_objects.specs.declared.body.Body.{Body}
@@ -15,6 +15,7 @@ use Rattle.adr_db.specs.declared.known.MarkColumns.{MarkColumns}
 use Rattle.adr_db.specs.Kept.{IsMark, AreMarks}
 use Rattle.adr_db.specs.Admitted.{ReadsEntry}
 use Rattle.adr_db.specs.ReadBack.{live_in, mark_in, entry_in}
+use Rattle.adr_db.proofs.Entries.{entry_is, entries_again}
 use Rattle.adr_db.proofs.Rows.{key_again, key_kept, columns_are}
 
 row_parts : (columns : MarkColumns) (state moment : ℕ) (text : List ℕ) → columns_row columns ≡ number state ∷ number moment ∷ Text text ∷ [] → (columns.state ≡ state) × (columns.moment ≡ moment) × (string_bytes columns.body ≡ text)
@@ -55,12 +56,7 @@ entry_read marks are e kept has reads =
 
 -- what is known of a key is one of the marks
 pub known_is_mark : (marks : List (MirrorKey × Mark)) → AreMarks marks → (key : MirrorKey) → IfSome (at mirror_cmp key marks) IsMark
-known_is_mark [] are key = tt
-known_is_mark (e ∷ marks) are key = by (is_eq (mirror_cmp key e.0)) (known_is_mark marks are.1 key)
-  where
-    by : (b : Bool) → IfSome (at mirror_cmp key marks) IsMark → IfSome (cond b (Some e.1) (at mirror_cmp key marks)) IsMark
-    by true more = are.0
-    by false more = more
+known_is_mark = entry_is mirror_cmp IsMark
 
 -- ---- as the tables are read back
 
@@ -69,5 +65,4 @@ mark_again (Live moment body) valid = ap (live_in moment) (canonical_reads_back 
 mark_again Dead valid = refl
 
 pub marks_again : (marks : List (MirrorKey × Mark)) → AreMarks marks → map entry_in (map mark_row marks) ≡ marks
-marks_again [] are = refl
-marks_again (e ∷ marks) are = ap₂ ◌∷◌ (ap₂ (λ (key : MirrorKey) (mark : Mark). (key, mark)) (key_again e.0) (mark_again e.1 are.0)) (marks_again marks are.1)
+marks_again = entries_again IsMark mark_row entry_in (λ e is. ap₂ (λ (key : MirrorKey) (mark : Mark). (key, mark)) (key_again e.0) (mark_again e.1 is))

@@ -5,7 +5,7 @@ use Rattle.adr_db.specs.declared.meta.Meta.{Meta}
 use Rattle.adr_db.specs.declared.meta.TheConstants.{PUT, READ}
 use Rattle.adr_db.specs.Tables.{schema}
 use Rattle.adr_db.specs.Rows.{number, meta_row, meta_numbers}
-use Rattle.adr_db.specs.Kept.{Kept, Keeps, AreMarks, contents_of, with_meta}
+use Rattle.adr_db.specs.Kept.{Kept, Keeps, contents_of, with_meta}
 use Rattle.adr_db.proofs.Tables.{meta, meta_keyed}
 
 puts : (m : Meta) → IsUpsertText schema 0 meta PUT.now (meta_numbers m) (meta_row m)
@@ -31,8 +31,8 @@ meta_put m = upsert_runs schema 0 meta meta_keyed PUT.now (meta_numbers m) (meta
 one_row : (m n : Meta) → with_row 1 (meta_row m) (meta_row n ∷ []) ≡ meta_row m ∷ []
 one_row m n = ap (λ (o : Ordering). match_ordering o (meta_row n ∷ with_row 1 (meta_row m) []) (meta_row m ∷ []) (meta_row m ∷ meta_row n ∷ [])) (number_key (pos 1) (pos 1) (drop 1 (meta_row n)) (drop 1 (meta_row m)))
 
-pub keeps_meta : (m : Meta) (kept : Kept) (new : State) → AreMarks kept.mirror → Holds schema (with_table (contents_of kept) 0 (with_row 1 (meta_row m) (rows_of_table (contents_of kept) 0))) new → Keeps (with_meta m kept) new
-keeps_meta m kept new are h = record { rows = subst (λ rows. Holds schema (with_table (contents_of kept) 0 rows) new) (one_row m kept.meta) h; marks = are }
+pub keeps_meta : (m : Meta) (kept : Kept) (old new : State) → Keeps kept old → Holds schema (with_table (contents_of kept) 0 (with_row 1 (meta_row m) (rows_of_table (contents_of kept) 0))) new → Keeps (with_meta m kept) new
+keeps_meta m kept old new was h = record { rows = subst (λ rows. Holds schema (with_table (contents_of kept) 0 rows) new) (one_row m kept.meta) h; marks = was.marks; subs = was.subs }
 
 pub reads : IsSelectText schema meta (whole_rows 0 meta) end READ.now
 unfolding understood everything

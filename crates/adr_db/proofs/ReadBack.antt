@@ -8,12 +8,14 @@ use Rattle.adr_state.specs.declared.state.State.{State}
 use Rattle.adr_sql.proofs.Stored.{contents_again}
 use Rattle.adr_db.specs.Tables.{schema}
 use Rattle.adr_db.specs.Rows.{key_row, ven_row, resource_row, share_row, stamp_row}
-use Rattle.adr_db.specs.Kept.{Kept, Keeps, AreMarks, contents_of}
+use Rattle.adr_db.specs.Kept.{Kept, Keeps, contents_of}
 use Rattle.adr_db.specs.Bases.{keys_polled, kept_of, HoldsState}
 use Rattle.adr_db.specs.Images.{image_kept}
 use Rattle.adr_db.specs.ReadBack.{key_in, numbered_in, ven_in, resource_in, share_in, stamped_in, kept_from, kept_in, state_in}
 use Rattle.adr_db.proofs.Rows.{meta_again, key_again, view_key_again}
 use Rattle.adr_db.proofs.Marks.{marks_again}
+use Rattle.adr_db.proofs.Subs.{subs_again}
+use Rattle.adr_db.proofs.KeptMaps.{AreTexts}
 use Rattle.adr_db.proofs.Reports.{NumbersRise, reports_again}
 use Rattle.adr_db.proofs.Rises.{reports_rise}
 
@@ -22,23 +24,24 @@ use Rattle.adr_db.proofs.Rises.{reports_rise}
 stamped_again : (e : ViewKey × Stamps) → stamped_in (stamp_row e) ≡ e
 stamped_again e = ap (λ key. (key, e.1)) (view_key_again e.0)
 
-from_rows : (kept : Kept) → AreMarks kept.mirror → NumbersRise kept.portfolio.reports → kept_from (contents_of kept) ≡ kept
-from_rows kept marks up = λ i. record {
+from_rows : (kept : Kept) → AreTexts kept → NumbersRise kept.portfolio.reports → kept_from (contents_of kept) ≡ kept
+from_rows kept texts up = λ i. record {
   meta = meta_again kept.meta i;
-  mirror = marks_again kept.mirror marks i;
+  mirror = marks_again kept.mirror texts.0 i;
   polled = map_back key_row key_in key_again kept.polled i;
   portfolio = record {
     vens = map_back ven_row (numbered_in ven_in) (λ _. refl) kept.portfolio.vens i;
     resources = map_back resource_row (numbered_in resource_in) (λ _. refl) kept.portfolio.resources i;
     shares = map_back share_row share_in (λ _. refl) kept.portfolio.shares i;
     reports = reports_again kept.portfolio.reports up i;
+    subs = subs_again kept.portfolio.subs texts.1 i;
   };
   stamps = map_back stamp_row stamped_in stamped_again kept.stamps i;
 }
 
 pub kept_again : (kept : Kept) (s : sql.State) → Keeps kept s → kept_in s.now.trees ≡ kept
 unfolding kept_in
-kept_again kept s was = ap kept_from (contents_again schema.tables s.now.trees (contents_of kept) was.rows.each) ∙ from_rows kept was.marks (reports_rise kept s was)
+kept_again kept s was = ap kept_from (contents_again schema.tables s.now.trees (contents_of kept) was.rows.each) ∙ from_rows kept (was.marks, was.subs) (reports_rise kept s was)
 
 -- ---- as a state
 

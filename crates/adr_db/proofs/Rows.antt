@@ -11,8 +11,8 @@ use Rattle.adr_objects.specs.declared.report.ReportHead.{ReportHead}
 use Rattle.adr_objects.specs.declared.report.UsageInterval.{UsageInterval}
 use Rattle.adr_db.specs.declared.meta.Meta.{Meta}
 use Rattle.adr_db.specs.declared.report_columns.ReportColumns.{ReportColumns}
-use Rattle.adr_db.specs.Rows.{number, kind_number, meta_row, key_row, mark_columns, mark_row, number_row, ven_columns, resource_columns, share_key_row, share_row, stamps_columns, view_kind, view_id, view_number, view_key_row, stamp_row, participant_row, name_cell, head_columns, report_columns_row, usage_cell, interval_columns}
-use Rattle.adr_db.specs.ReadBack.{number_of, text_of, integer_of, name_of, usage_of, flag_of, kind_of, meta_in, key_in, ven_in, resource_in, share_key_in, view_key_in, stamps_in, head_in}
+use Rattle.adr_db.specs.Rows.{number, kind_number, meta_row, key_row, mark_columns, mark_row, number_row, ven_columns, resource_columns, share_key_row, share_row, stamps_columns, view_kind, view_id, view_number, view_key_row, stamp_row, participant_row, name_cell, head_columns, report_columns_row, usage_cell, interval_columns, owner_cell}
+use Rattle.adr_db.specs.ReadBack.{number_of, text_of, integer_of, name_of, usage_of, owner_of, flag_of, kind_of, meta_in, key_in, ven_in, resource_in, share_key_in, view_key_in, stamps_in, head_in}
 
 -- ---- keys
 
@@ -130,6 +130,10 @@ usage_again : (usage : Option ℤ) → usage_of (usage_cell usage) ≡ usage
 usage_again None = refl
 usage_again (Some amount) = refl
 
+pub owner_again : (owner : Option ℕ) → owner_of (owner_cell owner) ≡ owner
+owner_again None = refl
+owner_again (Some n) = refl
+
 pub head_again : (head : ReportHead) (revision : ℕ) → head_in (head_columns head revision) ≡ head
 head_again head revision = ap (λ name. record head { name = name }) (name_again head.name)
 
@@ -170,6 +174,9 @@ report_columns_kept = stands_for_one report_columns_row report_columns_back repo
 
 pub interval_kept : (a b : UsageInterval) → interval_columns a ≡ interval_columns b → a ≡ b
 interval_kept = stands_for_one interval_columns interval_back interval_again
+
+pub owner_kept : (a b : Option ℕ) → owner_cell a ≡ owner_cell b → a ≡ b
+owner_kept a b h = sym (owner_again a) ∙ ap owner_of h ∙ owner_again b
 
 pub view_key_kept : (j k : ViewKey) → view_key_row j ≡ view_key_row k → j ≡ k
 view_key_kept = stands_for_one view_key_row view_key_in view_key_again

@@ -6,7 +6,7 @@ use Rattle.sqlite_value.specs.Keys.{joined}
 use Rattle.sqlite_catalog.specs.Listing.{automatic}
 use Rattle.adr_sql.proofs.References.{is_childless}
 use Rattle.adr_sql.proofs.Upserts.{IsKeyed}
-use Rattle.adr_db.specs.Tables.{schema, meta_table, mirror_table, polled_table, ven_table, resource_table, share_table, stamp_table, report_table, report_value_table}
+use Rattle.adr_db.specs.Tables.{schema, meta_table, mirror_table, polled_table, ven_table, resource_table, share_table, stamp_table, report_table, report_value_table, sub_table}
 
 -- each table with its tree
 abbrev pub meta : Table
@@ -35,6 +35,9 @@ report = record report_table { tree = 17 }
 
 abbrev pub report_value : Table
 report_value = record report_value_table { tree = 22 }
+
+abbrev pub sub : Table
+sub = record sub_table { tree = 24 }
 
 -- each is written over by its key, also those to which references point
 pub meta_keyed : IsKeyed schema 0 meta
@@ -73,6 +76,10 @@ pub report_value_keyed : IsKeyed schema 8 report_value
 unfolding same_name joined
 report_value_keyed = record { place = record { found = refl; alone = refl }; unfollowed = refl; uncounted = refl; unnumbered = refl; index = automatic report_value 0 report_value.primary 23; aimed = refl; order = refl; places = refl }
 
+pub sub_keyed : IsKeyed schema 9 sub
+unfolding same_name joined
+sub_keyed = record { place = record { found = refl; alone = refl }; unfollowed = refl; uncounted = refl; unnumbered = refl; index = automatic sub 0 sub.primary 25; aimed = refl; order = refl; places = refl }
+
 -- no reference points to these
 pub polled_childless : is_childless schema polled.tree ≡ true
 unfolding same_name joined
@@ -89,3 +96,7 @@ stamp_childless = refl
 pub report_value_childless : is_childless schema report_value.tree ≡ true
 unfolding same_name joined
 report_value_childless = refl
+
+pub sub_childless : is_childless schema sub.tree ≡ true
+unfolding same_name joined
+sub_childless = refl

@@ -3,12 +3,17 @@ use Rattle.std.specs.Prelude.{◌≡◌, ◌≤◌, ⊤, length, ◌<◌, ◌^�
 use Rattle.std.specs.Int.{w32}
 use Rattle.std.specs.List.{AllByRecursion}
 use Rattle.sqlite.specs.Order.{Row, column}
+use Rattle.sqlite.specs.declared.types.Value.{Value}
+use Rattle.sqlite.specs.declared.types.Value.TheVariants.{Text}
 use Rattle.adr_text.specs.Ids.{is_id}
 use Rattle.adr_text.specs.Names.{is_name}
 use Rattle.adr_text.specs.Moments.{last_nanos}
 use Rattle.adr_objects.specs.Limits.{is_resource_name, is_setpoint}
 use Rattle.adr_objects.specs.declared.report.UsageInterval.{UsageInterval}
 use Rattle.adr_objects.specs.declared.shown.Stamps.{Stamps}
+use Rattle.adr_subscription.specs.declared.kept_sub.Sub.{Sub}
+use Rattle.adr_subscription.specs.declared.subscription.SubIn.{SubIn}
+use Rattle.adr_subscription.specs.Kept.{kept_of}
 use Rattle.adr_state.specs.declared.base.Mark.{Mark}
 use Rattle.adr_state.specs.declared.keys.MirrorKey.{MirrorKey}
 use Rattle.adr_state.specs.declared.keys.ShareKey.{ShareKey}
@@ -24,7 +29,7 @@ use Rattle.adr_db.specs.declared.known.MarkColumns.{MarkColumns}
 use Rattle.adr_db.specs.declared.known.MirrorRow.{MirrorRow}
 use Rattle.adr_db.specs.declared.report_columns.ReportColumns.{ReportColumns}
 use Rattle.adr_sql.specs.Keys.{cells}
-use Rattle.adr_db.specs.Rows.{number, meta_row, key_row, columns_row, mark_from, mirror_row, ven_columns, resource_columns, share_key_row, view_key_row, stamps_columns, participant_row, report_columns_row, interval_columns}
+use Rattle.adr_db.specs.Rows.{number, meta_row, key_row, columns_row, mark_from, mirror_row, ven_columns, resource_columns, share_key_row, view_key_row, stamps_columns, participant_row, report_columns_row, interval_columns, owner_cell}
 
 abbrev pub IsNumber : ℕ → Type 0
 IsNumber n = ⊤
@@ -94,6 +99,10 @@ IsUsageInterval interval = FitsSigned w32 interval.id × IfSome interval.usage I
 abbrev pub IsReportEntry : ℕ × ReportColumns → Type 0
 IsReportEntry e = IsNumber e.0 × AreReportColumns e.1
 
+-- of a subscription, its stamps: its body reads of a text
+abbrev pub IsKeptSub : Sub → Type 0
+IsKeptSub sub = AreStamps sub.stamps
+
 -- a weight alone, and entries behind their keys
 abbrev pub IsShareWeight : ℕ → Type 0
 IsShareWeight weight = IsTrue (is_weight weight)
@@ -106,6 +115,9 @@ IsVenEntry e = IsNumber e.0 × IsVen e.1
 
 abbrev pub IsResourceEntry : ℕ × Resource → Type 0
 IsResourceEntry e = IsNumber e.0 × IsResource e.1
+
+abbrev pub IsSubEntry : ℕ × Sub → Type 0
+IsSubEntry e = IsNumber e.0 × IsKeptSub e.1
 
 -- a node has 10,000 of them at most
 abbrev pub AreResources : List (ℕ × Resource) → Type 0
@@ -176,6 +188,16 @@ ReadsReportEntry row e = ReadsNumber row e.0 × ReadsReportColumns row e.1
 
 abbrev pub ReadsUsageInterval : Row → UsageInterval → Type 0
 ReadsUsageInterval row interval = interval_columns interval ≡ cells 2 2 row
+
+-- the body of a subscription is what the text in its column is read as
+abbrev pub ReadsBody : Value → SubIn → Type 0
+ReadsBody value body = (text : List ℕ) × IsUtf8 text × (value ≡ Text text) × (kept_of text ≡ Ok body)
+
+abbrev pub ReadsSub : Row → Sub → Type 0
+ReadsSub row sub = (owner_cell sub.owner ≡ column row 1) × (ReadsBody (column row 2) sub.body × (stamps_columns sub.stamps ≡ cells 3 2 row))
+
+abbrev pub ReadsSubEntry : Row → ℕ × Sub → Type 0
+ReadsSubEntry row e = ReadsNumber row e.0 × ReadsSub row e.1
 
 abbrev pub ReadsParticipant : Row → Participant → Type 0
 ReadsParticipant row p = participant_row p ≡ cells 0 4 row

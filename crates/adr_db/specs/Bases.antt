@@ -11,7 +11,7 @@ use Rattle.adr_state.specs.declared.keys.ViewKey.{ViewKey}
 use Rattle.adr_db.specs.declared.meta.Meta.{Meta}
 use Rattle.adr_sql.specs.Contents.{StoresEach}
 use Rattle.adr_db.specs.Tables.{schema}
-use Rattle.adr_db.specs.Kept.{Kept, Keeps, AreMarks, contents_of, first_meta}
+use Rattle.adr_db.specs.Kept.{Kept, Keeps, AreMarks, AreSubs, contents_of, first_meta}
 
 -- the keys that were polled; none where no scan is open
 abbrev pub keys_polled : Option (List MirrorKey) → List MirrorKey
@@ -46,9 +46,10 @@ HoldsBeside beside base s = Keeps (kept_beside beside base) s
 abbrev pub HoldsState : State → sql.State → Type 0
 HoldsState state s = Keeps (kept_of state) s
 
--- Trees that a crash may leave hold a state: they list the schema and obey it, they store the rows of the state, and each version says what the types
--- admit. An open of them finds tables that hold it.
+-- Trees that a crash may leave hold a state: they list the schema and obey it, they store the rows of the state, and each version and each
+-- subscription says what the types admit. An open of them finds tables that hold it.
 pub record AreLeftWith (state : State) (trees : Trees) : Type 0 where
   pub sound : IsSound schema trees
   pub rows : StoresEach schema.tables trees (contents_of (kept_of state))
   pub marks : AreMarks state.base.mirror
+  pub subs : AreSubs state.base.portfolio.subs

@@ -11,6 +11,8 @@ use Rattle.sqlite.specs.State.{State}
 use Rattle.adr_objects.specs.Bodies.{IsBody}
 use Rattle.adr_objects.specs.declared.shown.Stamps.{Stamps}
 use Rattle.adr_objects.specs.declared.report.UsageInterval.{UsageInterval}
+use Rattle.adr_subscription.specs.declared.kept_sub.Sub.{Sub}
+use Rattle.adr_subscription.specs.Types.{IsSub}
 use Rattle.adr_state.specs.declared.base.Mark.{Mark}
 use Rattle.adr_state.specs.declared.base.Mark.TheVariants.{Live, Dead}
 use Rattle.adr_state.specs.declared.portfolio.Portfolio.{Portfolio}
@@ -24,7 +26,7 @@ use Rattle.adr_sql.specs.Contents.{Contents, Holds}
 use Rattle.adr_db.specs.declared.meta.Meta.{Meta}
 use Rattle.adr_db.specs.Tables.{schema}
 use Rattle.adr_db.specs.declared.report_columns.ReportColumns.{ReportColumns}
-use Rattle.adr_db.specs.Rows.{meta_row, mark_row, key_row, ven_row, resource_row, share_row, stamp_row, report_row, value_rows}
+use Rattle.adr_db.specs.Rows.{meta_row, mark_row, key_row, ven_row, resource_row, share_row, stamp_row, report_row, value_rows, sub_row}
 
 -- what is kept: the numbers of the node, the mirror in the order of its keys, the polled keys in that order, the portfolio, and the
 -- stamps of what is shown
@@ -48,6 +50,7 @@ contents_with reports values kept =
     ∷ map stamp_row kept.stamps
     ∷ reports
     ∷ values
+    ∷ map sub_row kept.portfolio.subs
     ∷ []
 
 abbrev pub contents_of : Kept → Contents
@@ -61,9 +64,14 @@ IsMark Dead = Unit {0}
 abbrev pub AreMarks : List (MirrorKey × Mark) → Type 0
 AreMarks = AllByRecursion (λ e. IsMark e.1)
 
+-- so does a subscription, so that the text that is kept of it reads back
+abbrev pub AreSubs : List (ℕ × Sub) → Type 0
+AreSubs = AllByRecursion (λ e. IsSub e.1.body)
+
 pub record Keeps (kept : Kept) (s : State) : Type 0 where
   pub rows : Holds schema (contents_of kept) s
   pub marks : AreMarks kept.mirror
+  pub subs : AreSubs kept.portfolio.subs
 
 -- ---- what is kept of a new node, and the changes of it
 

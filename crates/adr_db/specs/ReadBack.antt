@@ -1,4 +1,4 @@
--- What the tables hold, read back. What no call writes reads as a default: 0, no text, a program, or deleted.
+-- What the tables hold, read back. What no call writes reads as a default: 0, no text, a program, deleted, or a subscription to nothing.
 use Rattle.std.specs.Prelude.{ℕ, ℤ, pos, Bool, ◌==◌, if◌then◌else◌, List, [], map, drop, get_or, Option, None, Some, Result, Ok, Err}
 use Rattle.sqlite.specs.declared.types.Value.{Value}
 use Rattle.sqlite.specs.declared.types.Value.TheVariants.{Int, Text}
@@ -13,6 +13,9 @@ use Rattle.adr_objects.specs.declared.shown.Stamps.{Stamps}
 use Rattle.adr_objects.specs.declared.report.ReportHead.{ReportHead}
 use Rattle.adr_objects.specs.declared.report.UsageInterval.{UsageInterval}
 use Rattle.adr_objects.specs.ReadBack.{canonical_of}
+use Rattle.adr_subscription.specs.declared.kept_sub.Sub.{Sub}
+use Rattle.adr_subscription.specs.declared.subscription.SubIn.{SubIn}
+use Rattle.adr_subscription.specs.Kept.{kept_of}
 use Rattle.adr_state.specs.declared.base.Mark.{Mark}
 use Rattle.adr_state.specs.declared.base.Mark.TheVariants.{Live, Dead}
 use Rattle.adr_state.specs.declared.portfolio.Ven.{Ven}
@@ -121,6 +124,19 @@ interval_in row = record { id = integer_of (column row 2); usage = usage_of (col
 abbrev pub report_in : List Row → Row → ℕ × Report
 report_in values row = (number_of (column row 0), record { revision = number_of (column row 7); body = record { head = head_in (drop 1 row); intervals = map interval_in (rows_at 1 row values) } })
 
+-- the ven that a subscription is of, where it is of one
+abbrev pub owner_of : Value → Option ℕ
+owner_of (Int (pos n)) = Some n
+owner_of _ = None
+
+-- the body of a subscription, where its text reads
+abbrev pub body_in : Result SubIn Refusal → SubIn
+body_in (Ok body) = body
+body_in (Err e) = record { client_name = []; program = None; items = []; targets = None }
+
+abbrev pub sub_in : Row → Sub
+sub_in columns = record { owner = owner_of (column columns 0); body = body_in (kept_of (text_of (column columns 1))); stamps = stamps_in (drop 2 columns) }
+
 -- what stands behind a number, with it
 abbrev pub numbered_in : {V : Type 0} → (Row → V) → Row → ℕ × V
 numbered_in value_in row = (number_of (column row 0), value_in (drop 1 row))
@@ -157,6 +173,7 @@ kept_from all = record {
     resources = map (numbered_in resource_in) (rows_of_table all 4);
     shares = map share_in (rows_of_table all 5);
     reports = map (report_in (rows_of_table all 8)) (rows_of_table all 7);
+    subs = map (numbered_in sub_in) (rows_of_table all 9);
   };
   stamps = map stamped_in (rows_of_table all 6);
 }

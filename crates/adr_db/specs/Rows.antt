@@ -12,6 +12,8 @@ use Rattle.adr_objects.specs.Canonical.{canonical_text}
 use Rattle.adr_objects.specs.ReadBack.{canonical_of}
 use Rattle.adr_objects.specs.declared.kind.Kind.{Kind}
 use Rattle.adr_objects.specs.declared.kind.Kind.TheVariants.{Program, Event}
+use Rattle.adr_subscription.specs.declared.kept_sub.Sub.{Sub}
+use Rattle.adr_subscription.specs.Kept.{kept_text}
 use Rattle.adr_state.specs.declared.base.Mark.{Mark}
 use Rattle.adr_state.specs.declared.base.Mark.TheVariants.{Live, Dead}
 use Rattle.adr_state.specs.declared.portfolio.Ven.{Ven}
@@ -136,6 +138,20 @@ value_rows_from n place (interval ∷ intervals) = value_row n place interval �
 -- the intervals of a report behind its number
 abbrev pub value_rows : ℕ × Report → List Row
 value_rows e = value_rows_from e.0 0 e.1.body.intervals
+
+-- ---- subscriptions
+
+-- the ven that one is of, where it is of one
+abbrev pub owner_cell : Option ℕ → Value
+owner_cell = or_null number
+
+-- its body as the text that is kept of it, with its tokens
+abbrev pub sub_columns : Sub → Row
+sub_columns sub = owner_cell sub.owner ∷ Text (kept_text sub.body) ∷ stamps_columns sub.stamps
+
+-- a subscription behind its number
+abbrev pub sub_row : ℕ × Sub → Row
+sub_row e = number e.0 ∷ sub_columns e.1
 
 -- ---- the stamps of what is shown
 

@@ -102,8 +102,19 @@ report_value_table =
     ∷ nullable_column (codes "value") Integer
     ∷ []) ((1 ∷ 2 ∷ []) ∷ []) (1 ∷ 2 ∷ []) (cascades_to 1 (codes "report") (codes "id") ∷ [])
 
+-- the subscriptions, which go with the ven that they are of; those of no ven are the operator's. The second unique key is there to find them by
+-- their ven
+abbrev pub sub_table : Table
+sub_table =
+    table (codes "sub") (column (codes "id") Integer
+    ∷ nullable_column (codes "ven") Integer
+    ∷ column (codes "body") Text
+    ∷ column (codes "created") Integer
+    ∷ column (codes "modified") Integer
+    ∷ []) ((1 ∷ []) ∷ (2 ∷ 1 ∷ []) ∷ []) (1 ∷ []) (cascades_to 2 (codes "ven") (codes "id") ∷ [])
+
 abbrev pub tables : List Table
-tables = meta_table ∷ mirror_table ∷ polled_table ∷ ven_table ∷ resource_table ∷ share_table ∷ stamp_table ∷ report_table ∷ report_value_table ∷ []
+tables = meta_table ∷ mirror_table ∷ polled_table ∷ ven_table ∷ resource_table ∷ share_table ∷ stamp_table ∷ report_table ∷ report_value_table ∷ sub_table ∷ []
 
 abbrev pub schema : Schema
 schema = schema_of tables

@@ -11,6 +11,7 @@ mod schema;
 mod sites;
 mod stamps;
 pub mod statement;
+mod sub;
 
 pub use known::{MarkColumns, MirrorRow};
 pub use meta::{Meta, put_meta, read_meta};

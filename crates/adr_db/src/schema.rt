@@ -45,13 +45,16 @@ const REPORT: &str =
 const REPORT_VALUE: &str =
     "CREATE TABLE report_value (report INT NOT NULL REFERENCES report (id) ON DELETE CASCADE, pos INT NOT NULL, interval INT NOT NULL, value INT, PRIMARY KEY (report, pos)) STRICT";
 
+const SUB: &str =
+    "CREATE TABLE sub (id INT NOT NULL, ven INT REFERENCES ven (id) ON DELETE CASCADE, body TEXT NOT NULL, created INT NOT NULL, modified INT NOT NULL, PRIMARY KEY (id), UNIQUE (ven, id)) STRICT";
+
 /// Makes the tables of a new node, which keep nothing, in an empty database.
 pub fn create<S: Alter>(tx: &mut Transaction<'_, S>) -> Result<(), Refusal>
     ensures same_reference { tx.new.conn.ghost_name ≡ tx.old.conn.ghost_name }
     ensures stays { Stays S.Store tx.old.conn.now tx.new.conn.now result }
     ensures made { HasCleanDisk (state S.Store tx.new.conn.now) → OnOk result (Holds no_schema [] (state S.Store tx.old.conn.now) → Keeps nothing_kept (state S.Store tx.new.conn.now)) }
     ensures refused { IfErr result IsOfStore }
-    ensures fails { RefusesToRunAll S.Store tx.old.conn.now tx.new.conn.now (META.now ∷ MIRROR.now ∷ POLLED.now ∷ VEN.now ∷ RESOURCE.now ∷ SHARE.now ∷ STAMP.now ∷ REPORT.now ∷ REPORT_VALUE.now ∷ []) PUT.now (meta_numbers first_meta) result }
+    ensures fails { RefusesToRunAll S.Store tx.old.conn.now tx.new.conn.now (META.now ∷ MIRROR.now ∷ POLLED.now ∷ VEN.now ∷ RESOURCE.now ∷ SHARE.now ∷ STAMP.now ∷ REPORT.now ∷ REPORT_VALUE.now ∷ SUB.now ∷ []) PUT.now (meta_numbers first_meta) result }
 {
     let texts = [
         META,
@@ -63,6 +66,7 @@ pub fn create<S: Alter>(tx: &mut Transaction<'_, S>) -> Result<(), Refusal>
         STAMP,
         REPORT,
         REPORT_VALUE,
+        SUB,
     ];
     match create_tables(tx, &texts) {
         Ok(()) => write_meta(tx, &Meta::first()),

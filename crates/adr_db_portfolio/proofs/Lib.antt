@@ -2,6 +2,7 @@ pub mod Named
 pub mod VenStatements
 pub mod ResourceStatements
 pub mod ShareStatements
+pub mod SubStatements
 pub mod ReportPuts
 pub mod ReportStatements
 pub mod Cascades

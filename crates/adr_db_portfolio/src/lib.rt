@@ -1,4 +1,4 @@
-//! Vens, resources, shares and reports in the tables, one typed call per statement, on a lent transaction.
+//! Vens, resources, shares, reports and subscriptions in the tables, one typed call per statement, on a lent transaction.
 #![tactic(auto)]
 
 mod portfolio;
@@ -7,6 +7,7 @@ mod report_value;
 mod resource;
 mod share;
 mod sharers;
+mod sub;
 mod ven;
 
 pub use portfolio::read_portfolio;
@@ -19,4 +20,5 @@ pub use resource::{
 };
 pub use share::{count_shares, put_share, read_share, read_shares, remove_share};
 pub use sharers::read_sharers;
+pub use sub::{count_subs, put_sub, read_sub, read_subs, remove_sub};
 pub use ven::{count_vens, put_ven, read_ven, read_vens, read_vens_named, remove_ven};

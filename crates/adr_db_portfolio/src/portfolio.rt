@@ -6,13 +6,14 @@ ghost use Rattle.adr_db.specs.Calls.{Finds, IsOfStore};
 use crate::report::read_reports;
 use crate::resource::read_resources;
 use crate::share::read_shares;
+use crate::sub::read_subs;
 use crate::ven::read_vens;
 use adr_state::Portfolio;
 use adr_text::Refusal;
 use sqlite::{Alter, Transaction};
 use std::alloc::Global;
 
-/// The vens, resources, shares and reports.
+/// The vens, resources, shares, reports and subscriptions.
 pub fn read_portfolio<S: Alter>(
     alloc: Global,
     tx: &mut Transaction<'_, S>,
@@ -27,5 +28,6 @@ pub fn read_portfolio<S: Alter>(
         resources: read_resources(alloc, tx)?,
         shares: read_shares(alloc, tx)?,
         reports: read_reports(alloc, tx)?,
+        subs: read_subs(alloc, tx)?,
     })
 }

@@ -55,7 +55,8 @@ pub fn put_ven<S: Alter>(tx: &mut Transaction<'_, S>, id: Number, ven: &Ven) -> 
     )
 }
 
-/// The ven of a number goes, and with it its resources and their shares.
+/// The ven of a number goes, and with it its resources, their shares and the reports on them, and its
+/// subscriptions.
 pub fn remove_ven<S: Alter>(tx: &mut Transaction<'_, S>, id: Number) -> Result<(), Refusal>
     ensures same_reference { tx.new.conn.ghost_name ≡ tx.old.conn.ghost_name }
     ensures stays { Stays S.Store tx.old.conn.now tx.new.conn.now result }

@@ -82,7 +82,7 @@ pub fn ven_put<S: Alter>(
     Ok(shown(number, ven))
 }
 
-/// Removes a ven with its resources and their shares, and answers the ven that went. Refused with
+/// Removes a ven with its resources, their shares and its subscriptions, and answers the ven that went. Refused with
 /// `NotFound` where it isn't there.
 pub fn ven_remove<S: Alter>(
     alloc: Global,

@@ -328,14 +328,14 @@ module _ (schema : Schema) (root : Table) (losses : Losses) (all : Contents) whe
     pub along : AllByRecursion (λ t. AllByRecursion (λ ref. IsAlongWith t ref (parent_key schema.tables ref)) t.references) schema.tables
     pub because : AllByRecursion (λ t. MatchBool (is_some (loss_of losses t.tree)) (HasCause t) (Unit {0})) schema.tables
 
-  -- the rows of a table go where those do that they name by one reference
+  -- the rows of a table go where those do that they name by one reference; a row that names none, since its column is NULL, is no child, and stays
   module _ (child : Table) (ref : Reference) (key : ParentKey) (at : ℕ) (simple : IsSimple ref key at) (refers : Has child.references ref) (parent : parent_key schema.tables ref ≡ Some key) (before : key.0 < child.tree)
-      (full : (r : Row) → Has (by_tree schema.tables all child.tree) r → is_null (column r at) ≡ false)
+      (full : (r : Row) → Has (by_tree schema.tables all child.tree) r → goes child.tree r ≡ true → is_null (column r at) ≡ false)
       (same : (r m : Row) → Has (by_tree schema.tables all child.tree) r → Has (by_tree schema.tables all key.0) m → value_cmp (column m 0) (column r at) ≡ Equal → goes key.0 m ≡ goes child.tree r) where
     pub linked : GoAlong child ref key × HasCause child
     linked = (
       record { at = at; simple = simple; along = λ r m mine theirs tie go. sym (same r m mine theirs tie) ∙ go },
-      λ r has go. inr (record { ref = ref; listed = refers; key = key; parent = parent; before = before; at = at; simple = simple; full = full r has; alone = λ m theirs tie. same r m has theirs tie ∙ go }),
+      λ r has go. inr (record { ref = ref; listed = refers; key = key; parent = parent; before = before; at = at; simple = simple; full = full r has go; alone = λ m theirs tie. same r m has theirs tie ∙ go }),
     )
 
   module _ (chain : IsChain) (db : Trees) (held : StoresEach schema.tables db all) where

@@ -12,7 +12,7 @@ pub returns-in-Ok-clause-made : goal.returns-in-Ok-clause-made
 returns-in-Ok-clause-made g c clean =
     let new = state g.S.Store c.write_meta.new.tx.conn.now in
     let early : HasCleanDisk (state g.S.Store c.create_tables.new.tx.conn.now) = omega (arith, c.write_meta.ensures.stays.crash.clean) in
-    on_then c.write_meta.result (λ change empty. subst (λ (m : Meta). Keeps (with_meta m nothing_kept) new) c.first.ensures (record { rows = change _ (c.in-Ok.ensures.made early tables make_tables empty); marks = tt })) (c.write_meta.ensures.changes clean)
+    on_then c.write_meta.result (λ change empty. subst (λ (m : Meta). Keeps (with_meta m nothing_kept) new) c.first.ensures (record { rows = change _ (c.in-Ok.ensures.made early tables make_tables empty); marks = tt; subs = tt })) (c.write_meta.ensures.changes clean)
 
 pub returns-in-Ok-clause-fails : goal.returns-in-Ok-clause-fails
 returns-in-Ok-clause-fails g c clean inside =

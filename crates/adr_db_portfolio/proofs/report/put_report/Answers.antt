@@ -28,4 +28,5 @@ returns-clause-leaves g c clean =
       rows = subst (λ values. Holds schema (contents_with rows values kept) (state g.S.Store c.put_values.new.tx.conn.now)) (report_put id report es (reports_rise kept old was))
           (put kept rows (rows_without 1 (number_row id) (flat_map value_rows es)) cleared);
       marks = was.marks;
+      subs = was.subs;
     }) (rw c.as_slice.ensures at c.put_values.ensures.changes clean)

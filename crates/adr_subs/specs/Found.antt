@@ -1,0 +1,24 @@
+-- What is decided of a subscription that was looked for.
+use Rattle.std.specs.Prelude.{ℕ, Option, Result, Ok, Err, if◌then◌else◌}
+use Rattle.adr_text.specs.Refusals.{◌>>=◌, or_else}
+use Rattle.adr_text.specs.declared.refusal.Refusal.{Refusal}
+use Rattle.adr_text.specs.declared.refusal.Refusal.TheVariants.{NotFound, Forbidden}
+use Rattle.adr_subscription.specs.declared.kept_sub.Sub.{Sub}
+use Rattle.adr_subscription.specs.declared.object.SubObject.{SubObject}
+use Rattle.adr_subscription.specs.declared.subscription.SubIn.{SubIn}
+use Rattle.adr_state.specs.Portfolios.{PortfolioChange}
+use Rattle.adr_state.specs.Subs.{sub_replaced, sub_removed}
+use Rattle.adr_view.specs.declared.sight.Sight.{Sight}
+use Rattle.adr_view.specs.Sights.{sees_owner}
+
+-- the one that was found, where it is in sight
+abbrev pub in_sight : Sight → Option (ℕ × Sub) → Result (ℕ × Sub) Refusal
+in_sight sight found = or_else NotFound found >>= λ s. if sees_owner sight s.1.owner then Ok s else Err Forbidden
+
+-- it says this from now on
+abbrev pub replaced : Sight → ℕ → Option (ℕ × Sub) → SubIn → Result (SubObject × PortfolioChange) Refusal
+replaced sight now found body = in_sight sight found >>= λ s. Ok (sub_replaced now body s)
+
+-- it goes
+abbrev pub removed : Sight → Option (ℕ × Sub) → Result (SubObject × PortfolioChange) Refusal
+removed sight found = in_sight sight found >>= λ s. Ok (sub_removed s)

@@ -1,0 +1,7 @@
+//! Subscriptions in the tables, on a lent transaction: posted, replaced and removed.
+#![tactic(auto)]
+
+mod found;
+mod posting;
+
+pub use posting::{delete, post, put};
