@@ -22,7 +22,7 @@ module _ {S : Type 0} (g : Ghosts S) (old begun last end : Held S) (step : State
       rw same (told_whole g old end ended said _ _ (ends_whole g old last end said ended _ _ (subst (λ (b : Held S). Stays g b last {T = Answer} {E = Refusal} (Ok said)) is stays)
       (λ clean held was. let it = (subst (λ (b : Held S). StepsTables step (state g b) (state g last) (Ok said)) is makes) clean held (held_now held (state g old) _ refl was) in (said, it.after, it.stepped, it.holds))
       (λ a b same done held was. let it = done held was in (it.0, it.1, it.2, held_now it.1 a b same it.3))
-      (λ s done held was. let it = done held was in (it.0, it.1, it.2, record { sound = it.3.rows.sound; rows = it.3.rows.each; marks = it.3.marks }))
+      (λ s done held was. let it = done held was in (it.0, it.1, it.2, record { sound = it.3.rows.sound; rows = it.3.rows.each; marks = it.3.marks; subs = it.3.subs }))
       ends))
 
   -- and what is answered is right for what was committed

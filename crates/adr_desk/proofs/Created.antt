@@ -14,6 +14,6 @@ module _ {S : Type 0} (g : Ghosts S) (old begun last end : Held S) (ended : Resu
   created_whole is stays made ends =
       ends_whole g old last end {T = Unit {0}} tt ended _ _ (subst (λ (b : Held S). Stays g b last {T = Unit {0}} {E = Refusal} (Ok tt)) is stays)
       (λ clean none. made clean (subst (λ (b : Held S). Holds no_schema [] (state g b)) (sym is) (holds_now no_schema [] (state g old) _ refl none)))
-      (λ a b same done none. let it = done none in record { rows = holds_now schema (contents_of nothing_kept) a b same it.rows; marks = it.marks })
-      (λ s done none. let it = done none in record { sound = it.rows.sound; rows = it.rows.each; marks = it.marks })
+      (λ a b same done none. let it = done none in record { rows = holds_now schema (contents_of nothing_kept) a b same it.rows; marks = it.marks; subs = it.subs })
+      (λ s done none. let it = done none in record { sound = it.rows.sound; rows = it.rows.each; marks = it.marks; subs = it.subs })
       ends

@@ -3,7 +3,9 @@ use Rattle.std.proofs.Common.{◌≡◌, inl, inr, ℕ, ◌+◌, List, None, Res
 use Rattle.std.proofs.lemmas.Result.{IfErr-weaker}
 use Rattle.std.specs.Result.{IsErrAnd}
 use Rattle.adr_db.proofs.Common.{Ghosts, Held, state, IsRefusalOf, Refusal, OutOfMemory, Store, Base, PortfolioChange, BaseChange, JoinMarks, SetScan, ChangePortfolio, changed, MirrorKey, scan_begin, scan_end, Limits}
-use Rattle.adr_text.specs.Refusals.{◌>>=◌}
+use Rattle.adr_text.specs.Refusals.{◌>>=◌, Fails}
+use Rattle.adr_subscription.specs.declared.subscription.SubIn.{SubIn}
+use Rattle.adr_subscription.specs.Callbacks.{settled}
 use Rattle.adr_state.specs.declared.portfolio.Portfolio.{Portfolio}
 use Rattle.adr_state.specs.declared.state.State.{State}
 use Rattle.sqlite.specs.State as sql
@@ -37,6 +39,12 @@ then_refused OutOfMemory first next h = tt
 then_refused Store first next h = tt
 then_refused e (Ok x) next h = absurd cc
 then_refused e (Err d) next h = cc
+
+-- what reading gives where it fails
+failed_refused : {A : Type 0} (e : Refusal) (r : Result A Refusal) → Fails e r → IsRefusalOf e r
+failed_refused OutOfMemory r h = tt
+failed_refused Store r h = tt
+failed_refused e r h = h
 
 -- whatever is told of what went well
 told_refused : {A B C : Type 0} (e : Refusal) (first : Result A Refusal) (f : A → B) (h : A → C) → IsRefusalOf e (first >>= λ x. Ok (f x)) → IsRefusalOf e (first >>= λ x. Ok (h x))
@@ -148,6 +156,19 @@ module _ {S : Type 0} (g : Ghosts S) (old mid new : Held S) {A : Type 0} (comes 
     decides = λ clean. tt;
     refuses = λ clean beside base was same. subst (λ (x : Refusal). IsRefusalOf x (whole base)) (sym is) (then_refused e (sight_of base giver) _ (subst (IsRefusalOf e) (sight_kept giver beside base) (refuses clean (kept_beside beside base) was)));
   }
+
+-- what is not settled is refused, whatever the tables hold
+module _ {S : Type 0} (g : Ghosts S) (old new : Held S) (sub : SubIn) (f : SubIn → Base → Result Decision Refusal) (meta : Meta) where
+  pub unsettled_carries : (e : Refusal) (r : Result Outcome Refusal) → IsErrAnd r (λ x. x ≡ e) → Fails e (settled sub) → CarriesOut g old new (λ base. settled sub >>= λ body. f body base) meta meta r
+  unsettled_carries e (Ok x) is fails = absurd is
+  unsettled_carries e (Err x) is fails = record {
+    decides = λ clean. tt;
+    refuses = λ clean beside base was same. subst (λ (x : Refusal). IsRefusalOf x (settled sub >>= λ body. f body base)) (sym is) (then_refused e (settled sub) (λ body. f body base) (failed_refused e (settled sub) fails));
+  }
+
+  -- of what is settled, what follows is what is decided
+  pub settled_carries : (body : SubIn) (r : Result Outcome Refusal) → settled sub ≡ Ok body → CarriesOut g old new (f body) meta meta r → CarriesOut g old new (λ base. settled sub >>= λ body. f body base) meta meta r
+  settled_carries body r is carries = subst (λ (s : Result SubIn Refusal). CarriesOut g old new (λ base. s >>= λ body. f body base) meta meta r) (sym is) carries
 
 -- no change draws a number
 pub serial_stays : (change : BaseChange) (base : Base) → (changed change base).serial ≡ base.serial

@@ -2,7 +2,12 @@
 use Rattle.std.proofs.Common.{◌≡◌, ◌⊎◌, inl, inr, List, [], ◌∷◌, Contains, Result, Ok, Err, IfErr, sym, subst}
 use Rattle.std.specs.List.{AllByRecursion}
 use Rattle.adr_text.specs.declared.refusal.Refusal.{Refusal}
-use Rattle.adr_text.specs.declared.refusal.Refusal.TheVariants.{OutOfMemory, Store}
+use Rattle.adr_text.specs.declared.refusal.Refusal.TheVariants.{OutOfMemory, Store, BadShape}
+use Rattle.std.proofs.lemmas.Result.{IfErr-at_err}
+use Rattle.adr_text.specs.Refusals.{Fails}
+use Rattle.adr_subscription.specs.declared.subscription.SubIn.{SubIn}
+use Rattle.adr_subscription.specs.Callbacks.{settled}
+use Rattle.adr_subscription.proofs.Unsettled.{settled_refused}
 use Rattle.adr_db.specs.Calls.{IsOfStore}
 use Rattle.adr_portfolio.specs.Refusals.{IsOneOf}
 use Rattle.adr_machine.specs.Edits.{told_by}
@@ -30,6 +35,12 @@ module _ (these : List Refusal) where
   pub either_listed : (own : Refusal) → Contains these own → (e : Refusal) → IsOfStore e ⊎ (e ≡ own) → Listed e
   either_listed own has e (inl h) = store_listed e h
   either_listed own has e (inr is) = subst Listed (sym is) (contained_listed own has)
+
+  -- what is not settled is refused for its shape, or memory ran out
+  pub unsettled_listed : Contains these BadShape → (sub : SubIn) (e : Refusal) → Fails e (settled sub) → Listed e
+  unsettled_listed has sub OutOfMemory fails = tt
+  unsettled_listed has sub Store fails = tt
+  unsettled_listed has sub e fails = subst Listed (sym (IfErr-at_err (λ e. e ≡ BadShape) fails (settled_refused sub))) (contained_listed BadShape has)
 
   -- one of those that a call lists, each of which is listed here
   pub one_of_listed : (ones : List Refusal) → AllByRecursion (Contains these) ones → (e : Refusal) → IsOneOf ones e → Listed e

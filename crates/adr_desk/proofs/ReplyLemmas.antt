@@ -13,7 +13,7 @@ use Rattle.adr_db.specs.Bases.{kept_of}
 use Rattle.adr_db.proofs.ReadBack.{image_again}
 use Rattle.adr_queries.specs.declared.answer.Answer.TheVariants as answer
 use Rattle.adr_queries.specs.declared.query.Query.{Query}
-use Rattle.adr_queries.specs.declared.query.Query.TheVariants.{Programs, Program, Events, Event, Vens, Ven, Resources, Resource, Shares, Reports, Report, Rollup, Probes}
+use Rattle.adr_queries.specs.declared.query.Query.TheVariants.{Programs, Program, Events, Event, Vens, Ven, Resources, Resource, Shares, Reports, Report, Rollup, Subs, Sub, Probes}
 use Rattle.adr_queries.specs.Replies.{reply, probes_reply}
 use Rattle.adr_mirror.specs.Missed.{missed}
 use Rattle.adr_desk.specs.Asks.{state_for}
@@ -30,6 +30,8 @@ reply_for (Ven role id) held = refl
 reply_for (Resources role ven page) held = refl
 reply_for (Resource role ven id) held = refl
 reply_for (Shares role program) held = refl
+reply_for (Subs role filter page) held = refl
+reply_for (Sub role id) held = refl
 reply_for (Reports role filter page) held = ap (λ (s : State). reply s (Reports role filter page)) (image_again held)
 reply_for (Report role id) held = ap (λ (s : State). reply s (Report role id)) (image_again held)
 reply_for (Rollup role event) held = ap (λ (s : State). reply s (Rollup role event)) (image_again held)

@@ -12,7 +12,7 @@ use Rattle.adr_desk.specs.Transactions.{Ends}
 
 -- what is held stays, where all is as it was
 pub held_now : (held : State) (a b : sql.State) → b.now ≡ a.now → HoldsState held a → HoldsState held b
-held_now held a b same was = record { rows = holds_now schema (contents_of (kept_of held)) a b same was.rows; marks = was.marks }
+held_now held a b same was = record { rows = holds_now schema (contents_of (kept_of held)) a b same was.rows; marks = was.marks; subs = was.subs }
 
 module _ {S : Type 0} (g : Ghosts S) (old last end : Held S) where
   abbrev begun : Held S

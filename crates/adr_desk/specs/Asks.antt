@@ -6,15 +6,17 @@ use Rattle.adr_state.specs.States.{empty}
 use Rattle.adr_db.specs.Kept.{Kept}
 use Rattle.adr_db.specs.Images.{image_kept}
 use Rattle.adr_queries.specs.declared.query.Query.{Query}
-use Rattle.adr_queries.specs.declared.query.Query.TheVariants.{Vens, Ven, Resources, Resource, Shares}
+use Rattle.adr_queries.specs.declared.query.Query.TheVariants.{Vens, Ven, Resources, Resource, Shares, Subs, Sub}
 
--- whether the reply is that of the vens, resources and shares alone
+-- whether the reply is that of the vens, resources, shares and subscriptions alone
 abbrev pub asks_portfolio : Query → Bool
 asks_portfolio (Vens role page) = true
 asks_portfolio (Ven role id) = true
 asks_portfolio (Resources role ven page) = true
 asks_portfolio (Resource role ven id) = true
 asks_portfolio (Shares role program) = true
+asks_portfolio (Subs role filter page) = true
+asks_portfolio (Sub role id) = true
 asks_portfolio _ = false
 
 -- a state of which nothing but the portfolio is known

@@ -4,19 +4,27 @@ use Rattle.std.specs.List.{Contains}
 use Rattle.sqlite.specs.Store.{Ghosts}
 use Rattle.sqlite.specs.Held.{Held, state}
 use Rattle.sqlite.specs.State.{State, HasCleanDisk}
+use Rattle.adr_text.specs.Refusals.{◌>>=◌}
 use Rattle.adr_text.specs.declared.refusal.Refusal.{Refusal}
 use Rattle.adr_objects.specs.declared.shown.Stamps.{Stamps}
+use Rattle.adr_subscription.specs.declared.subscription.SubIn.{SubIn}
 use Rattle.adr_state.specs.declared.base.Base.{Base}
+use Rattle.adr_state.specs.declared.limits.Limits.{Limits}
+use Rattle.adr_state.specs.Subs.{sub_post}
 use Rattle.adr_state.specs.declared.keys.ViewKey.{ViewKey}
 use Rattle.adr_state.specs.BaseChanges.{BaseChange, changed}
 use Rattle.adr_db.specs.declared.meta.Meta.{Meta}
 use Rattle.adr_db.specs.Bases.{Beside, meta_of, HoldsBeside}
 use Rattle.adr_db.specs.BaseCalls.{RefusesOn}
+use Rattle.adr_view.specs.Sights.{owner_in}
+use Rattle.adr_view.specs.Subs.{sub_put}
+use Rattle.adr_queries.specs.declared.role.Role.{Role}
+use Rattle.adr_queries.specs.Roles.{sight_of}
 use Rattle.adr_machine.specs.declared.command.Command.{Command}
 use Rattle.adr_machine.specs.declared.outcome.Outcome.{Outcome}
 use Rattle.adr_machine.specs.Listed.{listed}
 use Rattle.adr_machine.specs.Steps.{answered_by}
-use Rattle.adr_machine.specs.Edits.{Decision}
+use Rattle.adr_machine.specs.Edits.{Decision, of_portfolio, sub_outcome}
 
 -- what is decided of a base is that this comes of it, with a change, which is carried out: the tables hold the base after it, beside the numbers and stamps
 -- that they had, and the caller's numbers are those of that base
@@ -36,6 +44,13 @@ module _ {S : Type 0} (g : Ghosts S) (old new : Held S) where
   pub record CarriesOut (decide : Base → Result Decision Refusal) (before after : Meta) (result : Result Outcome Refusal) : Type 0 where
     pub decides : Decides decide before after result
     pub refuses : RefusesOn g old new decide before result
+
+-- what is decided of a subscription each of whose addresses may be called, by what the role sees: of a new one, and of one that is put again
+abbrev pub sub_made : Limits → ℕ → ℕ → Role → SubIn → Base → Result Decision Refusal
+sub_made limits now n role body base = sight_of base role >>= λ sight. of_portfolio sub_outcome (sub_post limits now n (owner_in sight) body base.portfolio)
+
+abbrev pub sub_put_again : ℕ → Role → List ℕ → SubIn → Base → Result Decision Refusal
+sub_put_again now role id body base = sight_of base role >>= λ sight. of_portfolio sub_outcome (sub_put sight now id body base.portfolio)
 
 -- what comes of a command is answered, whatever the stamps, or refused as is listed for it
 abbrev pub IsAnswered : Command → Outcome → Type 0

@@ -23,7 +23,7 @@ use adr_text::{ObjectId, Refusal};
 use sqlite::{Alter, Connection, Transaction};
 use std::alloc::{AllocError, Global};
 
-/// Whether the reply is that of the vens, resources and shares alone.
+/// Whether the reply is that of the vens, resources, shares and subscriptions alone.
 fn asks_portfolio(query: &Query) -> bool
     ensures { result ≡ asks_portfolio query.now }
 {
@@ -34,6 +34,8 @@ fn asks_portfolio(query: &Query) -> bool
             | Query::Resources { .. }
             | Query::Resource { .. }
             | Query::Shares { .. }
+            | Query::Subs { .. }
+            | Query::Sub { .. }
     )
 }
 

@@ -7,6 +7,7 @@ ghost use Rattle.adr_machine.specs.Listed.{listed};
 ghost use Rattle.adr_desk.specs.Decisions.{CarriesOut, IsAnswered};
 
 use crate::reports::{report_delete, report_post, report_put};
+use crate::subs::{sub_delete, sub_post, sub_put};
 use adr_db::Meta;
 use adr_machine::told::{counted, done, of_resource, of_scan, of_share, of_ven};
 use adr_machine::{Command, Outcome};
@@ -77,5 +78,8 @@ pub(crate) fn carry_out<S: Alter>(
         }
         Command::ReportPut { role, id, report } => report_put(alloc, tx, number, role, id, report),
         Command::ReportDelete { role, id } => report_delete(alloc, tx, role, id),
+        Command::SubPost { role, sub } => sub_post(alloc, tx, limits, now, number, role, sub),
+        Command::SubPut { role, id, sub } => sub_put(alloc, tx, now, role, id, sub),
+        Command::SubDelete { role, id } => sub_delete(alloc, tx, role, id),
     }
 }

@@ -9,7 +9,9 @@ mod frame;
 mod image;
 pub mod laws;
 mod reports;
+mod sight;
 mod stamps;
 mod step;
+mod subs;
 
 pub use desk::{MemoryDesk, SqlDesk};

@@ -7,7 +7,7 @@ ghost use Rattle.adr_sql.specs.Calls.{Stays, Commits};
 ghost use Rattle.adr_db.specs.Kept.{Kept, Keeps, with_meta};
 ghost use Rattle.adr_db.specs.Bases.{HoldsState};
 ghost use Rattle.adr_db.specs.Calls.{IsOfStore};
-ghost use Rattle.adr_machine.specs.Edits.{told_by, edit_of};
+ghost use Rattle.adr_machine.specs.Edits.{edit_of};
 ghost use Rattle.adr_queries.specs.Listed.{IsListed};
 ghost use Rattle.adr_machine.specs.Listed.{listed};
 ghost use Rattle.adr_desk.specs.Decisions.{IsAnswered};
@@ -18,6 +18,7 @@ use crate::frame::{begin, commit};
 use crate::stamps::restamp;
 use adr_db::{Meta, put_meta, read_meta};
 use adr_events::view;
+use adr_machine::told::after;
 use adr_machine::{Answer, Command, Outcome, answered_by};
 use adr_state::Limits;
 use adr_text::{Moment, Refusal};
@@ -39,15 +40,6 @@ fn put_changed<S: Alter>(
         return Ok(());
     }
     put_meta(tx, after)
-}
-
-// What there is already, where what came last went well. Over any type, since what is dropped where it did not is
-// dropped here: in a caller each variant of a wide type would be a path of its own, at each refusal.
-fn after<T: Drop>(ended: Result<(), Refusal>, value: T) -> Result<T, Refusal>
-    ensures { result ≡ told_by (λ _. value) ended }
-{
-    ended?;
-    Ok(value)
 }
 
 /// What the command decides is carried out, and a number drawn where one is wanted. The numbers of the node

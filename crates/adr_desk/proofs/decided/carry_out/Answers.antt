@@ -153,3 +153,30 @@ returns-in-ReportDelete-clause-answered g c = rw c.in-ReportDelete.is c.report_d
 
 pub returns-in-ReportDelete-clause-listed : goal.returns-in-ReportDelete-clause-listed
 returns-in-ReportDelete-clause-listed g c = rw c.in-ReportDelete.is c.report_delete.ensures.listed
+
+pub returns-in-SubPost-clause-carries : goal.returns-in-SubPost-clause-carries
+returns-in-SubPost-clause-carries g c = rw c.in-SubPost.is (c.sub_post.ensures.carries c.args.meta.now)
+
+pub returns-in-SubPost-clause-answered : goal.returns-in-SubPost-clause-answered
+returns-in-SubPost-clause-answered g c = rw c.in-SubPost.is c.sub_post.ensures.answered
+
+pub returns-in-SubPost-clause-listed : goal.returns-in-SubPost-clause-listed
+returns-in-SubPost-clause-listed g c = rw c.in-SubPost.is c.sub_post.ensures.listed
+
+pub returns-in-SubPut-clause-carries : goal.returns-in-SubPut-clause-carries
+returns-in-SubPut-clause-carries g c = rw c.in-SubPut.is (c.sub_put.ensures.carries c.args.meta.now)
+
+pub returns-in-SubPut-clause-answered : goal.returns-in-SubPut-clause-answered
+returns-in-SubPut-clause-answered g c = rw c.in-SubPut.is c.sub_put.ensures.answered
+
+pub returns-in-SubPut-clause-listed : goal.returns-in-SubPut-clause-listed
+returns-in-SubPut-clause-listed g c = rw c.in-SubPut.is c.sub_put.ensures.listed
+
+pub returns-in-SubDelete-clause-carries : goal.returns-in-SubDelete-clause-carries
+returns-in-SubDelete-clause-carries g c = rw c.in-SubDelete.is (c.sub_delete.ensures.carries c.args.meta.now)
+
+pub returns-in-SubDelete-clause-answered : goal.returns-in-SubDelete-clause-answered
+returns-in-SubDelete-clause-answered g c = rw c.in-SubDelete.is c.sub_delete.ensures.answered
+
+pub returns-in-SubDelete-clause-listed : goal.returns-in-SubDelete-clause-listed
+returns-in-SubDelete-clause-listed g c = rw c.in-SubDelete.is c.sub_delete.ensures.listed

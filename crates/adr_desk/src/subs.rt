@@ -1,0 +1,116 @@
+//! Subscriptions on the tables, by who gives the command.
+ghost use Rattle.std.specs.Prelude.{◌≡◌, IfOk, IfErr};
+ghost use Rattle.adr_sql.specs.Calls.{Stays};
+ghost use Rattle.adr_db.specs.declared.meta.Meta.{Meta as MetaOf};
+ghost use Rattle.adr_machine.specs.declared.command.Command.TheVariants as command;
+ghost use Rattle.adr_machine.specs.Edits.{sub_post_decided, sub_put_decided, sub_delete_decided};
+ghost use Rattle.adr_queries.specs.Listed.{IsListed};
+ghost use Rattle.adr_machine.specs.Listed.{listed};
+ghost use Rattle.adr_desk.specs.Decisions.{CarriesOut, IsAnswered, sub_made, sub_put_again};
+
+use crate::sight::sight_in;
+use adr_machine::told::of_sub;
+use adr_machine::{Outcome, Role, settled_copy};
+use adr_objects::Number;
+use adr_state::Limits;
+use adr_subs::{delete, post, put};
+use adr_subscription::SubIn;
+use adr_text::{Moment, ObjectId, Refusal};
+use adr_view::owner_in;
+use sqlite::{Alter, Transaction};
+use std::alloc::Global;
+
+// A new subscription of who has the role, each of whose addresses may be called.
+fn made<S: Alter>(
+    alloc: Global,
+    tx: &mut Transaction<'_, S>,
+    limits: &Limits,
+    now: Moment,
+    number: Number,
+    role: &Role,
+    body: SubIn,
+) -> Result<Outcome, Refusal>
+    ensures same_reference { tx.new.conn.ghost_name ≡ tx.old.conn.ghost_name }
+    ensures stays { Stays S.Store tx.old.conn.now tx.new.conn.now result }
+    ensures carries { (meta : MetaOf) → CarriesOut S.Store tx.old.conn.now tx.new.conn.now (sub_made limits.now now number role.now body) meta meta result }
+    ensures answered { IfOk result (IsAnswered (command.SubPost role.now body)) }
+    ensures listed { IfErr result (IsListed (Unit {0}) (listed (command.SubPost role.now body))) }
+{
+    let sight = sight_in(alloc, tx, role)?;
+    of_sub(post(alloc, tx, limits, now, number, owner_in(sight), body))
+}
+
+/// A new subscription of who has the role.
+pub(crate) fn sub_post<S: Alter>(
+    alloc: Global,
+    tx: &mut Transaction<'_, S>,
+    limits: &Limits,
+    now: Moment,
+    number: Number,
+    role: &Role,
+    sub: &SubIn,
+) -> Result<Outcome, Refusal>
+    ensures same_reference { tx.new.conn.ghost_name ≡ tx.old.conn.ghost_name }
+    ensures stays { Stays S.Store tx.old.conn.now tx.new.conn.now result }
+    ensures carries { (meta : MetaOf) → CarriesOut S.Store tx.old.conn.now tx.new.conn.now (λ base. sub_post_decided limits.now now number role.now sub.now base) meta meta result }
+    ensures answered { IfOk result (IsAnswered (command.SubPost role.now sub.now)) }
+    ensures listed { IfErr result (IsListed (Unit {0}) (listed (command.SubPost role.now sub.now))) }
+{
+    let body = settled_copy(alloc, sub)?;
+    made(alloc, tx, limits, now, number, role, body)
+}
+
+// The subscription of an id is replaced by who has the role, by one each of whose addresses may be called.
+fn replaced<S: Alter>(
+    alloc: Global,
+    tx: &mut Transaction<'_, S>,
+    now: Moment,
+    role: &Role,
+    id: &ObjectId,
+    body: SubIn,
+) -> Result<Outcome, Refusal>
+    ensures same_reference { tx.new.conn.ghost_name ≡ tx.old.conn.ghost_name }
+    ensures stays { Stays S.Store tx.old.conn.now tx.new.conn.now result }
+    ensures carries { (meta : MetaOf) → CarriesOut S.Store tx.old.conn.now tx.new.conn.now (sub_put_again now role.now id.now body) meta meta result }
+    ensures answered { IfOk result (IsAnswered (command.SubPut role.now id.now body)) }
+    ensures listed { IfErr result (IsListed (Unit {0}) (listed (command.SubPut role.now id.now body))) }
+{
+    let sight = sight_in(alloc, tx, role)?;
+    of_sub(put(alloc, tx, sight, now, id, body))
+}
+
+/// The subscription of an id is replaced by who has the role.
+pub(crate) fn sub_put<S: Alter>(
+    alloc: Global,
+    tx: &mut Transaction<'_, S>,
+    now: Moment,
+    role: &Role,
+    id: &ObjectId,
+    sub: &SubIn,
+) -> Result<Outcome, Refusal>
+    ensures same_reference { tx.new.conn.ghost_name ≡ tx.old.conn.ghost_name }
+    ensures stays { Stays S.Store tx.old.conn.now tx.new.conn.now result }
+    ensures carries { (meta : MetaOf) → CarriesOut S.Store tx.old.conn.now tx.new.conn.now (λ base. sub_put_decided now role.now id.now sub.now base) meta meta result }
+    ensures answered { IfOk result (IsAnswered (command.SubPut role.now id.now sub.now)) }
+    ensures listed { IfErr result (IsListed (Unit {0}) (listed (command.SubPut role.now id.now sub.now))) }
+{
+    let body = settled_copy(alloc, sub)?;
+    replaced(alloc, tx, now, role, id, body)
+}
+
+/// The subscription of an id is removed by who has the role.
+pub(crate) fn sub_delete<S: Alter>(
+    alloc: Global,
+    tx: &mut Transaction<'_, S>,
+    role: &Role,
+    id: &ObjectId,
+) -> Result<Outcome, Refusal>
+    ensures same_reference { tx.new.conn.ghost_name ≡ tx.old.conn.ghost_name }
+    ensures stays { Stays S.Store tx.old.conn.now tx.new.conn.now result }
+    ensures carries { (meta : MetaOf) → CarriesOut S.Store tx.old.conn.now tx.new.conn.now (λ base. sub_delete_decided role.now id.now base) meta meta result }
+    ensures answered { IfOk result (IsAnswered (command.SubDelete role.now id.now)) }
+    ensures listed { IfErr result (IsListed (Unit {0}) (listed (command.SubDelete role.now id.now))) }
+{
+    let sight = sight_in(alloc, tx, role)?;
+    of_sub(delete(alloc, tx, sight, id))
+}
