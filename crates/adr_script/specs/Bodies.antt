@@ -6,13 +6,14 @@ use Rattle.adr_text.specs.Refusals.{number_of, title_of, status_of}
 use Rattle.adr_text.specs.declared.refusal.Refusal.{Refusal}
 use Rattle.adr_written.specs.Objects.{program_text, event_text, ven_text, resource_text, share_text, problem_text}
 use Rattle.adr_written.specs.WrittenReports.{report_text, rollup_text}
+use Rattle.adr_written.specs.WrittenSubs.{sub_text}
 use Rattle.adr_objects.specs.declared.kind.Kind.{Kind}
 use Rattle.adr_objects.specs.declared.kind.Kind.TheVariants as kind
 use Rattle.adr_state.specs.declared.keys.MirrorKey.{MirrorKey}
 use Rattle.adr_machine.specs.declared.command.Command.{Command}
-use Rattle.adr_machine.specs.declared.command.Command.TheVariants.{VenAdd, ResourceAdd, ReportPost}
+use Rattle.adr_machine.specs.declared.command.Command.TheVariants.{VenAdd, ResourceAdd, ReportPost, SubPost}
 use Rattle.adr_queries.specs.declared.answer.Object.{Object}
-use Rattle.adr_queries.specs.declared.answer.Object.TheVariants.{Program, Event, Report, Ven, Resource, Share}
+use Rattle.adr_queries.specs.declared.answer.Object.TheVariants.{Program, Event, Report, Ven, Resource, Share, Sub}
 use Rattle.adr_queries.specs.declared.answer.Answer.{Answer}
 use Rattle.adr_queries.specs.declared.answer.Answer.TheVariants as answer
 use Rattle.adr_script.specs.declared.asked.Asked.{Asked}
@@ -26,6 +27,7 @@ object_text (Report r) = report_text r
 object_text (Ven v) = ven_text v
 object_text (Resource r) = resource_text r
 object_text (Share s) = share_text s
+object_text (Sub s) = sub_text s
 
 -- the objects behind the first, each behind a comma
 abbrev pub behind_commas : List Object → List ℕ
@@ -51,6 +53,7 @@ abbrev pub posts : Command → Bool
 posts (VenAdd role ven) = true
 posts (ResourceAdd role ven resource) = true
 posts (ReportPost role report) = true
+posts (SubPost role sub) = true
 posts _ = false
 
 -- 201 where an object was posted, else 200

@@ -1,4 +1,4 @@
--- The query of a listing of events or of reports: which of them are asked for.
+-- The query of a listing of events, of reports or of subscriptions: which of them are asked for.
 use Rattle.std.specs.Prelude.{ℕ, List, [], ◌∷◌, codes, bytes_eq, Option, None, Some, option_map, Result, Ok, Err, if◌then◌else◌}
 use Rattle.std.specs.List.{filter_map}
 use Rattle.std.specs.Option.{option_to_list}
@@ -59,7 +59,7 @@ clients_of value = option_map (λ v. option_to_list (name_in v)) value
 unfoldable pub client_filter : List ℕ → Result (Option (List (List ℕ))) Refusal
 client_filter query = only_one (values_of (codes "clientName") (raw_pairs query)) >>= λ value. Ok (clients_of value)
 
--- `programID` and `clientName`
+-- `programID` and `clientName`, of reports and of subscriptions
 unfoldable pub report_filter_asked : List ℕ → Result ReportFilter Refusal
 report_filter_asked query = do
   programs ← program_filter query

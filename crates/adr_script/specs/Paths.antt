@@ -1,7 +1,7 @@
 -- Paths, and the ids in them.
 use Rattle.std.specs.Prelude.{ℕ, List, codes, Option, Some, None, option_map, option_and_then, bytes_eq, if◌then◌else◌}
 use Rattle.adr_script.specs.declared.paths.Path.{Path}
-use Rattle.adr_script.specs.declared.paths.Path.TheVariants.{Programs, Program, Events, Event, Reports, Report, Rollup, Notifications, Vens, Ven, Resources, Resource, Shares, Share}
+use Rattle.adr_script.specs.declared.paths.Path.TheVariants.{Programs, Program, Events, Event, Reports, Report, Rollup, Subs, Sub, Notifications, Vens, Ven, Resources, Resource, Shares, Share}
 use Rattle.adr_script.specs.Cuts.{cut, behind}
 use Rattle.adr_script.specs.Words.{id_from}
 
@@ -31,11 +31,15 @@ abbrev pub path_behind : Option (List ℕ) → (List ℕ → Option Path) → Op
 path_behind (Some rest) reads other = reads rest
 path_behind None reads other = other
 
+-- behind `/subscriptions/`: `{id}`
+unfoldable pub sub_path : List ℕ → Option Path
+sub_path path = path_behind (behind (codes "/subscriptions/") path) (λ rest. option_map (λ id. Sub id) (id_from rest)) None
+
 -- behind `/reports/`: `{id}`, and behind `/rollups/`: `{eventID}`
 unfoldable pub report_path : List ℕ → Option Path
 report_path path =
     path_behind (behind (codes "/reports/") path) (λ rest. option_map (λ id. Report id) (id_from rest))
-    (path_behind (behind (codes "/rollups/") path) (λ rest. option_map (λ event. Rollup event) (id_from rest)) None)
+    (path_behind (behind (codes "/rollups/") path) (λ rest. option_map (λ event. Rollup event) (id_from rest)) (sub_path path))
 
 -- behind `/programs/` and `/events/`: `{id}`
 unfoldable pub item_path : List ℕ → Option Path
@@ -55,6 +59,7 @@ path_of path =
     if bytes_eq path (codes "/programs") then Some Programs
     else (if bytes_eq path (codes "/events") then Some Events
     else (if bytes_eq path (codes "/reports") then Some Reports
+    else (if bytes_eq path (codes "/subscriptions") then Some Subs
     else (if bytes_eq path (codes "/notifications") then Some Notifications
     else (if bytes_eq path (codes "/vens") then Some Vens
-    else longer_path path))))
+    else longer_path path)))))

@@ -4,14 +4,15 @@ use Rattle.adr_text.specs.Refusals.{◌>>=◌}
 use Rattle.adr_text.specs.declared.refusal.Refusal.{Refusal}
 use Rattle.adr_schema.specs.Sites.{ven_of, resource_of, share_of}
 use Rattle.adr_schema.specs.Reports.{report_of}
+use Rattle.adr_subscription.specs.Subscriptions.{sub_of}
 use Rattle.adr_text.specs.declared.refusal.Refusal.TheVariants.{Forbidden}
 use Rattle.adr_schema.specs.declared.notice.NoticeIn.{NoticeIn}
 use Rattle.adr_schema.specs.declared.notice.NoticeIn.TheVariants as notice
 use Rattle.adr_schema.specs.Notices.{notice_of}
 use Rattle.adr_queries.specs.declared.role.Role.{Role}
 use Rattle.adr_queries.specs.declared.role.Role.TheVariants.{Utility}
-use Rattle.adr_machine.specs.declared.command.Command.TheVariants.{Evidence, Gone, VenAdd, VenPut, VenRemove, ResourceAdd, ResourcePut, ResourceRemove, ShareSet, ReportPost, ReportPut, ReportDelete}
-use Rattle.adr_queries.specs.declared.query.Query.TheVariants.{Programs, Program, Events, Event, Vens, Ven, Resources, Resource, Shares, Reports, Report, Rollup}
+use Rattle.adr_machine.specs.declared.command.Command.TheVariants.{Evidence, Gone, VenAdd, VenPut, VenRemove, ResourceAdd, ResourcePut, ResourceRemove, ShareSet, ReportPost, ReportPut, ReportDelete, SubPost, SubPut, SubDelete}
+use Rattle.adr_queries.specs.declared.query.Query.TheVariants.{Programs, Program, Events, Event, Vens, Ven, Resources, Resource, Shares, Reports, Report, Rollup, Subs, Sub}
 use Rattle.adr_script.specs.declared.asked.Asked.{Asked}
 use Rattle.adr_script.specs.declared.asked.Asked.TheVariants as asked
 use Rattle.adr_script.specs.Cuts.{cut}
@@ -22,21 +23,27 @@ use Rattle.adr_script.specs.declared.paths.Path.{Path}
 use Rattle.adr_script.specs.declared.paths.Path.TheVariants as path
 use Rattle.adr_script.specs.Paths.{path_of}
 
+-- the listings of paths with no id in them
+unfoldable pub listing_asked : Role → Path → List ℕ → Result (Option Asked) Refusal
+listing_asked role path.Programs query = page_asked query >>= λ page. Ok (Some (asked.Query (Programs role page)))
+listing_asked role path.Events query = filter_asked query >>= λ wanted. page_asked query >>= λ page. Ok (Some (asked.Query (Events role wanted page)))
+listing_asked role path.Reports query = report_filter_asked query >>= λ wanted. page_asked query >>= λ page. Ok (Some (asked.Query (Reports role wanted page)))
+listing_asked role path.Subs query = report_filter_asked query >>= λ wanted. page_asked query >>= λ page. Ok (Some (asked.Query (Subs role wanted page)))
+listing_asked role path.Vens query = page_asked query >>= λ page. Ok (Some (asked.Query (Vens role page)))
+listing_asked role _ query = Ok None
+
 -- what is read at a path: only a listing has a query
 unfoldable pub asked_by_get : Role → Path → List ℕ → Result (Option Asked) Refusal
-asked_by_get role path.Programs query = page_asked query >>= λ page. Ok (Some (asked.Query (Programs role page)))
 asked_by_get role (path.Program id) query = Ok (Some (asked.Query (Program role id)))
-asked_by_get role path.Events query = filter_asked query >>= λ wanted. page_asked query >>= λ page. Ok (Some (asked.Query (Events role wanted page)))
 asked_by_get role (path.Event id) query = Ok (Some (asked.Query (Event role id)))
-asked_by_get role path.Reports query = report_filter_asked query >>= λ wanted. page_asked query >>= λ page. Ok (Some (asked.Query (Reports role wanted page)))
 asked_by_get role (path.Report id) query = Ok (Some (asked.Query (Report role id)))
 asked_by_get role (path.Rollup event) query = Ok (Some (asked.Query (Rollup role event)))
-asked_by_get role path.Vens query = page_asked query >>= λ page. Ok (Some (asked.Query (Vens role page)))
+asked_by_get role (path.Sub id) query = Ok (Some (asked.Query (Sub role id)))
 asked_by_get role (path.Ven id) query = Ok (Some (asked.Query (Ven role id)))
 asked_by_get role (path.Resources ven) query = page_asked query >>= λ page. Ok (Some (asked.Query (Resources role ven page)))
 asked_by_get role (path.Resource ven id) query = Ok (Some (asked.Query (Resource role ven id)))
 asked_by_get role (path.Shares program) query = Ok (Some (asked.Query (Shares role program)))
-asked_by_get role _ query = Ok None
+asked_by_get role path query = listing_asked role path query
 
 -- what a notification asks, if it asks anything
 abbrev pub told_asked : NoticeIn → Asked
@@ -58,6 +65,7 @@ unfoldable pub asked_by_post : Role → Path → List ℕ → Result (Option Ask
 asked_by_post role path.Vens body = ven_of body >>= λ ven. Ok (Some (asked.Command (VenAdd role ven)))
 asked_by_post role path.Notifications body = notified role body
 asked_by_post role path.Reports body = report_of body >>= λ report. Ok (Some (asked.Command (ReportPost role report)))
+asked_by_post role path.Subs body = sub_of body >>= λ sub. Ok (Some (asked.Command (SubPost role sub)))
 asked_by_post role (path.Resources ven) body = resource_of body >>= λ resource. Ok (Some (asked.Command (ResourceAdd role ven resource)))
 asked_by_post role _ body = Ok None
 
@@ -66,6 +74,7 @@ unfoldable pub asked_by_put : Role → Path → List ℕ → Result (Option Aske
 asked_by_put role (path.Ven id) body = ven_of body >>= λ ven. Ok (Some (asked.Command (VenPut role id ven)))
 asked_by_put role (path.Resource ven id) body = resource_of body >>= λ resource. Ok (Some (asked.Command (ResourcePut role ven id resource)))
 asked_by_put role (path.Report id) body = report_of body >>= λ report. Ok (Some (asked.Command (ReportPut role id report)))
+asked_by_put role (path.Sub id) body = sub_of body >>= λ sub. Ok (Some (asked.Command (SubPut role id sub)))
 asked_by_put role (path.Share program resource) body = share_of body >>= λ share. Ok (Some (asked.Command (ShareSet role program resource share)))
 asked_by_put role _ body = Ok None
 
@@ -74,6 +83,7 @@ unfoldable pub asked_by_delete : Role → Path → Option Asked
 asked_by_delete role (path.Ven id) = Some (asked.Command (VenRemove role id))
 asked_by_delete role (path.Resource ven id) = Some (asked.Command (ResourceRemove role ven id))
 asked_by_delete role (path.Report id) = Some (asked.Command (ReportDelete role id))
+asked_by_delete role (path.Sub id) = Some (asked.Command (SubDelete role id))
 asked_by_delete role (path.Share program resource) = Some (asked.Command (ShareSet role program resource (record { share = 0 })))
 asked_by_delete role _ = None
 

@@ -20,7 +20,10 @@ fn posts(command: &Command) -> bool
 {
     matches!(
         command,
-        Command::VenAdd { .. } | Command::ResourceAdd { .. } | Command::ReportPost { .. }
+        Command::VenAdd { .. }
+            | Command::ResourceAdd { .. }
+            | Command::ReportPost { .. }
+            | Command::SubPost { .. }
     )
 }
 

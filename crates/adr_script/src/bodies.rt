@@ -10,7 +10,7 @@ use adr_state::MirrorKey;
 use adr_text::{Name, ObjectId, Refusal};
 use adr_written::{
     write_event, write_problem, write_program, write_report, write_resource, write_rollup,
-    write_share, write_ven,
+    write_share, write_sub, write_ven,
 };
 use std::alloc::{AllocError, Global};
 
@@ -24,6 +24,7 @@ fn object_text(alloc: Global, object: &Object) -> Result<String, AllocError>
         Object::Ven(ven) => write_ven(alloc, ven),
         Object::Resource(resource) => write_resource(alloc, resource),
         Object::Share(share) => write_share(alloc, share),
+        Object::Sub(sub) => write_sub(alloc, sub),
     }
 }
 

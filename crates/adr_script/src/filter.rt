@@ -1,5 +1,5 @@
-//! The filters of a listing: of events programID, targetType and targetValues, of reports programID and
-//! clientName (OpenADR 3.0).
+//! The filters of a listing: of events programID, targetType and targetValues, of reports and of
+//! subscriptions programID and clientName (OpenADR 3.0).
 ghost use Rattle.std.specs.Prelude.{◌≡◌, map, IfOk};
 ghost use Rattle.std.specs.Cow.{cow_str_bytes};
 ghost use Rattle.std.specs.Option.{option_copied};
@@ -130,7 +130,7 @@ fn client_filter(alloc: Global, query: &[u8]) -> Result<Option<Rows<Name>>, Refu
     Ok(clients_of(alloc, name)?)
 }
 
-/// Which reports a query asks for; `BadShape` where it asks in another form.
+/// Which reports, or which subscriptions, a query asks for; `BadShape` where it asks in another form.
 #[tactic(auto, unfolding(crate::specs::Filters::report_filter_asked))]
 pub(crate) fn report_filter_asked(alloc: Global, query: &[u8]) -> Result<ReportFilter, Refusal>
     ensures { Gives (λ filter. filter) result (report_filter_asked query.now) }

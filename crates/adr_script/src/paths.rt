@@ -1,7 +1,7 @@
 //! Paths, and the ids in them.
 ghost use Rattle.std.specs.Prelude.{◌≡◌, IfOk, codes};
 ghost use Rattle.adr_script.specs.Cuts.{cut, behind};
-ghost use Rattle.adr_script.specs.Paths.{both_ids, under_ven, ven_path, share_path, report_path, item_path, longer_path, path_of};
+ghost use Rattle.adr_script.specs.Paths.{both_ids, under_ven, ven_path, share_path, sub_path, report_path, item_path, longer_path, path_of};
 
 use crate::cuts::{behind, cut};
 use crate::words::id_from;
@@ -25,6 +25,10 @@ pub enum Path {
     Report(ObjectId),
     /// `/rollups/{eventID}`
     Rollup(ObjectId),
+    /// `/subscriptions`
+    Subs,
+    /// `/subscriptions/{id}`
+    Sub(ObjectId),
     /// `/notifications`
     Notifications,
     /// `/vens`
@@ -103,7 +107,18 @@ fn share_path(alloc: Global, rest: &[u8]) -> Result<Option<Path>, AllocError>
     }
 }
 
-/// A report, or the roll-up of an event.
+/// A subscription.
+#[tactic(auto, unfolding(crate::specs::Paths::sub_path))]
+fn sub_path(alloc: Global, path: &[u8]) -> Result<Option<Path>, AllocError>
+    ensures { IfOk result (λ found. found ≡ sub_path path.now) }
+{
+    match behind(b"/subscriptions/", path) {
+        Some(id) => Ok(id_from(alloc, id)?.map(Path::Sub)),
+        None => Ok(None),
+    }
+}
+
+/// A report, the roll-up of an event, or a subscription.
 #[tactic(auto, unfolding(crate::specs::Paths::report_path))]
 fn report_path(alloc: Global, path: &[u8]) -> Result<Option<Path>, AllocError>
     ensures { IfOk result (λ found. found ≡ report_path path.now) }
@@ -113,11 +128,11 @@ fn report_path(alloc: Global, path: &[u8]) -> Result<Option<Path>, AllocError>
     }
     match behind(b"/rollups/", path) {
         Some(event) => Ok(id_from(alloc, event)?.map(Path::Rollup)),
-        None => Ok(None),
+        None => sub_path(alloc, path),
     }
 }
 
-/// A program, an event, a report or a roll-up.
+/// A program, an event, a report, a roll-up or a subscription.
 #[tactic(auto, unfolding(crate::specs::Paths::item_path))]
 fn item_path(alloc: Global, path: &[u8]) -> Result<Option<Path>, AllocError>
     ensures { IfOk result (λ found. found ≡ item_path path.now) }
@@ -156,6 +171,8 @@ pub(crate) fn path_of(alloc: Global, path: &[u8]) -> Result<Option<Path>, AllocE
         Ok(Some(Path::Events))
     } else if path == b"/reports".as_slice() {
         Ok(Some(Path::Reports))
+    } else if path == b"/subscriptions".as_slice() {
+        Ok(Some(Path::Subs))
     } else if path == b"/notifications".as_slice() {
         Ok(Some(Path::Notifications))
     } else if path == b"/vens".as_slice() {

@@ -2,7 +2,7 @@
 ghost use Rattle.std.specs.Prelude.{◌≡◌, unwrap_or, IfOk};
 ghost use Rattle.std.specs.Option.{option_copied};
 ghost use Rattle.adr_text.specs.Refusals.{Gives};
-ghost use Rattle.adr_script.specs.Requests.{told_asked, notified, asked_by_get, asked_by_post, asked_by_put, asked_by_delete, asked_by, asked_of, request_of};
+ghost use Rattle.adr_script.specs.Requests.{told_asked, notified, listing_asked, asked_by_get, asked_by_post, asked_by_put, asked_by_delete, asked_by, asked_of, request_of};
 
 use crate::asked::Asked;
 use crate::cuts::cut;
@@ -13,8 +13,49 @@ use crate::words::{role_from, text_from};
 use adr_machine::{Command, Query, Role};
 use adr_objects::ShareIn;
 use adr_schema::{NoticeIn, read_notice, read_report, read_resource, read_share, read_ven};
+use adr_subscription::read_sub;
 use adr_text::{Refusal, Rows};
 use std::alloc::{AllocError, Global};
+
+/// The listings of paths with no id in them. The path is looked at by reference: taken apart, each kind of path would be
+/// dropped anew wherever the query is refused.
+#[tactic(auto, unfolding(crate::specs::Requests::listing_asked))]
+fn listing_asked(
+    alloc: Global,
+    role: Role,
+    path: &Path,
+    query: &[u8],
+) -> Result<Option<Asked>, Refusal>
+    ensures { Gives (λ a. a) result (listing_asked role path.now query.now) }
+{
+    let query = match path {
+        Path::Programs => {
+            let page = page_asked(alloc, query)?;
+            Query::Programs { role, page }
+        }
+        Path::Events => {
+            let filter = filter_asked(alloc, query)?;
+            let page = page_asked(alloc, query)?;
+            Query::Events { role, filter, page }
+        }
+        Path::Reports => {
+            let filter = report_filter_asked(alloc, query)?;
+            let page = page_asked(alloc, query)?;
+            Query::Reports { role, filter, page }
+        }
+        Path::Subs => {
+            let filter = report_filter_asked(alloc, query)?;
+            let page = page_asked(alloc, query)?;
+            Query::Subs { role, filter, page }
+        }
+        Path::Vens => {
+            let page = page_asked(alloc, query)?;
+            Query::Vens { role, page }
+        }
+        _ => return Ok(None),
+    };
+    Ok(Some(Asked::Query(query)))
+}
 
 /// What is read at a path. Only a listing has a query.
 #[tactic(auto, unfolding(crate::specs::Requests::asked_by_get))]
@@ -27,28 +68,11 @@ fn asked_by_get(
     ensures { Gives (λ a. a) result (asked_by_get role path query.now) }
 {
     let query = match path {
-        Path::Programs => {
-            let page = page_asked(alloc, query)?;
-            Query::Programs { role, page }
-        }
         Path::Program(id) => Query::Program { role, id },
-        Path::Events => {
-            let filter = filter_asked(alloc, query)?;
-            let page = page_asked(alloc, query)?;
-            Query::Events { role, filter, page }
-        }
         Path::Event(id) => Query::Event { role, id },
-        Path::Reports => {
-            let filter = report_filter_asked(alloc, query)?;
-            let page = page_asked(alloc, query)?;
-            Query::Reports { role, filter, page }
-        }
         Path::Report(id) => Query::Report { role, id },
         Path::Rollup(event) => Query::Rollup { role, event },
-        Path::Vens => {
-            let page = page_asked(alloc, query)?;
-            Query::Vens { role, page }
-        }
+        Path::Sub(id) => Query::Sub { role, id },
         Path::Resources(ven) => {
             let page = page_asked(alloc, query)?;
             Query::Resources { role, ven, page }
@@ -56,7 +80,7 @@ fn asked_by_get(
         Path::Ven(id) => Query::Ven { role, id },
         Path::Resource { ven, id } => Query::Resource { role, ven, id },
         Path::Shares(program) => Query::Shares { role, program },
-        Path::Notifications | Path::Share { .. } => return Ok(None),
+        listing => return listing_asked(alloc, role, &listing, query),
     };
     Ok(Some(Asked::Query(query)))
 }
@@ -113,6 +137,10 @@ fn asked_by_post(
             let report = read_report(alloc, body)?;
             Ok(Some(Asked::Command(Command::ReportPost { role, report })))
         }
+        Path::Subs => {
+            let sub = read_sub(alloc, body)?;
+            Ok(Some(Asked::Command(Command::SubPost { role, sub })))
+        }
         Path::Resources(ven) => {
             let resource = read_resource(alloc, body)?;
             Ok(Some(Asked::Command(Command::ResourceAdd {
@@ -153,6 +181,10 @@ fn asked_by_put(
             let report = read_report(alloc, body)?;
             Command::ReportPut { role, id, report }
         }
+        Path::Sub(id) => {
+            let sub = read_sub(alloc, body)?;
+            Command::SubPut { role, id, sub }
+        }
         Path::Share { program, resource } => {
             let share = read_share(alloc, body)?;
             Command::ShareSet {
@@ -176,6 +208,7 @@ fn asked_by_delete(role: Role, path: Path) -> Option<Asked>
         Path::Ven(id) => Command::VenRemove { role, id },
         Path::Resource { ven, id } => Command::ResourceRemove { role, ven, id },
         Path::Report(id) => Command::ReportDelete { role, id },
+        Path::Sub(id) => Command::SubDelete { role, id },
         Path::Share { program, resource } => Command::ShareSet {
             role,
             program,

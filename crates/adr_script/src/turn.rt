@@ -77,6 +77,14 @@ fn answer_words<D: Desk>(
     }
 }
 
+/// The text alone, when what it answers is done with. Over any type, since that is dropped here: where its type is known,
+/// each kind of what is asked would be a path of its own.
+fn without<T: Drop>(_answered: T, text: Result<String, AllocError>) -> Result<String, AllocError>
+    ensures { result ≡ text }
+{
+    text
+}
+
 /// The turn of a role, or of the node itself.
 fn answer_role<D: Desk>(
     alloc: Global,
@@ -92,7 +100,8 @@ fn answer_role<D: Desk>(
 {
     // The words are looked at by reference: taken apart, each kind of what is asked would be a path of its own here.
     let words = words_asked(alloc, role, rest);
-    answer_words(alloc, desk, now, role, &words)
+    let text = answer_words(alloc, desk, now, role, &words);
+    without(words, text)
 }
 
 /// The turn of a line.
