@@ -1,7 +1,9 @@
 //! Whether two answers are the same, with all that they hold.
 use crate::portfolio::is_same_report;
+use crate::subs::is_same_sub;
 use adr_machine::{Answer, Object};
 use adr_objects::{EventObject, ReportObject, Rollup, RollupInterval, ShownEvent};
+use adr_subscription::SubObject;
 use adr_text::Refusal;
 
 fn is_same_head(event: &ShownEvent, other: &ShownEvent) -> bool {
@@ -31,6 +33,10 @@ fn is_same_report_object(report: &ReportObject, other: &ReportObject) -> bool {
         && is_same_report(&report.body, &other.body)
 }
 
+fn is_same_sub_object(sub: &SubObject, other: &SubObject) -> bool {
+    sub.number == other.number && sub.stamps == other.stamps && is_same_sub(&sub.sub, &other.sub)
+}
+
 fn is_same_sum(interval: &RollupInterval, other: &RollupInterval) -> bool {
     interval.id == other.id
         && interval.sum == other.sum
@@ -57,6 +63,7 @@ fn is_same_object(object: &Object, other: &Object) -> bool {
         (Object::Ven(ven), Object::Ven(other)) => ven == other,
         (Object::Resource(resource), Object::Resource(other)) => resource == other,
         (Object::Share(share), Object::Share(other)) => share == other,
+        (Object::Sub(sub), Object::Sub(other)) => is_same_sub_object(sub, other),
         _ => false,
     }
 }

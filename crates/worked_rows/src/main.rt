@@ -31,6 +31,7 @@ mod report;
 mod row;
 mod same;
 mod site_reports;
+mod subs;
 mod texts;
 mod twin;
 mod whole_run;

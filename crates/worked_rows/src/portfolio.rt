@@ -1,6 +1,8 @@
-//! Whether two bases hold the same vens, resources, shares and reports.
+//! Whether two bases hold the same vens, resources, shares, reports and subscriptions.
+use crate::subs::is_same_sub;
 use adr_objects::{Number, ReportBody, ReportHead};
 use adr_state::{Base, Report, Resource, Resources, ShareKey, Ven, Weight};
+use adr_subscription::Sub;
 use adr_text::Table;
 
 fn has_ven(vens: &Table<Number, Ven>, number: &Number, ven: &Ven) -> bool {
@@ -71,11 +73,30 @@ fn are_same_reports(reports: &Table<Number, Report>, others: &Table<Number, Repo
             .all(|(number, report)| has_report(others, number, report))
 }
 
-/// Whether both hold the same vens, resources, shares and reports, and drew as many numbers.
+fn has_sub(subs: &Table<Number, Sub>, number: &Number, sub: &Sub) -> bool {
+    match subs.get(number) {
+        Some(other) => {
+            sub.owner == other.owner
+                && sub.stamps == other.stamps
+                && is_same_sub(&sub.body, &other.body)
+        }
+        None => false,
+    }
+}
+
+fn are_same_subs(subs: &Table<Number, Sub>, others: &Table<Number, Sub>) -> bool {
+    subs.len() == others.len()
+        && subs
+            .iter()
+            .all(|(number, sub)| has_sub(others, number, sub))
+}
+
+/// Whether both hold the same vens, resources, shares, reports and subscriptions, and drew as many numbers.
 pub fn is_same_portfolio(base: &Base, other: &Base) -> bool {
     base.serial == other.serial
         && are_same_vens(&base.portfolio.vens, &other.portfolio.vens)
         && are_same_resources(&base.portfolio.resources, &other.portfolio.resources)
         && are_same_shares(&base.portfolio.shares, &other.portfolio.shares)
         && are_same_reports(&base.portfolio.reports, &other.portfolio.reports)
+        && are_same_subs(&base.portfolio.subs, &other.portfolio.subs)
 }

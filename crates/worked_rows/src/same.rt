@@ -59,7 +59,8 @@ fn is_same_scan(scan: &Option<Polled>, other: &Option<Polled>) -> bool {
     }
 }
 
-/// Whether both hold the same mirror, the same scan, the same vens, resources, shares and reports, and the same serial.
+/// Whether both hold the same mirror, the same scan, the same vens, resources, shares, reports and subscriptions, and the
+/// same serial.
 fn is_same_base(alloc: Global, base: &Base, other: &Base) -> Result<bool, AllocError> {
     let mirror = is_same_mirror(alloc, &base.mirror, &other.mirror)?;
     Ok(mirror && is_same_scan(&base.scan, &other.scan) && is_same_portfolio(base, other))
