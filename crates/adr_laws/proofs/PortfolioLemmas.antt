@@ -127,7 +127,6 @@ module _ (first : Base) where
         h.1,
         some_reports h.2 p.vens p.resources _ (rises serial draws) (in_order_removed nat_cmp (is_at (nat_cmp n)) p.reports h.2.own.in_order) left (is_one serial p.vens) (is_one serial p.resources) (λ r there. h.2.on_others r (left r there)),
       )
-
   change_whole serial draws p (PutSub n sub) fits h = later serial (serial_then serial draws) p (rises serial draws) h
   change_whole serial draws p (DropSub n) fits h = later serial (serial_then serial draws) p (rises serial draws) h
 
@@ -192,9 +191,9 @@ numbers_own settings cs =
     let whole : Whole empty.base base = whole_after settings cs in
     let h = whole.0 in
     let each : (P : ℕ → Type 0) → ((n : ℕ) (had : List ℕ) → IsDrawn 0 had base.serial n → P n) → All P (numbers_of base) =
-        λ P from. All-append P (both ++ keys_of base.portfolio.reports) (keys_of base.portfolio.subs)
-        (All-append P both (keys_of base.portfolio.reports) (each_drawn h.0 P from) (each_number P base.portfolio.reports (λ r there. from r.0 [] (h.2.own.drawn r there))))
-        (each_number P base.portfolio.subs (λ s there. from s.0 [] (whole.1.drawn s there))) in
+    λ P from. All-append P (both ++ keys_of base.portfolio.reports) (keys_of base.portfolio.subs)
+    (All-append P both (keys_of base.portfolio.reports) (each_drawn h.0 P from) (each_number P base.portfolio.reports (λ r there. from r.0 [] (h.2.own.drawn r there))))
+    (each_number P base.portfolio.subs (λ s there. from s.0 [] (whole.1.drawn s there))) in
     record {
       at_least_one = each (λ n. 1 ≤ n) (λ n had drawn. drawn.at_least_one);
       up_to_the_serial = each (λ n. n ≤ base.serial) (λ n had drawn. drawn.up_to_the_serial);

@@ -1,5 +1,5 @@
 -- The subscriptions: each has a number of its own, that was drawn, and its owner is there.
-use Rattle.std.proofs.Common.{◌≡◌, ℕ, ◌+◌, ◌≤◌, Bool, true, false, not, ◌==◌, List, [], ◌++◌, ◌⊎◌, inl, inr, Option, Some, None, refl, sym, ap, subst, ◌∙◌, arith}
+use Rattle.std.proofs.Common.{◌≡◌, ℕ, ◌+◌, ◌≤◌, Bool, true, false, not, ◌==◌, List, [], ◌++◌, ◌⊎◌, inl, inr, Option, Some, None, sym, subst, ◌∙◌, arith}
 use Rattle.std.specs.Prelude.{◌≢◌, IsSome, IfSome}
 use Rattle.std.specs.Map.{remove_entry}
 use Rattle.std.specs.Option.{option_map_or}
@@ -9,7 +9,7 @@ use Rattle.adr_state.specs.declared.portfolio.Portfolio.{Portfolio}
 use Rattle.adr_state.specs.declared.portfolio.Report.{Report}
 use Rattle.adr_state.specs.declared.portfolio.Resource.{Resource}
 use Rattle.adr_state.specs.declared.portfolio.Ven.{Ven}
-use Rattle.adr_state.specs.Portfolios.{is_of_ven, is_sub_of, reported_on, PortfolioChange, PutVen, DropVen, PutResource, DropResource, PutShare, DropShare, PutReport, DropReport, PutSub, DropSub, nobody, portfolio_after}
+use Rattle.adr_state.specs.Portfolios.{is_of_ven, is_sub_of, reported_on, PortfolioChange, PutVen, DropVen, PutResource, DropResource, PutReport, DropReport, PutSub, DropSub, nobody, portfolio_after}
 use Rattle.adr_laws.specs.Laws.{HasOwner}
 use Rattle.adr_view.proofs.OrderLemmas.{InOrder, none_sorted, each_row, in_order_put, in_order_removed, in_order_filtered}
 use Rattle.adr_view.proofs.RowLemmas.{from_put, from_removal, from_filter, found_after_put, found_after_removal}

@@ -1,5 +1,5 @@
 -- By what a subscription is refused that isn't settled.
-use Rattle.std.proofs.Common.{◌≡◌, ◌≢◌, ℕ, nat_le, length, Bool, true, false, cond, List, [], ◌∷◌, None, Result, Ok, Err, IfErr, refl, subst}
+use Rattle.std.proofs.Common.{◌≡◌, ◌≢◌, nat_le, length, Bool, true, false, cond, List, [], ◌∷◌, None, Result, Ok, Err, IfErr, refl, subst}
 use Rattle.std.proofs.lemmas.Result.{IfErr-at_err}
 use Rattle.url.specs.Parts.{Parts, serialize}
 use Rattle.url.specs.Parser.{Parsed, parse_url}
