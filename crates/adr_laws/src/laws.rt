@@ -8,9 +8,9 @@ pub fn mirror_is_greatest()
     ensures { MirrorIsGreatest }
 {}
 
-/// After any run from an empty start, each resource has its ven and each share its resource, so nothing is
-/// left of what was removed, and no report is left on a resource that is not there; each share has a weight
-/// from 1 to 1,000,000; and no two vens have one name, nor two resources.
+/// After any run from an empty start, each resource and each subscription of a ven has its ven, and each share its
+/// resource, so nothing is left of what was removed, and no report is left on a resource that is not there; each
+/// share has a weight from 1 to 1,000,000; and no two vens have one name, nor two resources.
 pub fn portfolio_is_whole()
     ensures { PortfolioIsWhole }
 {}
@@ -40,9 +40,9 @@ pub fn only_live_events_are_shown()
     ensures { OnlyLiveEventsAreShown }
 {}
 
-/// After any run from an empty start, each ven, each resource and each report has a number of its own, from 1
-/// up to the serial, and each report a revision of its own, which is its number or was drawn later; and whatever
-/// commands follow, the serial never falls and no number is drawn again.
+/// After any run from an empty start, each ven, each resource, each report and each subscription has a number of its
+/// own, from 1 up to the serial, and each report a revision of its own, which is its number or was drawn later; and
+/// whatever commands follow, the serial never falls and no number is drawn again.
 pub fn numbers_are_drawn_once()
     ensures own { NumbersAreOwn }
     ensures revisions { RevisionsAreOwn }
