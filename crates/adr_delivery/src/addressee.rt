@@ -8,7 +8,7 @@ use adr_subscription::{BearerToken, FreeText};
 use adr_text::ObjectId;
 
 /// Where an entry of the outbox goes. A destination is the utility, or one subscription.
-#[derive(Clone, Drop)]
+#[derive(Clone)]
 pub enum Addressee {
     /// To the utility: the roll-up of that upstream event, as a report (OpenADR 3.0, REPORT).
     Utility(ObjectId),
@@ -18,6 +18,19 @@ pub enum Addressee {
         address: FreeText,
         token: Option<BearerToken>,
     },
+}
+
+impl Drop for Addressee {
+    fn drop(self) {
+        match self {
+            Addressee::Utility(_) => (),
+            Addressee::Subscriber {
+                subscription: _,
+                address: _,
+                token: _,
+            } => (),
+        }
+    }
 }
 
 impl Addressee {

@@ -8,7 +8,7 @@ use adr_subscription::{FreeText, OperationKind};
 use std::alloc::AllocError;
 
 /// One message that waits to be sent.
-#[derive(Clone, Drop)]
+#[derive(Clone)]
 pub struct Entry {
     pub addressee: Addressee,
     /// What was done to the object that it tells of (OpenADR 3.0, operation).
@@ -16,6 +16,17 @@ pub struct Entry {
     /// The bytes of the request's body, a JSON text.
     pub body: FreeText,
     pub delivery: Delivery,
+}
+
+impl Drop for Entry {
+    fn drop(self) {
+        let Entry {
+            addressee: _,
+            operation: _,
+            body: _,
+            delivery: _,
+        } = self;
+    }
 }
 
 impl Entry {

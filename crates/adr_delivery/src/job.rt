@@ -19,7 +19,6 @@ pub enum JobMethod {
 }
 
 /// An entry that was leased, as it is to be sent.
-#[derive(Drop)]
 pub struct Job {
     pub entry: Number,
     /// The number of the lease, by which it is told what came of it.
@@ -31,6 +30,20 @@ pub struct Job {
     pub target: FreeText,
     pub token: Option<BearerToken>,
     pub body: FreeText,
+}
+
+impl Drop for Job {
+    fn drop(self) {
+        let Job {
+            entry: _,
+            lease: _,
+            destination: _,
+            method: _,
+            target: _,
+            token: _,
+            body: _,
+        } = self;
+    }
 }
 
 /// Where a report is sent to: a new one, or in the place of the one that the utility gave that id.

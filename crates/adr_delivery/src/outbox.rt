@@ -22,11 +22,21 @@ pub struct EntryCounts {
 
 /// The entries that wait, by their numbers; the utility's ids of the reports that it was sent, by their upstream events;
 /// and how many entries there were.
-#[derive(Clone, Drop)]
+#[derive(Clone)]
 pub struct Outbox {
     pub entries: Table<Number, Entry>,
     pub remotes: Table<ObjectId, ObjectId>,
     pub counts: EntryCounts,
+}
+
+impl Drop for Outbox {
+    fn drop(self) {
+        let Outbox {
+            entries: _,
+            remotes: _,
+            counts: _,
+        } = self;
+    }
 }
 
 impl Outbox {

@@ -8,7 +8,7 @@ use adr_subscription::SubIn;
 use adr_text::{ObjectId, Rows};
 
 /// A command. Each is one step, at a moment.
-#[derive(Clone, Drop)]
+#[derive(Clone)]
 pub enum Command {
     /// Versions of upstream objects were found, in a page that was polled or in a notification.
     /// Refused where keys would pass their limit.
@@ -113,6 +113,63 @@ pub enum Command {
         role: Role,
         id: ObjectId,
     },
+}
+
+impl Drop for Command {
+    fn drop(self) {
+        match self {
+            Command::Evidence {
+                found: _,
+                polled: _,
+            } => (),
+            Command::Gone { kind: _, id: _ } => (),
+            Command::ScanBegin => (),
+            Command::ScanEnd => (),
+            Command::VenAdd { role: _, ven: _ } => (),
+            Command::VenPut {
+                role: _,
+                id: _,
+                ven: _,
+            } => (),
+            Command::VenRemove { role: _, id: _ } => (),
+            Command::ResourceAdd {
+                role: _,
+                ven: _,
+                resource: _,
+            } => (),
+            Command::ResourcePut {
+                role: _,
+                ven: _,
+                id: _,
+                resource: _,
+            } => (),
+            Command::ResourceRemove {
+                role: _,
+                ven: _,
+                id: _,
+            } => (),
+            Command::ShareSet {
+                role: _,
+                program: _,
+                resource: _,
+                share: _,
+            } => (),
+            Command::ReportPost { role: _, report: _ } => (),
+            Command::ReportPut {
+                role: _,
+                id: _,
+                report: _,
+            } => (),
+            Command::ReportDelete { role: _, id: _ } => (),
+            Command::SubPost { role: _, sub: _ } => (),
+            Command::SubPut {
+                role: _,
+                id: _,
+                sub: _,
+            } => (),
+            Command::SubDelete { role: _, id: _ } => (),
+        }
+    }
 }
 
 impl Command {

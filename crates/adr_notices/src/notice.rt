@@ -19,7 +19,6 @@ pub struct EventNames {
 }
 
 /// What a change of a program, of an event as it is shown, or of a report tells (OpenADR 3.0, notification).
-#[derive(Drop)]
 pub struct Notice {
     /// objectType
     pub kind: ObjectKind,
@@ -33,6 +32,19 @@ pub struct Notice {
     pub names: Option<EventNames>,
     /// The text that tells it.
     pub body: FreeText,
+}
+
+impl Drop for Notice {
+    fn drop(self) {
+        let Notice {
+            kind: _,
+            operation: _,
+            program: _,
+            ven: _,
+            names: _,
+            body: _,
+        } = self;
+    }
 }
 
 /// What happened at a key of the view, as it is told.

@@ -14,9 +14,15 @@ use std::marker::Model;
 
 /// The id of an upstream object: an object id of at most 100 bytes, so that the ids of the events that
 /// are made of it stay within 128.
-#[derive(Clone, Drop)]
+#[derive(Clone)]
 pub struct UpstreamId {
     id: ObjectId,
+}
+
+impl Drop for UpstreamId {
+    fn drop(self) {
+        let UpstreamId { id: _ } = self;
+    }
 }
 
 impl Model for UpstreamId {
@@ -46,7 +52,6 @@ pub enum Reason {
 }
 
 /// An event as the utility says it, so far as this node reads it (OpenADR 3.0, EVENT).
-#[derive(Drop)]
 pub struct EventBody {
     pub program: ObjectId,
     pub name: Option<EventName>,
@@ -57,14 +62,36 @@ pub struct EventBody {
     pub intervals: Intervals,
 }
 
+impl Drop for EventBody {
+    fn drop(self) {
+        let EventBody {
+            program: _,
+            name: _,
+            priority: _,
+            period: _,
+            resource_names: _,
+            intervals: _,
+        } = self;
+    }
+}
+
 /// What an upstream object says.
-#[derive(Drop)]
 pub enum Body {
     /// A program's name.
     Program(Name),
     Event(EventBody),
     /// A body with a fault, of which only the reason is kept.
     Opaque(Reason),
+}
+
+impl Drop for Body {
+    fn drop(self) {
+        match self {
+            Body::Program(_) => (),
+            Body::Event(_) => (),
+            Body::Opaque(_) => (),
+        }
+    }
 }
 
 /// One version of an upstream object.

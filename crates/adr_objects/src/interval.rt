@@ -11,19 +11,39 @@ use std::alloc::{AllocError, Global};
 use std::marker::Model;
 
 /// When something is, in texts that are copied unread (OpenADR 3.0, intervalPeriod).
-#[derive(Clone, PartialEq, Eq, Drop)]
+#[derive(Clone, PartialEq, Eq)]
 pub struct Period {
     pub start: PeriodText,
     pub duration: Option<PeriodText>,
     pub randomize_start: Option<PeriodText>,
 }
 
+impl Drop for Period {
+    fn drop(self) {
+        let Period {
+            start: _,
+            duration: _,
+            randomize_start: _,
+        } = self;
+    }
+}
+
 /// One interval of an upstream event. It is carried where it has a setpoint.
-#[derive(Clone, PartialEq, Eq, Drop)]
+#[derive(Clone, PartialEq, Eq)]
 pub struct Interval {
     pub id: i32,
     pub period: Option<Period>,
     pub setpoint: Option<Setpoint>,
+}
+
+impl Drop for Interval {
+    fn drop(self) {
+        let Interval {
+            id: _,
+            period: _,
+            setpoint: _,
+        } = self;
+    }
 }
 
 /// What has an id among those that it is listed with.
@@ -44,9 +64,14 @@ impl HasId for Interval {
 }
 
 /// At most 1,000 intervals, in the order in which they came, no two of them with one id.
-#[derive(Drop)]
 pub struct IntervalList<T: HasId> {
     items: Vec<T>,
+}
+
+impl<T: HasId + Drop> Drop for IntervalList<T> {
+    fn drop(self) {
+        let IntervalList { items: _ } = self;
+    }
 }
 
 impl<T: HasId> Model for IntervalList<T> {
@@ -130,7 +155,8 @@ impl<T: HasId> IntervalList<T> {
     pub fn into_rows(self) -> Rows<T>
         ensures { result ≡ self }
     {
-        Rows::from_vec(self.items)
+        let IntervalList { items } = self;
+        Rows::from_vec(items)
     }
 }
 

@@ -15,9 +15,15 @@ use std::collections::btree_set::Iter;
 use std::marker::Model;
 
 /// A set of at most 10,000 names, ascending by bytes. It may be empty.
-#[derive(Clone, Drop)]
+#[derive(Clone)]
 pub struct NameSet {
     names: BTreeSet<Name>,
+}
+
+impl Drop for NameSet {
+    fn drop(self) {
+        let NameSet { names: _ } = self;
+    }
 }
 
 impl Model for NameSet {

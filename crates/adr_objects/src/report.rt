@@ -42,7 +42,6 @@ impl Clone for UsageIntervals {
 }
 
 /// What a report is about, and who made it.
-#[derive(Drop)]
 pub struct ReportHead {
     pub program: ObjectId,
     /// The id of the upstream event.
@@ -55,35 +54,84 @@ pub struct ReportHead {
     pub resource_name: Name,
 }
 
+impl Drop for ReportHead {
+    fn drop(self) {
+        let ReportHead {
+            program: _,
+            event: _,
+            resource: _,
+            client: _,
+            name: _,
+            resource_name: _,
+        } = self;
+    }
+}
+
 /// What a report says: its intervals stand in the order in which they were posted.
-#[derive(Drop)]
 pub struct ReportBody {
     pub head: ReportHead,
     pub intervals: Rows<UsageInterval>,
 }
 
+impl Drop for ReportBody {
+    fn drop(self) {
+        let ReportBody {
+            head: _,
+            intervals: _,
+        } = self;
+    }
+}
+
 /// A report of a site (OpenADR 3.0, REPORT).
-#[derive(Clone, Drop)]
+#[derive(Clone)]
 pub struct ReportObject {
     pub number: Number,
     pub body: ReportBody,
     pub stamps: Stamps,
 }
 
+impl Drop for ReportObject {
+    fn drop(self) {
+        let ReportObject {
+            number: _,
+            body: _,
+            stamps: _,
+        } = self;
+    }
+}
+
 /// An interval of a roll-up: the sum of the usage of those that have one, in the utility's unit, and
 /// the names of those that have none, ascending by bytes.
-#[derive(Clone, Drop)]
+#[derive(Clone)]
 pub struct RollupInterval {
     pub id: i32,
     pub sum: i64,
     pub missing: Rows<Name>,
 }
 
+impl Drop for RollupInterval {
+    fn drop(self) {
+        let RollupInterval {
+            id: _,
+            sum: _,
+            missing: _,
+        } = self;
+    }
+}
+
 /// What the sites used in an upstream event, in all.
-#[derive(Drop)]
 pub struct Rollup {
     pub program: ObjectId,
     pub intervals: Rows<RollupInterval>,
+}
+
+impl Drop for Rollup {
+    fn drop(self) {
+        let Rollup {
+            program: _,
+            intervals: _,
+        } = self;
+    }
 }
 
 /// A roll-up as it is told to the utility: under the node's name, and the id of the upstream event

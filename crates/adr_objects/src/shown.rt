@@ -18,15 +18,24 @@ pub struct Stamps {
 
 /// An interval of a shown event, with the resource's part of the setpoint, in the utility's unit,
 /// where the upstream interval carries one.
-#[derive(Clone, PartialEq, Eq, Drop)]
+#[derive(Clone, PartialEq, Eq)]
 pub struct ShownInterval {
     pub id: i32,
     pub period: Option<Period>,
     pub part: Option<i64>,
 }
 
+impl Drop for ShownInterval {
+    fn drop(self) {
+        let ShownInterval {
+            id: _,
+            period: _,
+            part: _,
+        } = self;
+    }
+}
+
 /// What one resource is shown of an upstream event.
-#[derive(Drop)]
 pub struct ShownEvent {
     pub program: ObjectId,
     pub name: Option<EventName>,
@@ -35,6 +44,20 @@ pub struct ShownEvent {
     pub intervals: Rows<ShownInterval>,
     pub ven_name: Name,
     pub resource_name: Name,
+}
+
+impl Drop for ShownEvent {
+    fn drop(self) {
+        let ShownEvent {
+            program: _,
+            name: _,
+            priority: _,
+            period: _,
+            intervals: _,
+            ven_name: _,
+            resource_name: _,
+        } = self;
+    }
 }
 
 /// A program of the utility (OpenADR 3.0, PROGRAM).
@@ -46,13 +69,24 @@ pub struct ProgramObject {
 }
 
 /// A shown event, with its id's two parts and its stamps.
-#[derive(Clone, Drop)]
+#[derive(Clone)]
 pub struct EventObject {
     pub resource: Number,
     /// The id of the upstream event.
     pub event: ObjectId,
     pub shown: ShownEvent,
     pub stamps: Stamps,
+}
+
+impl Drop for EventObject {
+    fn drop(self) {
+        let EventObject {
+            resource: _,
+            event: _,
+            shown: _,
+            stamps: _,
+        } = self;
+    }
 }
 
 /// An enrolled ven (OpenADR 3.0, VEN).

@@ -10,9 +10,15 @@ use std::marker::Model;
 
 /// The name of a resource: a name other than `AGGREGATED_REPORT`, which stands for no resource
 /// (OpenADR 3.0, resourceName of a report).
-#[derive(Clone, PartialEq, Eq, Drop)]
+#[derive(Clone, PartialEq, Eq)]
 pub struct ResourceName {
     name: Name,
+}
+
+impl Drop for ResourceName {
+    fn drop(self) {
+        let ResourceName { name: _ } = self;
+    }
 }
 
 impl Model for ResourceName {

@@ -11,9 +11,15 @@ use std::alloc::{AllocError, Global};
 use std::marker::Model;
 
 /// A text of at most `MOST` bytes.
-#[derive(Clone, Drop)]
+#[derive(Clone)]
 pub struct Text<const MOST: usize> {
     text: String,
+}
+
+impl<const MOST: usize> Drop for Text<MOST> {
+    fn drop(self) {
+        let Text { text: _ } = self;
+    }
 }
 
 impl<const MOST: usize> Model for Text<MOST> {

@@ -7,7 +7,6 @@ use adr_subscription::SubObject;
 use adr_text::{ObjectId, Rows};
 
 /// An object as it is shown.
-#[derive(Drop)]
 pub enum Object {
     Program(ProgramObject),
     Event(EventObject),
@@ -18,8 +17,21 @@ pub enum Object {
     Sub(SubObject),
 }
 
+impl Drop for Object {
+    fn drop(self) {
+        match self {
+            Object::Program(_) => (),
+            Object::Event(_) => (),
+            Object::Report(_) => (),
+            Object::Ven(_) => (),
+            Object::Resource(_) => (),
+            Object::Share(_) => (),
+            Object::Sub(_) => (),
+        }
+    }
+}
+
 /// An answer to a command or a query.
-#[derive(Drop)]
 pub enum Answer {
     Done,
     /// How many keys of the view changed.
@@ -31,4 +43,18 @@ pub enum Answer {
     Share(ShareObject),
     /// The roll-up of the upstream event of that id.
     Rollup(ObjectId, Rollup),
+}
+
+impl Drop for Answer {
+    fn drop(self) {
+        match self {
+            Answer::Done => (),
+            Answer::Changes(_) => (),
+            Answer::Probes(_) => (),
+            Answer::Object(_) => (),
+            Answer::List(_) => (),
+            Answer::Share(_) => (),
+            Answer::Rollup(_, _) => (),
+        }
+    }
 }

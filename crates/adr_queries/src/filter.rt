@@ -8,7 +8,7 @@ use adr_text::{Name, ObjectId, Rows};
 use std::alloc::{AllocError, Global};
 
 /// Whose events are wanted (OpenADR 3.0, targetType and targetValues).
-#[derive(Clone, Drop)]
+#[derive(Clone)]
 pub enum TargetFilter {
     Any,
     /// Those of a ven of one of these names.
@@ -19,21 +19,50 @@ pub enum TargetFilter {
     Other,
 }
 
+impl Drop for TargetFilter {
+    fn drop(self) {
+        match self {
+            TargetFilter::Any => (),
+            TargetFilter::VenName(_) => (),
+            TargetFilter::ResourceName(_) => (),
+            TargetFilter::Other => (),
+        }
+    }
+}
+
 /// Which events are wanted.
-#[derive(Clone, Drop)]
+#[derive(Clone)]
 pub struct EventFilter {
     /// Those of one of these programs, or of any (OpenADR 3.0, programID).
     pub programs: Option<Rows<ObjectId>>,
     pub target: TargetFilter,
 }
 
+impl Drop for EventFilter {
+    fn drop(self) {
+        let EventFilter {
+            programs: _,
+            target: _,
+        } = self;
+    }
+}
+
 /// Which reports, or which subscriptions, are wanted.
-#[derive(Clone, Drop)]
+#[derive(Clone)]
 pub struct ReportFilter {
     /// Those of one of these programs, or of any (OpenADR 3.0, programID).
     pub programs: Option<Rows<ObjectId>>,
     /// Those of one of these clients, or of any (OpenADR 3.0, clientName).
     pub clients: Option<Rows<Name>>,
+}
+
+impl Drop for ReportFilter {
+    fn drop(self) {
+        let ReportFilter {
+            programs: _,
+            clients: _,
+        } = self;
+    }
 }
 
 fn is_named(names: &Rows<Name>, name: &Name) -> bool

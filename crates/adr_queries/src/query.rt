@@ -11,7 +11,7 @@ pub struct Page {
 }
 
 /// A query, which changes nothing.
-#[derive(Clone, Drop)]
+#[derive(Clone)]
 pub enum Query {
     /// The programs, by id: every enrolled ven sees them.
     Programs {
@@ -96,4 +96,49 @@ pub enum Query {
     Probes {
         limit: u32,
     },
+}
+
+impl Drop for Query {
+    fn drop(self) {
+        match self {
+            Query::Programs { role: _, page: _ } => (),
+            Query::Program { role: _, id: _ } => (),
+            Query::Events {
+                role: _,
+                filter: _,
+                page: _,
+            } => (),
+            Query::Event { role: _, id: _ } => (),
+            Query::Vens { role: _, page: _ } => (),
+            Query::Ven { role: _, id: _ } => (),
+            Query::Resources {
+                role: _,
+                ven: _,
+                page: _,
+            } => (),
+            Query::Resource {
+                role: _,
+                ven: _,
+                id: _,
+            } => (),
+            Query::Shares {
+                role: _,
+                program: _,
+            } => (),
+            Query::Reports {
+                role: _,
+                filter: _,
+                page: _,
+            } => (),
+            Query::Report { role: _, id: _ } => (),
+            Query::Rollup { role: _, event: _ } => (),
+            Query::Subs {
+                role: _,
+                filter: _,
+                page: _,
+            } => (),
+            Query::Sub { role: _, id: _ } => (),
+            Query::Probes { limit: _ } => (),
+        }
+    }
 }

@@ -5,7 +5,7 @@ ghost use Rattle.adr_queries.specs.Roles.{is_operator};
 use adr_text::ObjectId;
 
 /// Who gives a command or asks a query.
-#[derive(Clone, Drop)]
+#[derive(Clone)]
 pub enum Role {
     /// The operator of this node.
     Operator,
@@ -13,6 +13,16 @@ pub enum Role {
     Ven(ObjectId),
     /// The utility.
     Utility,
+}
+
+impl Drop for Role {
+    fn drop(self) {
+        match self {
+            Role::Operator => (),
+            Role::Ven(_) => (),
+            Role::Utility => (),
+        }
+    }
 }
 
 /// Whether the role is the operator's, who alone changes vens, resources and shares.

@@ -5,13 +5,23 @@ ghost use Rattle.adr_script.specs.Bodies.{posts, status_for};
 use adr_machine::{Command, Query};
 
 /// A command, a query, or nothing, which is done at once.
-#[derive(Drop)]
 pub enum Asked {
     Nothing,
     Command(Command),
     /// A page as a command, and how many of its elements were no versions.
     Page(Command, u64),
     Query(Query),
+}
+
+impl Drop for Asked {
+    fn drop(self) {
+        match self {
+            Asked::Nothing => (),
+            Asked::Command(_) => (),
+            Asked::Page(_, _) => (),
+            Asked::Query(_) => (),
+        }
+    }
 }
 
 /// Whether the command posts an object.

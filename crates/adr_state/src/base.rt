@@ -7,7 +7,7 @@ use adr_objects::Body;
 use adr_text::{Moment, Table};
 
 /// What is known of an upstream key of which there was evidence.
-#[derive(Clone, Drop)]
+#[derive(Clone)]
 pub enum Mark {
     /// A version, by its moment and what it says.
     Live(Moment, Body),
@@ -15,8 +15,16 @@ pub enum Mark {
     Dead,
 }
 
+impl Drop for Mark {
+    fn drop(self) {
+        match self {
+            Mark::Live(_, _) => (),
+            Mark::Dead => (),
+        }
+    }
+}
+
 /// What the view is computed from.
-#[derive(Drop)]
 pub struct Base {
     /// The upstream keys of which there was evidence.
     pub mirror: Table<MirrorKey, Mark>,
@@ -25,4 +33,15 @@ pub struct Base {
     pub portfolio: Portfolio,
     /// The last number that was drawn.
     pub serial: Serial,
+}
+
+impl Drop for Base {
+    fn drop(self) {
+        let Base {
+            mirror: _,
+            scan: _,
+            portfolio: _,
+            serial: _,
+        } = self;
+    }
 }

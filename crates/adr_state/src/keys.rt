@@ -3,10 +3,16 @@ use adr_objects::{Kind, Number};
 use adr_text::ObjectId;
 
 /// The key of an upstream object.
-#[derive(Clone, PartialEq, Eq, PartialOrd, Ord, Drop)]
+#[derive(Clone, PartialEq, Eq, PartialOrd, Ord)]
 pub struct MirrorKey {
     pub kind: Kind,
     pub id: ObjectId,
+}
+
+impl Drop for MirrorKey {
+    fn drop(self) {
+        let MirrorKey { kind: _, id: _ } = self;
+    }
 }
 
 /// The key of a share: a program, known or not, and a resource.
@@ -17,7 +23,7 @@ pub struct ShareKey {
 }
 
 /// The key of what is shown.
-#[derive(Clone, PartialEq, Eq, PartialOrd, Ord, Drop)]
+#[derive(Clone, PartialEq, Eq, PartialOrd, Ord)]
 pub enum ViewKey {
     /// A program, by its upstream id.
     Program(ObjectId),
@@ -27,4 +33,15 @@ pub enum ViewKey {
     Report(Number),
     /// The roll-up of an upstream event.
     Rollup(ObjectId),
+}
+
+impl Drop for ViewKey {
+    fn drop(self) {
+        match self {
+            ViewKey::Program(_) => (),
+            ViewKey::Event(_, _) => (),
+            ViewKey::Report(_) => (),
+            ViewKey::Rollup(_) => (),
+        }
+    }
 }

@@ -72,11 +72,20 @@ pub struct Limits {
 }
 
 /// What a node is set to.
-#[derive(Clone, Drop)]
+#[derive(Clone)]
 pub struct Settings {
     /// The name under which the node reports to the utility (OpenADR 3.0, clientName).
     pub client: Name,
     pub limits: Limits,
+}
+
+impl Drop for Settings {
+    fn drop(self) {
+        let Settings {
+            client: _,
+            limits: _,
+        } = self;
+    }
 }
 
 impl Limits {

@@ -11,12 +11,22 @@ use adr_text::{Name, ObjectId};
 use std::alloc::{AllocError, Global};
 
 /// A resource with its weight in the event's program.
-#[derive(Drop)]
 pub struct Participant {
     pub resource: Number,
     pub weight: Weight,
     pub name: Name,
     pub ven_name: Name,
+}
+
+impl Drop for Participant {
+    fn drop(self) {
+        let Participant {
+            resource: _,
+            weight: _,
+            name: _,
+            ven_name: _,
+        } = self;
+    }
 }
 
 /// Whether an event with these resource names, if any, is for a resource of that name.

@@ -16,9 +16,15 @@ use std::collections::btree_set::Iter;
 use std::marker::Model;
 
 /// A set of upstream keys, programs before events, each by id.
-#[derive(Clone, Drop)]
+#[derive(Clone)]
 pub struct Polled {
     keys: BTreeSet<MirrorKey>,
+}
+
+impl Drop for Polled {
+    fn drop(self) {
+        let Polled { keys: _ } = self;
+    }
 }
 
 impl Model for Polled {

@@ -72,9 +72,15 @@ impl Weight {
 }
 
 /// The resources by number: at most 10,000, so that a setpoint can be split over all of them.
-#[derive(Clone, Drop)]
+#[derive(Clone)]
 pub struct Resources {
     rows: Table<Number, Resource>,
+}
+
+impl Drop for Resources {
+    fn drop(self) {
+        let Resources { rows: _ } = self;
+    }
 }
 
 impl Model for Resources {
@@ -171,13 +177,25 @@ pub struct Report {
 }
 
 /// Who takes part in events, what they report of them, and of what they want to be told.
-#[derive(Clone, Drop)]
+#[derive(Clone)]
 pub struct Portfolio {
     pub vens: Table<Number, Ven>,
     pub resources: Resources,
     pub shares: Table<ShareKey, Weight>,
     pub reports: Table<Number, Report>,
     pub subs: Table<Number, Sub>,
+}
+
+impl Drop for Portfolio {
+    fn drop(self) {
+        let Portfolio {
+            vens: _,
+            resources: _,
+            shares: _,
+            reports: _,
+            subs: _,
+        } = self;
+    }
 }
 
 /// Whether the resource is there and belongs to the ven.

@@ -10,10 +10,15 @@ use adr_text::Table;
 use std::alloc::{AllocError, Global};
 
 /// The base, and the stamps of what is shown.
-#[derive(Drop)]
 pub struct State {
     pub base: Base,
     pub stamps: Table<ViewKey, Stamps>,
+}
+
+impl Drop for State {
+    fn drop(self) {
+        let State { base: _, stamps: _ } = self;
+    }
 }
 
 /// A state that was read from a desk.

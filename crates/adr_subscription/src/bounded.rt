@@ -7,9 +7,15 @@ use adr_text::Fault;
 use std::marker::Model;
 
 /// A list of at least `LEAST` and at most `MOST` items, in their order.
-#[derive(Clone, Drop)]
+#[derive(Clone)]
 pub struct Bounded<T, const LEAST: usize, const MOST: usize> {
     items: Vec<T>,
+}
+
+impl<T: Drop, const LEAST: usize, const MOST: usize> Drop for Bounded<T, LEAST, MOST> {
+    fn drop(self) {
+        let Bounded { items: _ } = self;
+    }
 }
 
 impl<T, const LEAST: usize, const MOST: usize> Model for Bounded<T, LEAST, MOST> {
@@ -62,6 +68,7 @@ impl<T, const LEAST: usize, const MOST: usize> Bounded<T, LEAST, MOST> {
         ensures enough { LEAST ≤ vec_len result }
         ensures few { vec_len result ≤ MOST }
     {
-        self.items
+        let Bounded { items } = self;
+        items
     }
 }

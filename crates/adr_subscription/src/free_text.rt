@@ -8,9 +8,15 @@ use std::alloc::{AllocError, Global};
 use std::marker::Model;
 
 /// A text, of whatever length.
-#[derive(Clone, Drop)]
+#[derive(Clone)]
 pub struct FreeText {
     text: String,
+}
+
+impl Drop for FreeText {
+    fn drop(self) {
+        let FreeText { text: _ } = self;
+    }
 }
 
 impl Model for FreeText {

@@ -10,12 +10,17 @@ use adr_text::Name;
 use std::alloc::AllocError;
 
 /// A target: a type, and the values of that type (OpenADR 3.0, targets of a subscription).
-#[derive(Drop)]
 pub struct Target {
     /// type
     pub kind: FreeText,
     /// values
     pub values: Bounded<FreeText, 0, 1000>,
+}
+
+impl Drop for Target {
+    fn drop(self) {
+        let Target { kind: _, values: _ } = self;
+    }
 }
 
 fn has_value(target: &Target, name: &str) -> bool

@@ -12,9 +12,15 @@ use std::alloc::Global;
 use std::marker::Model;
 
 /// A bearer token: 1 to 1,024 characters from `!` to `~` (OpenADR 3.0, bearerToken).
-#[derive(Clone, Drop)]
+#[derive(Clone)]
 pub struct BearerToken {
     text: String,
+}
+
+impl Drop for BearerToken {
+    fn drop(self) {
+        let BearerToken { text: _ } = self;
+    }
 }
 
 impl Model for BearerToken {

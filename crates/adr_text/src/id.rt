@@ -13,9 +13,15 @@ use std::cmp::Ordering;
 use std::marker::Model;
 
 /// The id of an object: 1 to 128 letters, digits, `-` and `_` (OpenADR 3.0, objectID).
-#[derive(Clone, Drop)]
+#[derive(Clone)]
 pub struct ObjectId {
     text: String,
+}
+
+impl Drop for ObjectId {
+    fn drop(self) {
+        let ObjectId { text: _ } = self;
+    }
 }
 
 impl Model for ObjectId {

@@ -13,9 +13,15 @@ use std::marker::Model;
 
 /// The name of a VEN, a resource or a report: a text of 1 to 128 bytes (OpenADR 3.0, venName,
 /// resourceName, reportName).
-#[derive(Clone, Drop)]
+#[derive(Clone)]
 pub struct Name {
     text: String,
+}
+
+impl Drop for Name {
+    fn drop(self) {
+        let Name { text: _ } = self;
+    }
 }
 
 impl Model for Name {

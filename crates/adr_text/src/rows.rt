@@ -5,9 +5,15 @@ use std::alloc::{AllocError, Global};
 use std::marker::Model;
 
 /// A list, of at most as many items as memory holds.
-#[derive(Clone, Drop)]
+#[derive(Clone)]
 pub struct Rows<T> {
     items: Vec<T>,
+}
+
+impl<T: Drop> Drop for Rows<T> {
+    fn drop(self) {
+        let Rows { items: _ } = self;
+    }
 }
 
 impl<T> Model for Rows<T> {
@@ -42,7 +48,8 @@ impl<T> Rows<T> {
     pub fn into_vec(self) -> Vec<T>
         ensures { result.items ≡ self }
     {
-        self.items
+        let Rows { items } = self;
+        items
     }
 
     /// The items in their order.

@@ -25,10 +25,18 @@ pub enum Operation {
 }
 
 /// A change of the view.
-#[derive(Drop)]
 pub struct Change {
     pub key: ViewKey,
     pub operation: Operation,
+}
+
+impl Drop for Change {
+    fn drop(self) {
+        let Change {
+            key: _,
+            operation: _,
+        } = self;
+    }
 }
 
 /// The keys of two views, in order.

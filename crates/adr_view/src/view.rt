@@ -13,13 +13,24 @@ use adr_text::{Name, ObjectId, Rows, Table};
 use std::alloc::{AllocError, Global};
 
 /// What stands at a key of the view, without stamps.
-#[derive(Clone, Drop)]
+#[derive(Clone)]
 pub enum Content {
     /// A program's name.
     Program(Name),
     Event(ShownEvent),
     Report(ReportBody),
     Rollup(Rollup),
+}
+
+impl Drop for Content {
+    fn drop(self) {
+        match self {
+            Content::Program(_) => (),
+            Content::Event(_) => (),
+            Content::Report(_) => (),
+            Content::Rollup(_) => (),
+        }
+    }
 }
 
 /// All that is shown, in the order of the keys.
