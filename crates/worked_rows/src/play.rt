@@ -11,10 +11,18 @@ use std::marker::Brand;
 use std::sync::ledger::{Blank, Ledger};
 
 /// What a row printed.
-#[derive(Drop)]
 pub struct Played {
     pub printed: Vec<u8>,
     pub ended: Result<u64, ScriptFault>,
+}
+
+impl Drop for Played {
+    fn drop(self) {
+        let Played {
+            printed: _,
+            ended: _,
+        } = self;
+    }
 }
 
 /// Runs a script over a reader and a writer.

@@ -10,7 +10,6 @@ use adr_text::{Moment, Refusal};
 use std::alloc::{AllocError, Global};
 
 /// A plain desk that answers, and the tables beside it.
-#[derive(Drop)]
 pub struct Twin {
     alloc: Global,
     plain: PlainDesk,
@@ -21,6 +20,19 @@ pub struct Twin {
     pub told: Vec<(Moment, Command)>,
     /// Whether memory ran out over one of them.
     pub lost: bool,
+}
+
+impl Drop for Twin {
+    fn drop(self) {
+        let Twin {
+            alloc: _,
+            plain: _,
+            tables: _,
+            apart: _,
+            told: _,
+            lost: _,
+        } = self;
+    }
 }
 
 impl Twin {
