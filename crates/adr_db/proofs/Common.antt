@@ -36,7 +36,7 @@ pub use Rattle.adr_state.specs.declared.portfolio.Ven.{Ven}
 pub use Rattle.adr_sql.proofs.Counts.{IsCountText}
 pub use Rattle.adr_sql.proofs.Joins.{IsSelectText, join_runs, named_is, order_from}
 pub use Rattle.adr_sql.proofs.Keys.{and_true, are_full, equal_is, same_bool, then_eq, ties}
-pub use Rattle.adr_sql.proofs.Maps.{entry_found, fold_keys, insert_key_is, is_text, keys_alone, keys_back, number_key, number_text_key, number_text_number_key, text_number_key, text_passes, text_same, then_none}
+pub use Rattle.adr_sql.proofs.Maps.{entry_found, fold_keys, insert_key_is, is_text, keys_alone, keys_back, number_key, number_text_key, number_text_number_key, text_key, text_number_key, text_passes, text_same, then_none}
 pub use Rattle.adr_sql.proofs.Places.{seen, stores_at}
 pub use Rattle.adr_sql.proofs.Removals.{IsRemoveText}
 pub use Rattle.adr_sql.proofs.Selections.{absent_key, equalities, first_columns, first_runs, is_found, pairs_from, passes, read_runs, select_runs, selection, whole_rows}

@@ -1,8 +1,9 @@
--- What holds of the value of each entry of a map.
-use Rattle.std.proofs.Common.{◌≡◌, Bool, true, false, cond, List, [], ◌∷◌, map, Some, refl, ap₂, Ordering, Less, Equal, Greater, is_eq}
-use Rattle.std.specs.Prelude.{IfSome}
+-- What holds of the value of each entry of a map; and entries by numbers.
+use Rattle.std.proofs.Common.{◌≡◌, inl, inr, ℕ, suc, Bool, true, false, cond, List, [], ◌∷◌, length, map, Some, refl, sym, ap, ap₂, ◌∙◌, Ordering, Less, Equal, Greater, is_eq}
+use Rattle.std.specs.Prelude.{IfSome, is_some}
 use Rattle.std.specs.Map.{remove_entry}
-use Rattle.adr_db.proofs.Common.{AllByRecursion, match_ordering, insert_entry, is_at, at, Row}
+use Rattle.adr_db.proofs.Common.{AllByRecursion, match_ordering, insert_entry, is_at, at, nat_cmp, nat_cmp_total, ordering_reverse, tied_itself, IsAscending, Has, all_weaker, Row}
+use Rattle.sqlite_rules.proofs.ListLemmas.{all_has}
 
 -- entries whose rows read back, where their values are so
 pub entries_again : {K V : Type 0} (P : V → Type 0) (row_of : K × V → Row) (back : Row → K × V) → ((e : K × V) → P e.1 → back (row_of e) ≡ e) → (es : List (K × V)) → AllByRecursion (λ e. P e.1) es → map back (map row_of es) ≡ es
@@ -37,3 +38,48 @@ module _ {K V : Type 0} (cmp : K → K → Ordering) (P : V → Type 0) where
       by : (b : Bool) → IfSome (at cmp k es) P → IfSome (cond b (Some e.1) (at cmp k es)) P
       by true more = are.0
       by false more = more
+
+-- ---- by numbers that rise
+
+abbrev pub NumbersRise : {V : Type 0} → List (ℕ × V) → Type 0
+NumbersRise = IsAscending (λ a b. nat_cmp a.0 b.0 ≡ Less)
+
+module _ {V : Type 0} where
+  -- each comes once
+  pub found_of : (es : List (ℕ × V)) → NumbersRise es → (e : ℕ × V) → Has es e → at nat_cmp e.0 es ≡ Some e.1
+  found_of [] up e has = absurd has
+  found_of (x ∷ es) up e (inl same) =
+      ap (λ (y : ℕ × V). cond (is_eq (nat_cmp y.0 x.0)) (Some x.1) (at nat_cmp y.0 es)) same ∙ ap (λ o. cond (is_eq o) (Some x.1) (at nat_cmp x.0 es)) (tied_itself nat_cmp_total x.0) ∙ ap (λ (y : ℕ × V). Some y.1) (sym same)
+  found_of (x ∷ es) up e (inr has) =
+      let below = all_has (λ (y : ℕ × V). nat_cmp x.0 y.0 ≡ Less) es e up.0 has in
+      ap (λ o. cond (is_eq o) (Some x.1) (at nat_cmp e.0 es)) (nat_cmp_total.antisymm e.0 x.0 ∙ ap ordering_reverse below) ∙ found_of es up.1 e has
+
+  -- one that is put where one stands takes its place, and else there is one more
+  pub length_put : (n : ℕ) (v : V) (es : List (ℕ × V)) → NumbersRise es → length (insert_entry nat_cmp es n v) ≡ cond (is_some (at nat_cmp n es)) (length es) (suc (length es))
+  length_put n v [] up = refl
+  length_put n v (e ∷ es) up = by (nat_cmp n e.0) refl (length_put n v es up.1)
+    where
+      none_there : (es : List (ℕ × V)) → AllByRecursion (λ (y : ℕ × V). nat_cmp n y.0 ≡ Less) es → is_some (at nat_cmp n es) ≡ false
+      none_there [] below = refl
+      none_there (x ∷ es) below = ap (λ o. is_some (cond (is_eq o) (Some x.1) (at nat_cmp n es))) below.0 ∙ none_there es below.1
+
+      by : (o : Ordering) → nat_cmp n e.0 ≡ o → length (insert_entry nat_cmp es n v) ≡ cond (is_some (at nat_cmp n es)) (length es) (suc (length es))
+          → length (match_ordering o ((n, v) ∷ e ∷ es) ((e.0, v) ∷ es) (e ∷ insert_entry nat_cmp es n v)) ≡ cond (is_some (cond (is_eq o) (Some e.1) (at nat_cmp n es))) (suc (length es)) (suc (suc (length es)))
+      by Less is more =
+          ap (λ (there : Bool). cond there (suc (length es)) (suc (suc (length es)))) (sym (none_there es (all_weaker (λ (y : ℕ × V). nat_cmp e.0 y.0 ≡ Less) (λ (y : ℕ × V). nat_cmp n y.0 ≡ Less) (λ y below. nat_cmp_total.trans n e.0 y.0 is below) es up.0)))
+      by Equal is more = refl
+      by Greater is more = ap suc more ∙ one_more (is_some (at nat_cmp n es))
+        where
+          one_more : (there : Bool) → suc (cond there (length es) (suc (length es))) ≡ cond there (suc (length es)) (suc (suc (length es)))
+          one_more true = refl
+          one_more false = refl
+
+  -- one that is there and goes leaves one less
+  pub length_left : (n : ℕ) (es : List (ℕ × V)) → is_some (at nat_cmp n es) ≡ true → suc (length (remove_entry (is_at (nat_cmp n)) es)) ≡ length es
+  length_left n [] there = absurd cc
+  length_left n (e ∷ es) there = by (is_eq (nat_cmp n e.0)) (length_left n es) there
+    where
+      by : (b : Bool) → (is_some (at nat_cmp n es) ≡ true → suc (length (remove_entry (is_at (nat_cmp n)) es)) ≡ length es) → is_some (cond b (Some e.1) (at nat_cmp n es)) ≡ true
+          → suc (length (cond b es (e ∷ remove_entry (is_at (nat_cmp n)) es))) ≡ suc (length es)
+      by true more there = refl
+      by false more there = ap suc (more there)

@@ -11,6 +11,7 @@ pub mod Calls
 pub mod Entries
 pub mod Marks
 pub mod Subs
+pub mod Waiting
 pub mod ReadBack
 pub mod Results
 pub mod Unread

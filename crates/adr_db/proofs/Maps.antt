@@ -1,12 +1,13 @@
 -- The tables that are maps.
-use Rattle.std.proofs.Common.{ℕ, map, refl, sym}
-use Rattle.adr_db.proofs.Common.{nat_cmp, map-map, Mark, Ven, Resource, Report, Sub, Stamps, MirrorKey, ShareKey, ViewKey, mirror_cmp, share_cmp, view_cmp, with_table, keys_alone}
-use Rattle.adr_db.specs.Rows.{mark_row, key_row, number_row, ven_row, ven_columns, resource_row, resource_columns, share_row, share_key_row, stamp_row, view_key_row, report_row, report_columns, sub_row, sub_columns}
+use Rattle.std.proofs.Common.{ℕ, List, map, refl, sym}
+use Rattle.adr_db.proofs.Common.{nat_cmp, map-map, Mark, Ven, Resource, Report, Sub, Stamps, MirrorKey, ShareKey, ViewKey, id_cmp, mirror_cmp, share_cmp, view_cmp, with_table, keys_alone}
+use Rattle.adr_delivery.specs.declared.entry.Entry.{Entry}
+use Rattle.adr_db.specs.Rows.{mark_row, key_row, number_row, ven_row, ven_columns, resource_row, resource_columns, share_row, share_key_row, stamp_row, view_key_row, report_row, report_columns, sub_row, sub_columns, event_key_row, remote_row, entry_row, entry_columns}
 use Rattle.adr_db.specs.Kept.{contents_of}
-use Rattle.adr_db.proofs.Rows.{mirror_codec, polled_codec, number_codec, share_codec, stamp_codec}
+use Rattle.adr_db.proofs.Rows.{mirror_codec, polled_codec, number_codec, share_codec, stamp_codec, remote_codec}
 use Rattle.adr_sql.proofs.KeyedMaps.{KeyedMap}
 use Rattle.adr_db.specs.Tables.{schema}
-use Rattle.adr_db.proofs.Tables.{mirror, mirror_keyed, polled, polled_keyed, ven, ven_keyed, resource, resource_keyed, share, share_keyed, stamp, stamp_keyed, report, report_keyed, sub, sub_keyed}
+use Rattle.adr_db.proofs.Tables.{mirror, mirror_keyed, polled, polled_keyed, ven, ven_keyed, resource, resource_keyed, share, share_keyed, stamp, stamp_keyed, report, report_keyed, sub, sub_keyed, remote, remote_keyed, outbox, outbox_keyed}
 use Rattle.adr_db.proofs.KeptMaps.{KeptMap}
 
 abbrev pub mirror_map : KeptMap MirrorKey Mark
@@ -69,6 +70,24 @@ sub_map = record {
   rows = record { at = 9; table = sub; keyed = sub_keyed; cmp = nat_cmp; row_of = sub_row; key_of = number_row; codec = number_codec sub_columns };
   entries = λ kept. kept.portfolio.subs;
   with_entries = λ es kept. record kept { portfolio = record kept.portfolio { subs = es } };
+  stored = λ kept. refl;
+  changed = λ es kept. refl;
+}
+
+abbrev pub remote_map : KeptMap (List ℕ) (List ℕ)
+remote_map = record {
+  rows = record { at = 10; table = remote; keyed = remote_keyed; cmp = id_cmp; row_of = remote_row; key_of = event_key_row; codec = remote_codec };
+  entries = λ kept. kept.remotes;
+  with_entries = λ es kept. record kept { remotes = es };
+  stored = λ kept. refl;
+  changed = λ es kept. refl;
+}
+
+abbrev pub outbox_map : KeptMap ℕ Entry
+outbox_map = record {
+  rows = record { at = 11; table = outbox; keyed = outbox_keyed; cmp = nat_cmp; row_of = entry_row; key_of = number_row; codec = number_codec entry_columns };
+  entries = λ kept. kept.entries;
+  with_entries = λ es kept. record kept { entries = es };
   stored = λ kept. refl;
   changed = λ es kept. refl;
 }

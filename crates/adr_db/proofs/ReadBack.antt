@@ -7,14 +7,15 @@ use Rattle.adr_db.proofs.Common.{map_back, Stamps, MirrorKey, ViewKey}
 use Rattle.adr_state.specs.declared.state.State.{State}
 use Rattle.adr_sql.proofs.Stored.{contents_again}
 use Rattle.adr_db.specs.Tables.{schema}
-use Rattle.adr_db.specs.Rows.{key_row, ven_row, resource_row, share_row, stamp_row}
+use Rattle.adr_db.specs.Rows.{key_row, ven_row, resource_row, share_row, stamp_row, remote_row, entry_row}
 use Rattle.adr_db.specs.Kept.{Kept, Keeps, contents_of}
 use Rattle.adr_db.specs.Bases.{keys_polled, kept_of, HoldsState}
 use Rattle.adr_db.specs.Images.{image_kept}
-use Rattle.adr_db.specs.ReadBack.{key_in, numbered_in, ven_in, resource_in, share_in, stamped_in, kept_from, kept_in, state_in}
+use Rattle.adr_db.specs.ReadBack.{key_in, numbered_in, ven_in, resource_in, share_in, stamped_in, remote_in, waiting_in, kept_from, kept_in, state_in}
 use Rattle.adr_db.proofs.Rows.{meta_again, key_again, view_key_again}
 use Rattle.adr_db.proofs.Marks.{marks_again}
 use Rattle.adr_db.proofs.Subs.{subs_again}
+use Rattle.adr_db.proofs.Waiting.{waiting_entry_again}
 use Rattle.adr_db.proofs.KeptMaps.{AreTexts}
 use Rattle.adr_db.proofs.Reports.{NumbersRise, reports_again}
 use Rattle.adr_db.proofs.Rises.{reports_rise}
@@ -37,6 +38,8 @@ from_rows kept texts up = λ i. record {
     subs = subs_again kept.portfolio.subs texts.1 i;
   };
   stamps = map_back stamp_row stamped_in stamped_again kept.stamps i;
+  remotes = map_back remote_row remote_in (λ _. refl) kept.remotes i;
+  entries = map_back entry_row (numbered_in waiting_in) waiting_entry_again kept.entries i;
 }
 
 pub kept_again : (kept : Kept) (s : sql.State) → Keeps kept s → kept_in s.now.trees ≡ kept

@@ -1,8 +1,7 @@
 -- The reports as rows of two tables: the intervals of each stand in the second, behind its number.
-use Rattle.std.proofs.Common.{◌≡◌, inl, inr, ℕ, suc, Bool, true, false, cond, None, Some, Option, List, [], ◌∷◌, ◌++◌, map, filter, flat_map, refl, sym, ap, ap₂, ◌∙◌, Less, is_eq}
+use Rattle.std.proofs.Common.{◌≡◌, inl, inr, ℕ, suc, Bool, true, false, cond, None, Some, Option, List, [], ◌∷◌, ◌++◌, map, filter, flat_map, refl, ap, ap₂, ◌∙◌, is_eq}
 use Rattle.std.proofs.lemmas.List.Elements.{filter-append}
-use Rattle.adr_db.proofs.Common.{nat_cmp, option_map, option_map_or, ordering_reverse, tied_itself, nat_cmp_total, Row, IsAscending, Has, map-map, at, has_key, named_is}
-use Rattle.sqlite_rules.proofs.ListLemmas.{all_has}
+use Rattle.adr_db.proofs.Common.{nat_cmp, option_map, option_map_or, Row, Has, map-map, at, has_key, named_is}
 use Rattle.adr_objects.specs.declared.report.UsageInterval.{UsageInterval}
 use Rattle.adr_state.specs.declared.portfolio.Report.{Report}
 use Rattle.adr_sql.specs.Keys.{rows_at}
@@ -10,10 +9,8 @@ use Rattle.adr_db.specs.declared.report_columns.ReportColumns.{ReportColumns}
 use Rattle.adr_db.specs.Rows.{number, number_row, report_row, interval_columns, value_row, value_rows_from, value_rows}
 use Rattle.adr_db.specs.Kept.{Kept, intervals_of, whole_report, report_of}
 use Rattle.adr_db.specs.ReadBack.{interval_in, report_in}
+pub use Rattle.adr_db.proofs.Entries.{NumbersRise, found_of}
 use Rattle.adr_db.proofs.Rows.{numbers_as_rows, number_same_is, head_again, interval_again}
-
-abbrev pub NumbersRise : List (ℕ × Report) → Type 0
-NumbersRise = IsAscending (λ a b. nat_cmp a.0 b.0 ≡ Less)
 
 -- ---- lists
 
@@ -32,16 +29,6 @@ chosen_rows f t (x ∷ xs) = elim (t x) as (λ b. cond b (f x) [] ++ flat_map (�
   | true ↦ ap (λ l. f x ++ l) (chosen_rows f t xs)
   | false ↦ chosen_rows f t xs
 ]
-
--- ---- the report of a number
-
--- numbers that rise come once
-pub found_of : (es : List (ℕ × Report)) → NumbersRise es → (e : ℕ × Report) → Has es e → at nat_cmp e.0 es ≡ Some e.1
-found_of [] up e has = absurd has
-found_of (x ∷ es) up e (inl same) = ap (λ (y : ℕ × Report). cond (is_eq (nat_cmp y.0 x.0)) (Some x.1) (at nat_cmp y.0 es)) same ∙ ap (λ o. cond (is_eq o) (Some x.1) (at nat_cmp x.0 es)) (tied_itself nat_cmp_total x.0) ∙ ap (λ (y : ℕ × Report). Some y.1) (sym same)
-found_of (x ∷ es) up e (inr has) =
-    let below = all_has (λ (y : ℕ × Report). nat_cmp x.0 y.0 ≡ Less) es e up.0 has in
-    ap (λ o. cond (is_eq o) (Some x.1) (at nat_cmp e.0 es)) (nat_cmp_total.antisymm e.0 x.0 ∙ ap ordering_reverse below) ∙ found_of es up.1 e has
 
 -- ---- the rows of intervals that pass
 

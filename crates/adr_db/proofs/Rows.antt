@@ -1,6 +1,6 @@
 -- Keys and marks as rows, and back.
-use Rattle.std.proofs.Common.{◌≡◌, ◌<◌, ◌<ℤ◌, sym, ℕ, ℤ, pos, arith, Bool, true, false, cond, Option, None, Some, List, [], ◌∷◌, ◌++◌, refl, ap, ap₂, ◌∙◌, Ordering, Less, Equal, Greater}
-use Rattle.adr_db.proofs.Common.{int_cmp, nat_cmp, ordering_then, MatchOrdering, ranked, Int, Text, Row, column, Mark, Live, Dead, Ven, Resource, Stamps, MirrorKey, ShareKey, ViewKey, Participant, kind_cmp, id_cmp, mirror_cmp, share_cmp, view_cmp, cells, key_order, number_key, text_number_key, number_text_key, number_text_number_key, text_same, then_none}
+use Rattle.std.proofs.Common.{◌≡◌, ◌<◌, ◌<ℤ◌, sym, ℕ, ℤ, pos, arith, Bool, true, false, Option, None, Some, List, [], ◌∷◌, ◌++◌, refl, ap, ap₂, ◌∙◌, Ordering, Less, Equal, Greater}
+use Rattle.adr_db.proofs.Common.{int_cmp, nat_cmp, ordering_then, MatchOrdering, ranked, Text, Row, column, Mark, Live, Dead, Ven, Resource, Stamps, MirrorKey, ShareKey, ViewKey, Participant, kind_cmp, id_cmp, mirror_cmp, share_cmp, view_cmp, cells, key_order, number_key, text_number_key, number_text_key, number_text_number_key, text_key, text_same, then_none}
 use Rattle.std.specs.Cmp.{int_cmp_is}
 use Rattle.std.proofs.lemmas.Int.{ints}
 use Rattle.adr_objects.specs.declared.kind.Kind.{Kind}
@@ -11,7 +11,7 @@ use Rattle.adr_objects.specs.declared.report.ReportHead.{ReportHead}
 use Rattle.adr_objects.specs.declared.report.UsageInterval.{UsageInterval}
 use Rattle.adr_db.specs.declared.meta.Meta.{Meta}
 use Rattle.adr_db.specs.declared.report_columns.ReportColumns.{ReportColumns}
-use Rattle.adr_db.specs.Rows.{number, kind_number, meta_row, key_row, mark_columns, mark_row, number_row, ven_columns, resource_columns, share_key_row, share_row, stamps_columns, view_kind, view_id, view_number, view_key_row, stamp_row, participant_row, name_cell, head_columns, report_columns_row, usage_cell, interval_columns, owner_cell}
+use Rattle.adr_db.specs.Rows.{number, kind_number, meta_row, key_row, mark_columns, mark_row, number_row, ven_columns, resource_columns, share_key_row, share_row, stamps_columns, view_kind, view_id, view_number, view_key_row, stamp_row, participant_row, name_cell, head_columns, report_columns_row, usage_cell, interval_columns, owner_cell, flag_cell, event_key_row, remote_row}
 use Rattle.adr_db.specs.ReadBack.{number_of, text_of, integer_of, name_of, usage_of, owner_of, flag_of, kind_of, meta_in, key_in, ven_in, resource_in, share_key_in, view_key_in, stamps_in, head_in}
 
 -- ---- keys
@@ -100,9 +100,18 @@ share_codec = record {
   same = λ j k v e. ap (λ key. share_row (key, v)) (share_same j k e);
 }
 
+-- ---- the outbox
+
+pub remote_codec : IsCodec 1 id_cmp remote_row event_key_row
+remote_codec = record {
+  named = λ k e. text_key k e.0 [] (Text e.1 ∷ []);
+  keyed = λ k v e. text_key k e.0 (Text v ∷ []) (Text e.1 ∷ []);
+  same = λ j k v e. ap (λ event. remote_row (event, v)) (text_same j k e);
+}
+
 -- ---- a row is read back
 
-flag_again : (b : Bool) → flag_of (Int (cond b (pos 1) (pos 0))) ≡ b
+pub flag_again : (b : Bool) → flag_of (flag_cell b) ≡ b
 flag_again true = refl
 flag_again false = refl
 
@@ -122,7 +131,7 @@ view_key_again (view.Event id resource) = refl
 view_key_again (view.Report n) = refl
 view_key_again (view.Rollup id) = refl
 
-name_again : (name : Option (List ℕ)) → name_of (name_cell name) ≡ name
+pub name_again : (name : Option (List ℕ)) → name_of (name_cell name) ≡ name
 name_again None = refl
 name_again (Some text) = refl
 
@@ -171,6 +180,9 @@ report_columns_again columns = ap (λ head. record columns { head = head }) (hea
 
 pub report_columns_kept : (a b : ReportColumns) → report_columns_row a ≡ report_columns_row b → a ≡ b
 report_columns_kept = stands_for_one report_columns_row report_columns_back report_columns_again
+
+pub name_kept : (a b : Option (List ℕ)) → name_cell a ≡ name_cell b → a ≡ b
+name_kept a b h = sym (name_again a) ∙ ap name_of h ∙ name_again b
 
 pub interval_kept : (a b : UsageInterval) → interval_columns a ≡ interval_columns b → a ≡ b
 interval_kept = stands_for_one interval_columns interval_back interval_again

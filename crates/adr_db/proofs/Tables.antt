@@ -6,7 +6,7 @@ use Rattle.sqlite_value.specs.Keys.{joined}
 use Rattle.sqlite_catalog.specs.Listing.{automatic}
 use Rattle.adr_sql.proofs.References.{is_childless}
 use Rattle.adr_sql.proofs.Upserts.{IsKeyed}
-use Rattle.adr_db.specs.Tables.{schema, meta_table, mirror_table, polled_table, ven_table, resource_table, share_table, stamp_table, report_table, report_value_table, sub_table}
+use Rattle.adr_db.specs.Tables.{schema, meta_table, mirror_table, polled_table, ven_table, resource_table, share_table, stamp_table, report_table, report_value_table, sub_table, remote_table, outbox_table}
 
 -- each table with its tree
 abbrev pub meta : Table
@@ -38,6 +38,12 @@ report_value = record report_value_table { tree = 22 }
 
 abbrev pub sub : Table
 sub = record sub_table { tree = 24 }
+
+abbrev pub remote : Table
+remote = record remote_table { tree = 27 }
+
+abbrev pub outbox : Table
+outbox = record outbox_table { tree = 29 }
 
 -- each is written over by its key, also those to which references point
 pub meta_keyed : IsKeyed schema 0 meta
@@ -80,6 +86,14 @@ pub sub_keyed : IsKeyed schema 9 sub
 unfolding same_name joined
 sub_keyed = record { place = record { found = refl; alone = refl }; unfollowed = refl; uncounted = refl; unnumbered = refl; index = automatic sub 0 sub.primary 25; aimed = refl; order = refl; places = refl }
 
+pub remote_keyed : IsKeyed schema 10 remote
+unfolding same_name joined
+remote_keyed = record { place = record { found = refl; alone = refl }; unfollowed = refl; uncounted = refl; unnumbered = refl; index = automatic remote 0 remote.primary 28; aimed = refl; order = refl; places = refl }
+
+pub outbox_keyed : IsKeyed schema 11 outbox
+unfolding same_name joined
+outbox_keyed = record { place = record { found = refl; alone = refl }; unfollowed = refl; uncounted = refl; unnumbered = refl; index = automatic outbox 0 outbox.primary 30; aimed = refl; order = refl; places = refl }
+
 -- no reference points to these
 pub polled_childless : is_childless schema polled.tree ≡ true
 unfolding same_name joined
@@ -100,3 +114,11 @@ report_value_childless = refl
 pub sub_childless : is_childless schema sub.tree ≡ true
 unfolding same_name joined
 sub_childless = refl
+
+pub remote_childless : is_childless schema remote.tree ≡ true
+unfolding same_name joined
+remote_childless = refl
+
+pub outbox_childless : is_childless schema outbox.tree ≡ true
+unfolding same_name joined
+outbox_childless = refl

@@ -1,8 +1,9 @@
 -- What the types of what is kept admit, and how a row reads.
-use Rattle.std.specs.Prelude.{◌≡◌, ◌≤◌, ⊤, length, ◌<◌, ◌^◌, ℕ, ℤ, List, string_bytes, IsUtf8, IsTrue, IfSome, FitsSigned, Ok}
+use Rattle.std.specs.Prelude.{◌≡◌, ◌≤◌, ⊤, length, ◌<◌, ◌^◌, ℕ, ℤ, List, Option, string_bytes, IsUtf8, IsTrue, IfSome, FitsSigned, Ok}
 use Rattle.std.specs.Int.{w32}
 use Rattle.std.specs.List.{AllByRecursion}
 use Rattle.sqlite.specs.Order.{Row, column}
+use Rattle.sqlite.specs.Values.{or_null}
 use Rattle.sqlite.specs.declared.types.Value.{Value}
 use Rattle.sqlite.specs.declared.types.Value.TheVariants.{Text}
 use Rattle.adr_text.specs.Ids.{is_id}
@@ -14,6 +15,16 @@ use Rattle.adr_objects.specs.declared.shown.Stamps.{Stamps}
 use Rattle.adr_subscription.specs.declared.kept_sub.Sub.{Sub}
 use Rattle.adr_subscription.specs.declared.subscription.SubIn.{SubIn}
 use Rattle.adr_subscription.specs.Kept.{kept_of}
+use Rattle.adr_subscription.specs.Tokens.{is_token}
+use Rattle.adr_delivery.specs.declared.addressee.Addressee.{Addressee}
+use Rattle.adr_delivery.specs.declared.addressee.Addressee.TheVariants.{Utility, Subscriber}
+use Rattle.adr_delivery.specs.declared.delivery.Delivery.{Delivery}
+use Rattle.adr_delivery.specs.declared.entry.Entry.{Entry}
+use Rattle.adr_delivery.specs.declared.outbox.EntryCounts.{EntryCounts}
+use Rattle.adr_delivery.specs.Entries.{destination, event_of}
+use Rattle.adr_delivery.specs.Jobs.{token_for}
+use Rattle.adr_delivery.specs.Failing.{most_failures}
+use Rattle.adr_delivery.specs.Tallies.{most_tally}
 use Rattle.adr_state.specs.declared.base.Mark.{Mark}
 use Rattle.adr_state.specs.declared.keys.MirrorKey.{MirrorKey}
 use Rattle.adr_state.specs.declared.keys.ShareKey.{ShareKey}
@@ -27,9 +38,10 @@ use Rattle.adr_state.specs.Weights.{is_weight}
 use Rattle.adr_db.specs.declared.meta.Meta.{Meta}
 use Rattle.adr_db.specs.declared.known.MarkColumns.{MarkColumns}
 use Rattle.adr_db.specs.declared.known.MirrorRow.{MirrorRow}
+use Rattle.adr_db.specs.declared.outbox.RemoteRow.{RemoteRow}
 use Rattle.adr_db.specs.declared.report_columns.ReportColumns.{ReportColumns}
 use Rattle.adr_sql.specs.Keys.{cells}
-use Rattle.adr_db.specs.Rows.{number, meta_row, key_row, columns_row, mark_from, mirror_row, ven_columns, resource_columns, share_key_row, view_key_row, stamps_columns, participant_row, report_columns_row, interval_columns, owner_cell}
+use Rattle.adr_db.specs.Rows.{number, meta_row, key_row, columns_row, mark_from, mirror_row, ven_columns, resource_columns, share_key_row, view_key_row, stamps_columns, participant_row, report_columns_row, interval_columns, owner_cell, remote_row, address_of, entry_columns}
 
 abbrev pub IsNumber : ℕ → Type 0
 IsNumber n = ⊤
@@ -46,8 +58,11 @@ IsMoment moment = moment ≤ last_nanos
 abbrev pub AreStamps : Stamps → Type 0
 AreStamps stamps = IsMoment stamps.created × IsMoment stamps.modified
 
+abbrev pub AreCounts : EntryCounts → Type 0
+AreCounts counts = (counts.made ≤ most_tally) × ((counts.sent ≤ most_tally) × ((counts.given_up ≤ most_tally) × (counts.dropped ≤ most_tally)))
+
 abbrev pub AreNumbers : Meta → Type 0
-AreNumbers meta = meta.serial ≤ most_number
+AreNumbers meta = (meta.serial ≤ most_number) × AreCounts meta.counts
 
 abbrev pub IsKey : MirrorKey → Type 0
 IsKey key = IsIdText key.id
@@ -103,6 +118,23 @@ IsReportEntry e = IsNumber e.0 × AreReportColumns e.1
 abbrev pub IsKeptSub : Sub → Type 0
 IsKeptSub sub = AreStamps sub.stamps
 
+-- the utility's id of a report, and the upstream event
+abbrev pub IsRemote : RemoteRow → Type 0
+IsRemote remote = IsIdText remote.event × IsIdText remote.id
+
+abbrev pub IsTokenText : List ℕ → Type 0
+IsTokenText text = IsUtf8 text × IsTrue (is_token text)
+
+abbrev pub IsAddressee : Addressee → Type 0
+IsAddressee (Utility event) = IsIdText event
+IsAddressee (Subscriber subscription address token) = IsUtf8 address × IfSome token IsTokenText
+
+abbrev pub IsDelivery : Delivery → Type 0
+IsDelivery d = (d.failures ≤ most_failures) × (IfSome d.lease IsMoment × IsMoment d.due)
+
+abbrev pub IsWaiting : Entry → Type 0
+IsWaiting entry = IsAddressee entry.addressee × (IsUtf8 entry.body × IsDelivery entry.delivery)
+
 -- a weight alone, and entries behind their keys
 abbrev pub IsShareWeight : ℕ → Type 0
 IsShareWeight weight = IsTrue (is_weight weight)
@@ -119,6 +151,9 @@ IsResourceEntry e = IsNumber e.0 × IsResource e.1
 abbrev pub IsSubEntry : ℕ × Sub → Type 0
 IsSubEntry e = IsNumber e.0 × IsKeptSub e.1
 
+abbrev pub IsWaitingEntry : ℕ × Entry → Type 0
+IsWaitingEntry e = IsNumber e.0 × IsWaiting e.1
+
 -- a node has 10,000 of them at most
 abbrev pub AreResources : List (ℕ × Resource) → Type 0
 AreResources es = (length es ≤ 10_000) × AllByRecursion IsResourceEntry es
@@ -132,7 +167,7 @@ abbrev pub ReadsNumber : Row → ℕ → Type 0
 ReadsNumber row n = number n ≡ column row 0
 
 abbrev pub ReadsMeta : Row → Meta → Type 0
-ReadsMeta row meta = meta_row meta ≡ cells 0 9 row
+ReadsMeta row meta = meta_row meta ≡ cells 0 10 row
 
 abbrev pub ReadsKey : Row → MirrorKey → Type 0
 ReadsKey row key = key_row key ≡ cells 0 2 row
@@ -198,6 +233,22 @@ ReadsSub row sub = (owner_cell sub.owner ≡ column row 1) × (ReadsBody (column
 
 abbrev pub ReadsSubEntry : Row → ℕ × Sub → Type 0
 ReadsSubEntry row e = ReadsNumber row e.0 × ReadsSub row e.1
+
+abbrev pub ReadsRemote : Row → RemoteRow → Type 0
+ReadsRemote row remote = remote_row (remote.event, remote.id) ≡ cells 0 2 row
+
+-- an addressee of its parts: the destination, the event, the address and the token
+abbrev pub AreParts : Addressee → ℕ → Option (List ℕ) → List ℕ → Option (List ℕ) → Type 0
+AreParts addressee dest event address token = (destination addressee ≡ dest) × ((event_of addressee ≡ event) × ((address_of addressee ≡ address) × (token_for addressee ≡ token)))
+
+abbrev pub ReadsAddressee : Row → Addressee → Type 0
+ReadsAddressee row a = (number (destination a) ≡ column row 1) × ((or_null Text (event_of a) ≡ column row 2) × ((Text (address_of a) ≡ column row 4) × (or_null Text (token_for a) ≡ column row 5)))
+
+abbrev pub ReadsWaiting : Row → Entry → Type 0
+ReadsWaiting row entry = entry_columns entry ≡ cells 1 11 row
+
+abbrev pub ReadsWaitingEntry : Row → ℕ × Entry → Type 0
+ReadsWaitingEntry row e = ReadsNumber row e.0 × ReadsWaiting row e.1
 
 abbrev pub ReadsParticipant : Row → Participant → Type 0
 ReadsParticipant row p = participant_row p ≡ cells 0 4 row

@@ -11,7 +11,7 @@ use Rattle.adr_state.specs.BaseChanges.{BaseChange, changed}
 use Rattle.adr_state.specs.Portfolios.{PortfolioChange, portfolio_after}
 use Rattle.adr_db.specs.declared.meta.Meta.{Meta}
 use Rattle.adr_db.specs.Kept.{Kept, Keeps, with_portfolio}
-use Rattle.adr_db.specs.Bases.{Beside, meta_of, HoldsBeside}
+use Rattle.adr_db.specs.Bases.{Beside, with_base, HoldsBeside}
 
 -- what is decided of the portfolio that is kept is an answer and a change, and the tables keep what the change makes of it
 pub record IsCarriedOut {A : Type 0} (decide : Portfolio → Result (A × PortfolioChange) Refusal) (kept : Kept) (x : A) (s : State) : Type 0 where
@@ -19,13 +19,13 @@ pub record IsCarriedOut {A : Type 0} (decide : Portfolio → Result (A × Portfo
   pub decided : decide kept.portfolio ≡ Ok (x, change)
   pub keeps : Keeps (with_portfolio (portfolio_after change) kept) s
 
--- what is decided of a base is a change; the tables hold what it makes of the base, and the numbers after it are those of that; the
--- answer is right for the base before and after
-pub record IsMade {T : Type 0} (decide : Base → Result BaseChange Refusal) (IsRight : Base → Base → T → Type 0) (beside : Beside) (base : Base) (after : Meta) (x : T) (s : State) : Type 0 where
+-- what is decided of a base is a change; the tables hold what it makes of the base, and the numbers after it are those before with those of
+-- that; the answer is right for the base before and after
+pub record IsMade {T : Type 0} (decide : Base → Result BaseChange Refusal) (IsRight : Base → Base → T → Type 0) (beside : Beside) (base : Base) (before after : Meta) (x : T) (s : State) : Type 0 where
   pub change : BaseChange
   pub decided : decide base ≡ Ok change
   pub holds : HoldsBeside beside (changed change base) s
-  pub counted : after ≡ meta_of (changed change base)
+  pub counted : after ≡ with_base before (changed change base)
   pub right : IsRight base (changed change base) x
 
 module _ {S : Type 0} (g : Ghosts S) (old new : Held S) where
@@ -38,7 +38,7 @@ module _ {S : Type 0} (g : Ghosts S) (old new : Held S) where
   abbrev pub Makes : {T E : Type 0} → (Base → Result BaseChange Refusal) → Meta → Meta → (Base → Base → T → Type 0) → Result T E → Type 0
   Makes decide before after IsRight result =
       HasCleanDisk (state g new)
-      → IfOk result (λ x. (beside : Beside) (base : Base) → HoldsBeside beside base (state g old) → before ≡ meta_of base → IsMade decide IsRight beside base after x (state g new))
+      → IfOk result (λ x. (beside : Beside) (base : Base) → HoldsBeside beside base (state g old) → before ≡ with_base before base → IsMade decide IsRight beside base before after x (state g new))
 
   -- a refusal is that of the test of what was kept, or want of memory or the store's in its place
   abbrev pub Refuses : {A T : Type 0} → (Kept → Result A Refusal) → Result T Refusal → Type 0
@@ -47,7 +47,7 @@ module _ {S : Type 0} (g : Ghosts S) (old new : Held S) where
   -- the same of the base that the tables held beside any numbers and stamps, where the caller's numbers were those of the base
   abbrev pub RefusesOn : {A T : Type 0} → (Base → Result A Refusal) → Meta → Result T Refusal → Type 0
   RefusesOn decide before result =
-      HasCleanDisk (state g new) → IfErr result (λ refusal. (beside : Beside) (base : Base) → HoldsBeside beside base (state g old) → before ≡ meta_of base → IsRefusalOf refusal (decide base))
+      HasCleanDisk (state g new) → IfErr result (λ refusal. (beside : Beside) (base : Base) → HoldsBeside beside base (state g old) → before ≡ with_base before base → IsRefusalOf refusal (decide base))
 
   -- after Ok, the answer is right for the base that the tables held beside any numbers and stamps, and they hold it still
   abbrev pub FindsOn : {T E : Type 0} → (Base → T → Type 0) → Result T E → Type 0

@@ -1,9 +1,10 @@
 -- What is kept of a state. What has no table yet is no part of it.
-use Rattle.std.specs.Prelude.{Option, None, Some, is_some, List, [], length}
+use Rattle.std.specs.Prelude.{ℕ, Option, None, Some, is_some, List, [], length}
 use Rattle.sqlite_catalog.specs.Listing.{IsSound}
 use Rattle.sqlite.specs.Tree.{Trees}
 use Rattle.sqlite.specs.State as sql
 use Rattle.adr_objects.specs.declared.shown.Stamps.{Stamps}
+use Rattle.adr_delivery.specs.declared.entry.Entry.{Entry}
 use Rattle.adr_state.specs.declared.base.Base.{Base}
 use Rattle.adr_state.specs.declared.state.State.{State}
 use Rattle.adr_state.specs.declared.keys.MirrorKey.{MirrorKey}
@@ -18,22 +19,37 @@ abbrev pub keys_polled : Option (List MirrorKey) → List MirrorKey
 keys_polled None = []
 keys_polled (Some keys) = keys
 
--- the numbers of the node: they say how many keys the mirror has
-abbrev pub meta_of : Base → Meta
-meta_of base = record first_meta { serial = base.serial; scan = is_some base.scan; keys = length base.mirror }
+-- numbers of the node, with those of a base: they say how many keys the mirror has
+abbrev pub with_base : Meta → Base → Meta
+with_base numbers base = record numbers { serial = base.serial; scan = is_some base.scan; keys = length base.mirror }
 
--- what stands beside the maps of a base: the numbers of the node, and the stamps of what is shown
+-- those of a state, which has no outbox yet
+abbrev pub meta_of : State → Meta
+meta_of state = with_base first_meta state.base
+
+-- what stands beside the maps of a base: the numbers of the node, the stamps of what is shown, the utility's ids of reports, and the entries
+-- that wait
 pub record Beside : Type 0 where
   pub numbers : Meta
   pub stamps : List (ViewKey × Stamps)
+  pub remotes : List (List ℕ × List ℕ)
+  pub entries : List (ℕ × Entry)
 
 -- the maps of a base, with what stands beside them
 abbrev pub kept_beside : Beside → Base → Kept
-kept_beside beside base = record { meta = beside.numbers; mirror = base.mirror; polled = keys_polled base.scan; portfolio = base.portfolio; stamps = beside.stamps }
+kept_beside beside base = record {
+  meta = beside.numbers;
+  mirror = base.mirror;
+  polled = keys_polled base.scan;
+  portfolio = base.portfolio;
+  stamps = beside.stamps;
+  remotes = beside.remotes;
+  entries = beside.entries;
+}
 
--- of a state: its base's own numbers, and its stamps
+-- of a state: its own numbers, its stamps, and no outbox yet
 abbrev pub beside_of : State → Beside
-beside_of state = record { numbers = meta_of state.base; stamps = state.stamps }
+beside_of state = record { numbers = meta_of state; stamps = state.stamps; remotes = []; entries = [] }
 
 abbrev pub kept_of : State → Kept
 kept_of state = kept_beside (beside_of state) state.base

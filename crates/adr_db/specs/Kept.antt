@@ -13,29 +13,33 @@ use Rattle.adr_objects.specs.declared.shown.Stamps.{Stamps}
 use Rattle.adr_objects.specs.declared.report.UsageInterval.{UsageInterval}
 use Rattle.adr_subscription.specs.declared.kept_sub.Sub.{Sub}
 use Rattle.adr_subscription.specs.Types.{IsSub}
+use Rattle.adr_delivery.specs.declared.entry.Entry.{Entry}
+use Rattle.adr_delivery.specs.Counts.{no_counts}
 use Rattle.adr_state.specs.declared.base.Mark.{Mark}
 use Rattle.adr_state.specs.declared.base.Mark.TheVariants.{Live, Dead}
 use Rattle.adr_state.specs.declared.portfolio.Portfolio.{Portfolio}
 use Rattle.adr_state.specs.declared.portfolio.Report.{Report}
 use Rattle.adr_state.specs.declared.keys.MirrorKey.{MirrorKey}
 use Rattle.adr_state.specs.declared.keys.ViewKey.{ViewKey}
-use Rattle.adr_state.specs.Keys.{mirror_cmp, view_cmp, at}
+use Rattle.adr_state.specs.Keys.{id_cmp, mirror_cmp, view_cmp, at}
 use Rattle.adr_state.specs.Portfolios.{nobody}
 use Rattle.adr_sql.specs.Keys.{with_row}
 use Rattle.adr_sql.specs.Contents.{Contents, Holds}
 use Rattle.adr_db.specs.declared.meta.Meta.{Meta}
 use Rattle.adr_db.specs.Tables.{schema}
 use Rattle.adr_db.specs.declared.report_columns.ReportColumns.{ReportColumns}
-use Rattle.adr_db.specs.Rows.{meta_row, mark_row, key_row, ven_row, resource_row, share_row, stamp_row, report_row, value_rows, sub_row}
+use Rattle.adr_db.specs.Rows.{meta_row, mark_row, key_row, ven_row, resource_row, share_row, stamp_row, report_row, value_rows, sub_row, remote_row, entry_row}
 
--- what is kept: the numbers of the node, the mirror in the order of its keys, the polled keys in that order, the portfolio, and the
--- stamps of what is shown
+-- what is kept: the numbers of the node, the mirror in the order of its keys, the polled keys in that order, the portfolio, the stamps of
+-- what is shown, the utility's ids of reports, and the entries that wait
 pub record Kept : Type 0 where
   pub meta : Meta
   pub mirror : List (MirrorKey × Mark)
   pub polled : List MirrorKey
   pub portfolio : Portfolio
   pub stamps : List (ViewKey × Stamps)
+  pub remotes : List (List ℕ × List ℕ)
+  pub entries : List (ℕ × Entry)
 
 -- the rows of each table, in the order of the tables, with these in `report` and these in `report_value`: while a report is put, they are of no
 -- state
@@ -51,6 +55,8 @@ contents_with reports values kept =
     ∷ reports
     ∷ values
     ∷ map sub_row kept.portfolio.subs
+    ∷ map remote_row kept.remotes
+    ∷ map entry_row kept.entries
     ∷ []
 
 abbrev pub contents_of : Kept → Contents
@@ -76,10 +82,10 @@ pub record Keeps (kept : Kept) (s : State) : Type 0 where
 -- ---- what is kept of a new node, and the changes of it
 
 abbrev pub first_meta : Meta
-first_meta = record { serial = 0; scan = false; made = 0; sent = 0; given_up = 0; dropped = 0; keys = 0 }
+first_meta = record { serial = 0; scan = false; counts = no_counts; pending = 0; keys = 0 }
 
 abbrev pub nothing_kept : Kept
-nothing_kept = record { meta = first_meta; mirror = []; polled = []; portfolio = nobody; stamps = [] }
+nothing_kept = record { meta = first_meta; mirror = []; polled = []; portfolio = nobody; stamps = []; remotes = []; entries = [] }
 
 abbrev pub with_meta : Meta → Kept → Kept
 with_meta meta kept = record kept { meta = meta }
@@ -101,6 +107,22 @@ with_stamps key stamps kept = record kept { stamps = insert_entry view_cmp kept.
 
 abbrev pub without_stamps : ViewKey → Kept → Kept
 without_stamps key kept = record kept { stamps = remove_entry (is_at (view_cmp key)) kept.stamps }
+
+-- ---- the outbox
+
+-- an entry waits at a number, in the place of the one that was there
+abbrev pub with_waiting : ℕ → Entry → Kept → Kept
+with_waiting n entry kept = record kept { entries = insert_entry nat_cmp kept.entries n entry }
+
+abbrev pub without_waiting : ℕ → Kept → Kept
+without_waiting n kept = record kept { entries = remove_entry (is_at (nat_cmp n)) kept.entries }
+
+-- the utility gave the report on an event that id
+abbrev pub with_remote_id : List ℕ → List ℕ → Kept → Kept
+with_remote_id event id kept = record kept { remotes = insert_entry id_cmp kept.remotes event id }
+
+abbrev pub without_remote_id : List ℕ → Kept → Kept
+without_remote_id event kept = record kept { remotes = remove_entry (is_at (id_cmp event)) kept.remotes }
 
 -- ---- reports
 

@@ -16,6 +16,12 @@ use Rattle.adr_objects.specs.ReadBack.{canonical_of}
 use Rattle.adr_subscription.specs.declared.kept_sub.Sub.{Sub}
 use Rattle.adr_subscription.specs.declared.subscription.SubIn.{SubIn}
 use Rattle.adr_subscription.specs.Kept.{kept_of}
+use Rattle.adr_subscription.specs.declared.words.OperationKind.{OperationKind}
+use Rattle.adr_subscription.specs.declared.words.OperationKind.TheVariants.{Get, Post, Put, Delete}
+use Rattle.adr_delivery.specs.declared.addressee.Addressee.{Addressee}
+use Rattle.adr_delivery.specs.declared.addressee.Addressee.TheVariants.{Utility, Subscriber}
+use Rattle.adr_delivery.specs.declared.delivery.Delivery.{Delivery}
+use Rattle.adr_delivery.specs.declared.entry.Entry.{Entry}
 use Rattle.adr_state.specs.declared.base.Mark.{Mark}
 use Rattle.adr_state.specs.declared.base.Mark.TheVariants.{Live, Dead}
 use Rattle.adr_state.specs.declared.portfolio.Ven.{Ven}
@@ -72,11 +78,9 @@ abbrev pub meta_in : Row → Meta
 meta_in row = record {
   serial = number_of (column row 2);
   scan = flag_of (column row 3);
-  made = number_of (column row 4);
-  sent = number_of (column row 5);
-  given_up = number_of (column row 6);
-  dropped = number_of (column row 7);
-  keys = number_of (column row 8);
+  counts = record { made = number_of (column row 4); sent = number_of (column row 5); given_up = number_of (column row 6); dropped = number_of (column row 7) };
+  pending = number_of (column row 8);
+  keys = number_of (column row 9);
 }
 
 -- a key of the mirror
@@ -160,6 +164,35 @@ view_key_in row = view_key_of (number_of (column row 0)) (text_of (column row 1)
 abbrev pub stamped_in : Row → ViewKey × Stamps
 stamped_in row = (view_key_in row, stamps_in (drop 3 row))
 
+-- the utility's id of a report behind the upstream event
+abbrev pub remote_in : Row → List ℕ × List ℕ
+remote_in row = (text_of (column row 0), text_of (column row 1))
+
+-- 2 is PUT, 3 DELETE, 4 GET
+abbrev pub operation_of : ℕ → OperationKind
+operation_of n = if n == 2 then Put else (if n == 3 then Delete else (if n == 4 then Get else Post))
+
+-- where an entry goes: to the utility where it has an event
+abbrev pub addressee_in : Option (List ℕ) → Row → Addressee
+addressee_in (Some event) columns = Utility event
+addressee_in None columns = Subscriber (number_of (column columns 0)) (text_of (column columns 3)) (name_of (column columns 4))
+
+abbrev pub delivery_in : Row → Delivery
+delivery_in columns = record {
+  failures = number_of (column columns 0);
+  leases = number_of (column columns 1);
+  lease = if flag_of (column columns 2) then Some (number_of (column columns 3)) else None;
+  due = number_of (column columns 4);
+}
+
+abbrev pub waiting_in : Row → Entry
+waiting_in columns = record {
+  addressee = addressee_in (name_of (column columns 1)) columns;
+  operation = operation_of (number_of (column columns 2));
+  body = text_of (column columns 5);
+  delivery = delivery_in (drop 6 columns);
+}
+
 -- ---- all tables
 
 -- what is kept, of the rows of the tables in their order
@@ -176,6 +209,8 @@ kept_from all = record {
     subs = map (numbered_in sub_in) (rows_of_table all 9);
   };
   stamps = map stamped_in (rows_of_table all 6);
+  remotes = map remote_in (rows_of_table all 10);
+  entries = map (numbered_in waiting_in) (rows_of_table all 11);
 }
 
 -- what trees keep

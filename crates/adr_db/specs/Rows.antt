@@ -1,5 +1,5 @@
 -- How what is kept stands in rows of SQL's values.
-use Rattle.std.specs.Prelude.{ℕ, suc, ℤ, pos, List, ◌==◌, if◌then◌else◌, [], ◌∷◌, ◌++◌, string_bytes, Option, Result, Ok, Err}
+use Rattle.std.specs.Prelude.{ℕ, suc, ℤ, pos, Bool, List, ◌==◌, if◌then◌else◌, [], ◌∷◌, ◌++◌, string_bytes, Option, None, Some, is_some, Result, Ok, Err}
 use Rattle.sqlite.specs.declared.types.Value.{Value}
 use Rattle.sqlite.specs.declared.types.Value.TheVariants.{Int, Text}
 use Rattle.sqlite.specs.Values.{or_null}
@@ -14,6 +14,15 @@ use Rattle.adr_objects.specs.declared.kind.Kind.{Kind}
 use Rattle.adr_objects.specs.declared.kind.Kind.TheVariants.{Program, Event}
 use Rattle.adr_subscription.specs.declared.kept_sub.Sub.{Sub}
 use Rattle.adr_subscription.specs.Kept.{kept_text}
+use Rattle.adr_subscription.specs.declared.words.OperationKind.{OperationKind}
+use Rattle.adr_subscription.specs.declared.words.OperationKind.TheVariants.{Get, Post, Put, Delete}
+use Rattle.adr_delivery.specs.declared.addressee.Addressee.{Addressee}
+use Rattle.adr_delivery.specs.declared.addressee.Addressee.TheVariants.{Utility, Subscriber}
+use Rattle.adr_delivery.specs.declared.delivery.Delivery.{Delivery}
+use Rattle.adr_delivery.specs.declared.entry.Entry.{Entry}
+use Rattle.adr_delivery.specs.declared.outbox.EntryCounts.{EntryCounts}
+use Rattle.adr_delivery.specs.Entries.{destination, event_of}
+use Rattle.adr_delivery.specs.Jobs.{token_for}
 use Rattle.adr_state.specs.declared.base.Mark.{Mark}
 use Rattle.adr_state.specs.declared.base.Mark.TheVariants.{Live, Dead}
 use Rattle.adr_state.specs.declared.portfolio.Ven.{Ven}
@@ -36,23 +45,41 @@ use Rattle.adr_db.specs.Tables.{version}
 abbrev pub number : ℕ → Value
 number n = Int (pos n)
 
+-- 1 for yes, 0 for no
+abbrev pub flag_cell : Bool → Value
+flag_cell b = Int (if b then pos 1 else pos 0)
+
+-- how many entries there were, and what became of them
+abbrev pub counts_row : EntryCounts → Row
+counts_row c = number c.made ∷ number c.sent ∷ number c.given_up ∷ number c.dropped ∷ []
+
 -- the numbers of the node, behind the key 1 and the version of the tables
 abbrev pub meta_row : Meta → Row
 meta_row m =
     number 1
     ∷ number version
     ∷ number m.serial
-    ∷ Int (if m.scan then pos 1 else pos 0)
-    ∷ number m.made
-    ∷ number m.sent
-    ∷ number m.given_up
-    ∷ number m.dropped
+    ∷ flag_cell m.scan
+    ∷ number m.counts.made
+    ∷ number m.counts.sent
+    ∷ number m.counts.given_up
+    ∷ number m.counts.dropped
+    ∷ number m.pending
     ∷ number m.keys
     ∷ []
 
 -- the numbers of the node alone
 abbrev pub meta_numbers : Meta → Row
-meta_numbers m = number m.serial ∷ Int (if m.scan then pos 1 else pos 0) ∷ number m.made ∷ number m.sent ∷ number m.given_up ∷ number m.dropped ∷ number m.keys ∷ []
+meta_numbers m =
+    number m.serial
+    ∷ flag_cell m.scan
+    ∷ number m.counts.made
+    ∷ number m.counts.sent
+    ∷ number m.counts.given_up
+    ∷ number m.counts.dropped
+    ∷ number m.pending
+    ∷ number m.keys
+    ∷ []
 
 -- 1 a program, 2 an event
 abbrev pub kind_number : Kind → ℕ
@@ -152,6 +179,49 @@ sub_columns sub = owner_cell sub.owner ∷ Text (kept_text sub.body) ∷ stamps_
 -- a subscription behind its number
 abbrev pub sub_row : ℕ × Sub → Row
 sub_row e = number e.0 ∷ sub_columns e.1
+
+-- ---- the outbox
+
+abbrev pub event_key_row : List ℕ → Row
+event_key_row event = Text event ∷ []
+
+-- the utility's id of a report behind the upstream event
+abbrev pub remote_row : List ℕ × List ℕ → Row
+remote_row e = Text e.0 ∷ Text e.1 ∷ []
+
+-- what was done: 1 POST, 2 PUT, 3 DELETE, and 4 GET, which no entry has
+abbrev pub operation_number : OperationKind → ℕ
+operation_number Post = 1
+operation_number Put = 2
+operation_number Delete = 3
+operation_number Get = 4
+
+-- the address of a subscription; of the utility the empty text
+abbrev pub address_of : Addressee → List ℕ
+address_of (Utility event) = []
+address_of (Subscriber subscription address token) = address
+
+-- the end of the present lease; 0 where there is none
+abbrev pub lease_end : Option ℕ → ℕ
+lease_end None = 0
+lease_end (Some until) = until
+
+abbrev pub delivery_columns : Delivery → Row
+delivery_columns d = number d.failures ∷ number d.leases ∷ flag_cell (is_some d.lease) ∷ number (lease_end d.lease) ∷ number d.due ∷ []
+
+abbrev pub entry_columns : Entry → Row
+entry_columns e =
+    number (destination e.addressee)
+    ∷ or_null Text (event_of e.addressee)
+    ∷ number (operation_number e.operation)
+    ∷ Text (address_of e.addressee)
+    ∷ or_null Text (token_for e.addressee)
+    ∷ Text e.body
+    ∷ delivery_columns e.delivery
+
+-- an entry behind its number
+abbrev pub entry_row : ℕ × Entry → Row
+entry_row e = number e.0 ∷ entry_columns e.1
 
 -- ---- the stamps of what is shown
 

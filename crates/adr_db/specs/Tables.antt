@@ -21,6 +21,7 @@ meta_table =
     ∷ column (codes "sent") Integer
     ∷ column (codes "given_up") Integer
     ∷ column (codes "dropped") Integer
+    ∷ column (codes "pending") Integer
     ∷ column (codes "keys") Integer
     ∷ []) ((1 ∷ []) ∷ []) (1 ∷ []) []
 
@@ -113,8 +114,43 @@ sub_table =
     ∷ column (codes "modified") Integer
     ∷ []) ((1 ∷ []) ∷ (2 ∷ 1 ∷ []) ∷ []) (1 ∷ []) (cascades_to 2 (codes "ven") (codes "id") ∷ [])
 
+-- the utility's ids of the reports that it was sent, by their upstream events
+abbrev pub remote_table : Table
+remote_table = table (codes "remote") (column (codes "event") Text ∷ column (codes "id") Text ∷ []) ((1 ∷ []) ∷ []) (1 ∷ []) []
+
+-- the entries that wait: one for the utility has an event, one for a subscription an address and perhaps a token. The second unique key is there to
+-- find those of a destination
+abbrev pub outbox_table : Table
+outbox_table =
+    table (codes "outbox") (column (codes "id") Integer
+    ∷ column (codes "dest") Integer
+    ∷ nullable_column (codes "event") Text
+    ∷ column (codes "operation") Integer
+    ∷ column (codes "url") Text
+    ∷ nullable_column (codes "token") Text
+    ∷ column (codes "body") Text
+    ∷ column (codes "failed") Integer
+    ∷ column (codes "leases") Integer
+    ∷ column (codes "leased") Integer
+    ∷ column (codes "until") Integer
+    ∷ column (codes "due") Integer
+    ∷ []) ((1 ∷ []) ∷ (2 ∷ 1 ∷ []) ∷ []) (1 ∷ []) []
+
 abbrev pub tables : List Table
-tables = meta_table ∷ mirror_table ∷ polled_table ∷ ven_table ∷ resource_table ∷ share_table ∷ stamp_table ∷ report_table ∷ report_value_table ∷ sub_table ∷ []
+tables =
+    meta_table
+    ∷ mirror_table
+    ∷ polled_table
+    ∷ ven_table
+    ∷ resource_table
+    ∷ share_table
+    ∷ stamp_table
+    ∷ report_table
+    ∷ report_value_table
+    ∷ sub_table
+    ∷ remote_table
+    ∷ outbox_table
+    ∷ []
 
 abbrev pub schema : Schema
 schema = schema_of tables

@@ -1,6 +1,6 @@
 //! Columns of a row as the values that they stand for. What no call on the tables wrote is the store's
 //! refusal.
-ghost use Rattle.std.specs.Prelude.{◌≡◌, ◌<◌, ◌+◌, pos, [], ◌∷◌, IfOk, IfErr, IsTrue};
+ghost use Rattle.std.specs.Prelude.{◌≡◌, ◌<◌, ◌+◌, pos, Bool, [], ◌∷◌, IfOk, IfErr, IsTrue};
 ghost use Rattle.sqlite_sql.specs.Ops.{is_null};
 ghost use Rattle.sqlite.specs.Order.{column};
 ghost use Rattle.sqlite_value.specs.Value.{owned};
@@ -12,7 +12,7 @@ ghost use Rattle.adr_db.specs.Admitted.{IsIdText, IsNameText, IsMoment, AreStamp
 ghost use Rattle.adr_state.specs.Weights.{is_weight};
 ghost use Rattle.adr_objects.specs.declared.kind.Kind.{Kind as KindOf};
 ghost use Rattle.adr_text.specs.declared.refusal.Refusal.TheVariants.{Store};
-ghost use Rattle.adr_db.specs.Rows.{as_stored, number, kind_number, key_row, stamps_columns};
+ghost use Rattle.adr_db.specs.Rows.{as_stored, number, flag_cell, kind_number, key_row, stamps_columns};
 
 use crate::reading::FromRow;
 use crate::statement::refusal_of;
@@ -111,7 +111,8 @@ pub(crate) fn name_in(alloc: Global, row: &Row, at: usize) -> Result<Name, Refus
     as_stored(Name::new(alloc, text.as_str()))
 }
 
-fn moment_in(row: &Row, at: usize) -> Result<Moment, Refusal>
+/// The moment in a column.
+pub(crate) fn moment_in(row: &Row, at: usize) -> Result<Moment, Refusal>
     ensures moment { IfOk result (λ moment. column row.now at ≡ Int (pos moment)) }
     ensures refused { IfErr result (CannotRead IsMoment (λ value moment. value ≡ Int (pos moment)) (column row.now at)) }
 {
@@ -126,6 +127,19 @@ pub(crate) fn weight_in(row: &Row, at: usize) -> Result<Weight, Refusal>
 {
     let amount: u32 = column(row, at)?;
     Weight::new(amount).ok_or(Refusal::Store)
+}
+
+/// Whether it is 1; another number than 0 and 1 is refused.
+pub(crate) fn flag_in(row: &Row, at: usize) -> Result<bool, Refusal>
+    ensures value { IfOk result (λ b. column row.now at ≡ flag_cell b) }
+    ensures refused { IfErr result (IsMisread (λ value. (b : Bool) × (value ≡ flag_cell b)) (column row.now at)) }
+{
+    let found: u32 = column(row, at)?;
+    match found {
+        0 => Ok(false),
+        1 => Ok(true),
+        _ => Err(Refusal::Store),
+    }
 }
 
 /// The stamps in two columns.

@@ -5,6 +5,7 @@ pub mod cells;
 mod known;
 pub mod laws;
 mod meta;
+mod outbox;
 pub mod reading;
 mod report_columns;
 mod schema;
@@ -15,5 +16,6 @@ mod sub;
 
 pub use known::{MarkColumns, MirrorRow};
 pub use meta::{Meta, put_meta, read_meta};
+pub use outbox::RemoteRow;
 pub use report_columns::ReportColumns;
 pub use schema::create;

@@ -1,21 +1,23 @@
 //! The table `meta`: the numbers of the node, in one row.
-ghost use Rattle.std.specs.Prelude.{◌≡◌, pos, Bool, if◌then◌else◌, [], ◌∷◌, take, IfOk, IfErr};
+ghost use Rattle.std.specs.Prelude.{◌≡◌, ◌≤◌, pos, [], ◌∷◌, take, IfOk, IfErr};
 ghost use Rattle.sqlite.specs.Order.{column};
 ghost use Rattle.sqlite.specs.declared.types.Value.TheVariants.{Int};
-ghost use Rattle.adr_sql.specs.Keys.{with_row};
+ghost use Rattle.adr_sql.specs.Keys.{cells, with_row};
 ghost use Rattle.adr_sql.specs.Contents.{rows_of_table, with_table};
 ghost use Rattle.adr_sql.specs.Calls.{Stays, Changes};
 ghost use Rattle.adr_db.specs.Tables.{schema};
-ghost use Rattle.adr_db.specs.Rows.{meta_row, meta_numbers};
+ghost use Rattle.adr_db.specs.Rows.{meta_row, meta_numbers, counts_row, number};
 ghost use Rattle.adr_db.specs.Refusals.{RefusesToPut, RefusesToShow, IsMisread, CannotRead};
-ghost use Rattle.adr_db.specs.Admitted.{AreNumbers, ReadsMeta};
+ghost use Rattle.adr_delivery.specs.Tallies.{most_tally};
+ghost use Rattle.adr_db.specs.Admitted.{AreCounts, AreNumbers, ReadsMeta};
 ghost use Rattle.std.specs.List.{AllZip};
 ghost use Rattle.adr_db.specs.Kept.{first_meta, with_meta};
 ghost use Rattle.adr_db.specs.Calls.{LeavesKept, Finds, IsOfStore};
 
-use crate::cells::{column, number};
+use crate::cells::{column, flag_in, number};
 use crate::reading::{FromRow, first_in};
 use crate::statement::{rows_of, run};
+use adr_delivery::{EntryCounts, Tally};
 use adr_state::Serial;
 use adr_text::Refusal;
 use sqlite::types::ToSql;
@@ -23,10 +25,10 @@ use sqlite::{Alter, Row, Transaction};
 use std::alloc::Global;
 
 const PUT: &str =
-    "INSERT INTO meta (k, version, serial, scan, made, sent, given_up, dropped, keys) VALUES (1, 1, ?1, ?2, ?3, ?4, ?5, ?6, ?7) ON CONFLICT (k) DO UPDATE SET k = excluded.k, version = excluded.version, serial = excluded.serial, scan = excluded.scan, made = excluded.made, sent = excluded.sent, given_up = excluded.given_up, dropped = excluded.dropped, keys = excluded.keys";
+    "INSERT INTO meta (k, version, serial, scan, made, sent, given_up, dropped, pending, keys) VALUES (1, 1, ?1, ?2, ?3, ?4, ?5, ?6, ?7, ?8) ON CONFLICT (k) DO UPDATE SET k = excluded.k, version = excluded.version, serial = excluded.serial, scan = excluded.scan, made = excluded.made, sent = excluded.sent, given_up = excluded.given_up, dropped = excluded.dropped, pending = excluded.pending, keys = excluded.keys";
 
 const READ: &str =
-    "SELECT k, version, serial, scan, made, sent, given_up, dropped, keys FROM meta ORDER BY k";
+    "SELECT k, version, serial, scan, made, sent, given_up, dropped, pending, keys FROM meta ORDER BY k";
 
 /// The numbers of the node. None that is kept is above 9,223,372,036,854,775,807.
 #[derive(Clone, Copy, PartialEq, Eq)]
@@ -36,10 +38,9 @@ pub struct Meta {
     /// Whether a scan is open.
     pub scan: bool,
     /// How many entries of the outbox were made, and what became of them.
-    pub made: u64,
-    pub sent: u64,
-    pub given_up: u64,
-    pub dropped: u64,
+    pub counts: EntryCounts,
+    /// How many entries wait. To count their rows is to go through all of them.
+    pub pending: u64,
     /// How many keys the mirror has. To count its rows is to go through all of them.
     pub keys: u64,
 }
@@ -52,10 +53,8 @@ impl Meta {
         Meta {
             serial: Serial::new(),
             scan: false,
-            made: 0,
-            sent: 0,
-            given_up: 0,
-            dropped: 0,
+            counts: EntryCounts::none(),
+            pending: 0,
             keys: 0,
         }
     }
@@ -75,10 +74,11 @@ pub(crate) fn write_meta<S: Alter>(tx: &mut Transaction<'_, S>, meta: &Meta) -> 
         &[
             number(meta.serial.get())?,
             meta.scan.to_sql(),
-            number(meta.made)?,
-            number(meta.sent)?,
-            number(meta.given_up)?,
-            number(meta.dropped)?,
+            number(meta.counts.made.get())?,
+            number(meta.counts.sent.get())?,
+            number(meta.counts.given_up.get())?,
+            number(meta.counts.dropped.get())?,
+            number(meta.pending)?,
             number(meta.keys)?,
         ],
     )
@@ -107,17 +107,24 @@ fn expect(row: &Row, at: usize, wanted: u32) -> Result<(), Refusal>
     Ok(())
 }
 
-/// Whether it is 1; another number than 0 and 1 is refused.
-fn flag(row: &Row, at: usize) -> Result<bool, Refusal>
-    ensures value { IfOk result (λ b. column row.now at ≡ Int (if b then pos 1 else pos 0)) }
-    ensures refused { IfErr result (IsMisread (λ value. (b : Bool) × (value ≡ Int (if b then pos 1 else pos 0))) (column row.now at)) }
+fn tally_in(row: &Row, at: usize) -> Result<Tally, Refusal>
+    ensures tally { IfOk result (λ tally. column row.now at ≡ number tally) }
+    ensures refused { IfErr result (CannotRead (λ tally. tally ≤ most_tally) (λ value tally. value ≡ number tally) (column row.now at)) }
 {
-    let found: u32 = column(row, at)?;
-    match found {
-        0 => Ok(false),
-        1 => Ok(true),
-        _ => Err(Refusal::Store),
-    }
+    Tally::new(column(row, at)?).ok_or(Refusal::Store)
+}
+
+// The counts of entries, from the fifth column on.
+fn counts_in(row: &Row) -> Result<EntryCounts, Refusal>
+    ensures counts { IfOk result (λ counts. counts_row counts ≡ cells 4 4 row.now) }
+    ensures refused { IfErr result (CannotRead AreCounts (λ row counts. counts_row counts ≡ cells 4 4 row) row.now) }
+{
+    Ok(EntryCounts {
+        made: tally_in(row, 4)?,
+        sent: tally_in(row, 5)?,
+        given_up: tally_in(row, 6)?,
+        dropped: tally_in(row, 7)?,
+    })
 }
 
 impl FromRow for Meta {
@@ -130,12 +137,10 @@ impl FromRow for Meta {
         expect(row, 1, 1)?;
         Ok(Meta {
             serial: Serial::at(column(row, 2)?).ok_or(Refusal::Store)?,
-            scan: flag(row, 3)?,
-            made: column(row, 4)?,
-            sent: column(row, 5)?,
-            given_up: column(row, 6)?,
-            dropped: column(row, 7)?,
-            keys: column(row, 8)?,
+            scan: flag_in(row, 3)?,
+            counts: counts_in(row)?,
+            pending: column(row, 8)?,
+            keys: column(row, 9)?,
         })
     }
 }

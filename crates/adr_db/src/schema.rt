@@ -19,7 +19,7 @@ use adr_text::Refusal;
 use sqlite::{Alter, Transaction};
 
 const META: &str =
-    "CREATE TABLE meta (k INT NOT NULL, version INT NOT NULL, serial INT NOT NULL, scan INT NOT NULL, made INT NOT NULL, sent INT NOT NULL, given_up INT NOT NULL, dropped INT NOT NULL, keys INT NOT NULL, PRIMARY KEY (k)) STRICT";
+    "CREATE TABLE meta (k INT NOT NULL, version INT NOT NULL, serial INT NOT NULL, scan INT NOT NULL, made INT NOT NULL, sent INT NOT NULL, given_up INT NOT NULL, dropped INT NOT NULL, pending INT NOT NULL, keys INT NOT NULL, PRIMARY KEY (k)) STRICT";
 
 const MIRROR: &str =
     "CREATE TABLE mirror (kind INT NOT NULL, id TEXT NOT NULL, state INT NOT NULL, moment INT NOT NULL, body TEXT NOT NULL, PRIMARY KEY (kind, id)) STRICT";
@@ -48,13 +48,19 @@ const REPORT_VALUE: &str =
 const SUB: &str =
     "CREATE TABLE sub (id INT NOT NULL, ven INT REFERENCES ven (id) ON DELETE CASCADE, body TEXT NOT NULL, created INT NOT NULL, modified INT NOT NULL, PRIMARY KEY (id), UNIQUE (ven, id)) STRICT";
 
+const REMOTE: &str =
+    "CREATE TABLE remote (event TEXT NOT NULL, id TEXT NOT NULL, PRIMARY KEY (event)) STRICT";
+
+const OUTBOX: &str =
+    "CREATE TABLE outbox (id INT NOT NULL, dest INT NOT NULL, event TEXT, operation INT NOT NULL, url TEXT NOT NULL, token TEXT, body TEXT NOT NULL, failed INT NOT NULL, leases INT NOT NULL, leased INT NOT NULL, until INT NOT NULL, due INT NOT NULL, PRIMARY KEY (id), UNIQUE (dest, id)) STRICT";
+
 /// Makes the tables of a new node, which keep nothing, in an empty database.
 pub fn create<S: Alter>(tx: &mut Transaction<'_, S>) -> Result<(), Refusal>
     ensures same_reference { tx.new.conn.ghost_name ≡ tx.old.conn.ghost_name }
     ensures stays { Stays S.Store tx.old.conn.now tx.new.conn.now result }
     ensures made { HasCleanDisk (state S.Store tx.new.conn.now) → OnOk result (Holds no_schema [] (state S.Store tx.old.conn.now) → Keeps nothing_kept (state S.Store tx.new.conn.now)) }
     ensures refused { IfErr result IsOfStore }
-    ensures fails { RefusesToRunAll S.Store tx.old.conn.now tx.new.conn.now (META.now ∷ MIRROR.now ∷ POLLED.now ∷ VEN.now ∷ RESOURCE.now ∷ SHARE.now ∷ STAMP.now ∷ REPORT.now ∷ REPORT_VALUE.now ∷ SUB.now ∷ []) PUT.now (meta_numbers first_meta) result }
+    ensures fails { RefusesToRunAll S.Store tx.old.conn.now tx.new.conn.now (META.now ∷ MIRROR.now ∷ POLLED.now ∷ VEN.now ∷ RESOURCE.now ∷ SHARE.now ∷ STAMP.now ∷ REPORT.now ∷ REPORT_VALUE.now ∷ SUB.now ∷ REMOTE.now ∷ OUTBOX.now ∷ []) PUT.now (meta_numbers first_meta) result }
 {
     let texts = [
         META,
@@ -67,6 +73,8 @@ pub fn create<S: Alter>(tx: &mut Transaction<'_, S>) -> Result<(), Refusal>
         REPORT,
         REPORT_VALUE,
         SUB,
+        REMOTE,
+        OUTBOX,
     ];
     match create_tables(tx, &texts) {
         Ok(()) => write_meta(tx, &Meta::first()),

@@ -27,14 +27,18 @@ abbrev pub method_for : Option (List ℕ) → JobMethod
 method_for None = Post
 method_for (Some remote) = Put
 
--- a notification is posted to its address; a report is put in the place of the one that the utility has of the same event, and else posted
-abbrev pub job_of : Outbox → ℕ × Entry → Job
-job_of o e = record {
+-- a notification is posted to its address; a report is put in the place of the one that the utility gave an id, and else posted
+abbrev pub job_for : Option (List ℕ) → ℕ × Entry → Job
+job_for remote e = record {
   entry = e.0;
   lease = e.1.delivery.leases;
   destination = destination e.1.addressee;
-  method = method_for (remote_for e.1.addressee o);
-  target = target_for (remote_for e.1.addressee o) e.1.addressee;
+  method = method_for remote;
+  target = target_for remote e.1.addressee;
   token = token_for e.1.addressee;
   body = e.1.body;
 }
+
+-- so with the id that the utility has of the same event, where it has one
+abbrev pub job_of : Outbox → ℕ × Entry → Job
+job_of o e = job_for (remote_for e.1.addressee o) e

@@ -1,4 +1,5 @@
 pub mod Tallies
+pub mod Counts
 pub mod Failing
 pub mod Deliveries
 pub mod Entries

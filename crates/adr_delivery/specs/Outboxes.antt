@@ -13,6 +13,7 @@ use Rattle.adr_delivery.specs.declared.addressee.Addressee.{Addressee}
 use Rattle.adr_delivery.specs.declared.addressee.Addressee.TheVariants.{Utility, Subscriber}
 use Rattle.adr_delivery.specs.declared.delivery.Delivery.{Delivery}
 use Rattle.adr_delivery.specs.declared.entry.Entry.{Entry}
+use Rattle.adr_delivery.specs.Counts.{no_counts}
 use Rattle.adr_delivery.specs.Deliveries.{leased, has_lease, after_failure}
 use Rattle.adr_delivery.specs.Entries.{destination}
 use Rattle.adr_delivery.specs.Next.{next_entry}
@@ -20,7 +21,7 @@ use Rattle.adr_delivery.specs.Tallies.{plus}
 use Rattle.adr_delivery.specs.declared.outbox.Outbox.{Outbox}
 
 abbrev pub no_entries : Outbox
-no_entries = record { entries = []; remotes = []; counts = record { made = 0; sent = 0; given_up = 0; dropped = 0 } }
+no_entries = record { entries = []; remotes = []; counts = no_counts }
 
 -- how many were made, what came of them, and how many wait
 abbrev pub counts_of : Outbox → OutboxCounts
@@ -109,12 +110,14 @@ kept_for subscriptions o = record o {
 abbrev pub with_entries : List (ℕ × Entry) → List (ℕ × Entry) → List (ℕ × Entry)
 with_entries further entries = fold (λ m e. insert_entry nat_cmp m e.0 e.1) entries further
 
--- whether there are numbers left for so many further entries, and whether so many may wait: 4 and then 3, for all of them at once
+-- whether there are numbers left for so many further entries, and whether so many may wait: 4 and then 3, for all of them at once. For none there is
+-- always room
 abbrev pub check_room : ℕ → ℕ → ℕ → ℕ → ℕ → Result Unit Refusal
 check_room most pending last waiting further =
-    if nat_lt most (last + further) then Err Exhausted
+    if further == 0 then Ok tt
+    else (if nat_lt most (last + further) then Err Exhausted
     else (if nat_lt pending (waiting + further) then Err OutboxFull
-    else Ok tt)
+    else Ok tt))
 
 abbrev pub appended : List (ℕ × Entry) → Outbox → Outbox
 appended further o = record o { entries = with_entries further o.entries; counts = record o.counts { made = plus o.counts.made (length further) } }

@@ -17,7 +17,8 @@ fn has_addressee<S: Drop>(subscriptions: &Table<Number, S>, number: Number, entr
 }
 
 /// Refuses so many further entries where numbers are wanting for them (`Exhausted`), and then where they would be more
-/// than may wait (`OutboxFull`). `last` is the last number that was drawn, `most` the largest that may be.
+/// than may wait (`OutboxFull`). For none there is always room. `last` is the last number that was drawn, `most` the
+/// largest that may be.
 pub fn check_room(
     most: u64,
     pending: u64,
@@ -27,6 +28,9 @@ pub fn check_room(
 ) -> Result<(), Refusal>
     ensures { result ≡ check_room most pending last waiting further }
 {
+    if further == 0 {
+        return Ok(());
+    }
     if most < last || most - last < further as u64 {
         return Err(Refusal::Exhausted);
     }

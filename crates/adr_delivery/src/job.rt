@@ -1,7 +1,7 @@
 //! What a sender is told to send.
 ghost use Rattle.std.specs.Prelude.{◌≡◌, IfOk};
 ghost use Rattle.std.specs.Option.{option_copied};
-ghost use Rattle.adr_delivery.specs.Jobs.{report_target, target_for, token_for, method_for, job_of};
+ghost use Rattle.adr_delivery.specs.Jobs.{report_target, target_for, token_for, method_for, job_for, job_of};
 
 use crate::addressee::Addressee;
 use crate::entry::Entry;
@@ -89,21 +89,33 @@ fn method_for(remote: Option<&ObjectId>) -> JobMethod
     }
 }
 
+/// What is to be sent of an entry that was leased. A notification goes to its address; a report goes in the place of the
+/// one that the utility gave that id, and without one is a new one.
+pub fn job_for(
+    alloc: Global,
+    number: Number,
+    entry: &Entry,
+    remote: Option<&ObjectId>,
+) -> Result<Job, AllocError>
+    ensures { IfOk result (λ job. job ≡ job_for (option_copied remote.entry) (number, entry.now)) }
+{
+    Ok(Job {
+        entry: number,
+        lease: entry.delivery.leases,
+        destination: entry.addressee.destination(),
+        method: method_for(remote),
+        target: target_for(alloc, &entry.addressee, remote)?,
+        token: token_for(&entry.addressee)?,
+        body: entry.body.clone()?,
+    })
+}
+
 impl Outbox {
     /// What is to be sent of an entry that was leased. A report goes in the place of the one that the utility has, where
     /// it has one of the same event.
     pub fn job(&self, alloc: Global, number: Number, entry: &Entry) -> Result<Job, AllocError>
         ensures { IfOk result (λ job. job ≡ job_of self.now (number, entry.now)) }
     {
-        let remote = self.remote(&entry.addressee);
-        Ok(Job {
-            entry: number,
-            lease: entry.delivery.leases,
-            destination: entry.addressee.destination(),
-            method: method_for(remote),
-            target: target_for(alloc, &entry.addressee, remote)?,
-            token: token_for(&entry.addressee)?,
-            body: entry.body.clone()?,
-        })
+        job_for(alloc, number, entry, self.remote(&entry.addressee))
     }
 }

@@ -19,6 +19,6 @@ pub use append::check_room;
 pub use delivery::Delivery;
 pub use entry::Entry;
 pub use failures::Failures;
-pub use job::{Job, JobMethod};
+pub use job::{Job, JobMethod, job_for};
 pub use outbox::{EntryCounts, Outbox};
 pub use tally::Tally;

@@ -1,6 +1,7 @@
 //! The outbox: the entries that wait, what the utility was sent, and how many entries there were.
 ghost use Rattle.std.specs.Prelude.{◌≡◌, IfOk};
 ghost use Rattle.std.specs.Option.{option_copied};
+ghost use Rattle.adr_delivery.specs.Counts.{no_counts};
 ghost use Rattle.adr_delivery.specs.Outboxes.{no_entries, counts_of, remote_for};
 
 use crate::addressee::Addressee;
@@ -18,6 +19,20 @@ pub struct EntryCounts {
     pub given_up: Tally,
     /// Those that went with their subscription.
     pub dropped: Tally,
+}
+
+impl EntryCounts {
+    /// Those before the first entry.
+    pub fn none() -> EntryCounts
+        ensures { result ≡ no_counts }
+    {
+        EntryCounts {
+            made: Tally::zero(),
+            sent: Tally::zero(),
+            given_up: Tally::zero(),
+            dropped: Tally::zero(),
+        }
+    }
 }
 
 /// The entries that wait, by their numbers; the utility's ids of the reports that it was sent, by their upstream events;
@@ -47,12 +62,7 @@ impl Outbox {
         Outbox {
             entries: Table::new(alloc),
             remotes: Table::new(alloc),
-            counts: EntryCounts {
-                made: Tally::zero(),
-                sent: Tally::zero(),
-                given_up: Tally::zero(),
-                dropped: Tally::zero(),
-            },
+            counts: EntryCounts::none(),
         }
     }
 

@@ -10,7 +10,7 @@ use Rattle.adr_state.specs.declared.portfolio.Portfolio.{Portfolio}
 use Rattle.adr_state.specs.declared.state.State.{State}
 use Rattle.sqlite.specs.State as sql
 use Rattle.adr_db.specs.declared.meta.Meta.{Meta}
-use Rattle.adr_db.specs.Bases.{Beside, beside_of, meta_of, kept_beside}
+use Rattle.adr_db.specs.Bases.{Beside, beside_of, meta_of, with_base, kept_beside}
 use Rattle.adr_db.specs.BaseCalls.{Carries, Makes, Refuses, RefusesOn}
 use Rattle.adr_db.specs.Calls.{IsOfStore}
 use Rattle.adr_machine.specs.declared.outcome.Outcome.{Outcome}
@@ -176,6 +176,10 @@ serial_stays (JoinMarks marks scan) base = refl
 serial_stays (SetScan scan) base = refl
 serial_stays (ChangePortfolio change) base = refl
 
+-- numbers that were read of a state have those of its base
+pub numbers_read : (held : State) (numbers : Meta) → numbers ≡ meta_of held → numbers ≡ with_base numbers held.base
+numbers_read held numbers is = is ∙ ap (λ (m : Meta). with_base m held.base) (sym is)
+
 -- what was decided, and its number drawn, is the edit
 module _ (limits : Limits) (now : ℕ) (command : Command) (held : State) (n : ℕ) (next : n ≡ held.base.serial + 1) where
   abbrev base : Base
@@ -184,7 +188,7 @@ module _ (limits : Limits) (now : ℕ) (command : Command) (held : State) (n : �
   pub decision_refused : (e : Refusal) → IsRefusalOf e (decided limits now n base command) → IsRefusalOf e (edit_of limits now base command)
   decision_refused e h = then_refused e (decided limits now (base.serial + 1) base command) (numbered limits (draws_number command) base) (subst (λ (m : ℕ). IsRefusalOf e (decided limits now m base command)) next h)
 
-  module _ (meta : Meta) (said : Outcome) (s : sql.State) (it : IsDecided (λ base. decided limits now n base command) (beside_of held) base meta said s) where
+  module _ (before meta : Meta) (said : Outcome) (s : sql.State) (it : IsDecided (λ base. decided limits now n base command) (beside_of held) base before meta said s) where
     -- the edit, when it is known what is drawn
     drawn_is : (r : Result ℕ Refusal) → drawn limits meta.serial (draws_number command) ≡ r → edit_of limits now base command ≡ (r >>= λ serial. Ok (said, record (changed it.change base) { serial = serial }))
     drawn_is r is =
@@ -195,12 +199,13 @@ module _ (limits : Limits) (now : ℕ) (command : Command) (held : State) (n : �
     pub draw_refused : (e : Refusal) → drawn limits meta.serial (draws_number command) ≡ Err e → IsRefusalOf e (edit_of limits now base command)
     draw_refused e is = refused_so e _ (drawn_is (Err e) is)
 
-    pub is_edited : (serial : ℕ) (t : sql.State) → drawn limits meta.serial (draws_number command) ≡ Ok serial → ((kept : Kept) → Keeps kept s → kept.meta ≡ meta_of base → Keeps (with_meta (record meta { serial = serial }) kept) t)
+    pub is_edited : before ≡ meta_of held → (serial : ℕ) (t : sql.State) → drawn limits meta.serial (draws_number command) ≡ Ok serial → ((kept : Kept) → Keeps kept s → kept.meta ≡ meta_of held → Keeps (with_meta (record meta { serial = serial }) kept) t)
         → IsEdited (λ base. edit_of limits now base command) held said t
-    is_edited serial t left put =
-        let counted : ◌≡◌ {A = Meta} (record meta { serial = serial }) (record (meta_of (changed it.change base)) { serial = serial }) = ap (λ (m : Meta). let after : Meta = record m { serial = serial } in after) it.counted in
+    is_edited read serial t left put =
+        let numbers : meta ≡ meta_of (record held { base = changed it.change base }) = it.counted ∙ ap (λ (m : Meta). with_base m (changed it.change base)) read in
+        let counted : ◌≡◌ {A = Meta} (record meta { serial = serial }) (record (meta_of (record held { base = changed it.change base })) { serial = serial }) = ap (λ (m : Meta). let after : Meta = record m { serial = serial } in after) numbers in
         record {
           after = record (changed it.change base) { serial = serial };
           edited = drawn_is (Ok serial) left;
-          holds = subst (λ (m : Meta). Keeps (kept_beside (record { numbers = m; stamps = held.stamps }) (changed it.change base)) t) counted (put (kept_beside (beside_of held) (changed it.change base)) it.holds refl);
+          holds = subst (λ (m : Meta). Keeps (kept_beside (record (beside_of held) { numbers = m }) (changed it.change base)) t) counted (put (kept_beside (beside_of held) (changed it.change base)) it.holds refl);
         }

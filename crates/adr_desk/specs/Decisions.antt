@@ -14,7 +14,7 @@ use Rattle.adr_state.specs.Subs.{sub_post}
 use Rattle.adr_state.specs.declared.keys.ViewKey.{ViewKey}
 use Rattle.adr_state.specs.BaseChanges.{BaseChange, changed}
 use Rattle.adr_db.specs.declared.meta.Meta.{Meta}
-use Rattle.adr_db.specs.Bases.{Beside, meta_of, HoldsBeside}
+use Rattle.adr_db.specs.Bases.{Beside, with_base, HoldsBeside}
 use Rattle.adr_db.specs.BaseCalls.{RefusesOn}
 use Rattle.adr_view.specs.Sights.{owner_in}
 use Rattle.adr_view.specs.Subs.{sub_put}
@@ -26,19 +26,20 @@ use Rattle.adr_machine.specs.Listed.{listed}
 use Rattle.adr_machine.specs.Steps.{answered_by}
 use Rattle.adr_machine.specs.Edits.{Decision, of_portfolio, sub_outcome}
 
--- what is decided of a base is that this comes of it, with a change, which is carried out: the tables hold the base after it, beside the numbers and stamps
--- that they had, and the caller's numbers are those of that base
-pub record IsDecided (decide : Base → Result Decision Refusal) (beside : Beside) (base : Base) (after : Meta) (said : Outcome) (s : State) : Type 0 where
+-- what is decided of a base is that this comes of it, with a change, which is carried out: the tables hold the base after it, beside what stood there, and
+-- the caller's numbers are those before with those of that base
+pub record IsDecided (decide : Base → Result Decision Refusal) (beside : Beside) (base : Base) (before after : Meta) (said : Outcome) (s : State) : Type 0 where
   pub change : BaseChange
   pub decided : decide base ≡ Ok (record { outcome = said; change = change })
   pub holds : HoldsBeside beside (changed change base) s
-  pub counted : after ≡ meta_of (changed change base)
+  pub counted : after ≡ with_base before (changed change base)
 
 module _ {S : Type 0} (g : Ghosts S) (old new : Held S) where
-  -- after Ok, what is decided of each base that the tables held is carried out, where the caller's numbers were those of the base
+  -- after Ok, what is decided of each base that the tables held is carried out, where those of the caller's numbers which a base has were those
+  -- of the base
   abbrev pub Decides : (Base → Result Decision Refusal) → Meta → Meta → Result Outcome Refusal → Type 0
   Decides decide before after result =
-      HasCleanDisk (state g new) → IfOk result (λ said. (beside : Beside) (base : Base) → HoldsBeside beside base (state g old) → before ≡ meta_of base → IsDecided decide beside base after said (state g new))
+      HasCleanDisk (state g new) → IfOk result (λ said. (beside : Beside) (base : Base) → HoldsBeside beside base (state g old) → before ≡ with_base before base → IsDecided decide beside base before after said (state g new))
 
   -- so it is, and a refusal is that of the decision
   pub record CarriesOut (decide : Base → Result Decision Refusal) (before after : Meta) (result : Result Outcome Refusal) : Type 0 where

@@ -8,8 +8,8 @@ use Rattle.adr_text.specs.Refusals.{◌>>=◌}
 use Rattle.adr_objects.specs.declared.body.Found.{Found}
 use Rattle.adr_state.specs.Marks.{is_below}
 use Rattle.adr_db.specs.declared.meta.Meta.{Meta}
-use Rattle.adr_db.specs.Kept.{Kept, Keeps, at_most, with_mark, first_meta}
-use Rattle.adr_db.specs.Bases.{Beside, keys_polled, meta_of, kept_beside}
+use Rattle.adr_db.specs.Kept.{Kept, Keeps, at_most, with_mark}
+use Rattle.adr_db.specs.Bases.{Beside, keys_polled, with_base, kept_beside}
 use Rattle.adr_mirror.specs.Raises.{are_beyond, with_raised, with_polled_if}
 use Rattle.adr_mirror.specs.Missed.{missed, closing}
 
@@ -40,12 +40,12 @@ module _ (limits : Limits) (base : Base) (marks : List (MirrorKey × Mark)) (sca
   is_refused h = ap (λ b. cond b (Err LimitReached) (Ok (JoinMarks marks scan))) (sym (beyond_is limits.keys (length base.mirror) added (length (joined base.mirror marks)) is) ∙ h)
 
 -- the numbers of the node, once the keys that were added are counted: a scan that was open is open
-pub counted_is : (base : Base) (mirror : List (MirrorKey × Mark)) (scan : Option (List MirrorKey)) (added : ℕ) (old new : Meta) → old ≡ meta_of base → new ≡ record old { keys = old.keys + added } → length base.mirror + added ≡ length mirror
-    → is_some scan ≡ is_some base.scan → new ≡ meta_of (record base { mirror = mirror; scan = scan })
+pub counted_is : (base : Base) (mirror : List (MirrorKey × Mark)) (scan : Option (List MirrorKey)) (added : ℕ) (old new : Meta) → old ≡ with_base old base → new ≡ record old { keys = old.keys + added } → length base.mirror + added ≡ length mirror
+    → is_some scan ≡ is_some base.scan → new ≡ with_base old (record base { mirror = mirror; scan = scan })
 counted_is base mirror scan added old new same is grows still =
     is
     ∙ ap (λ (m : Meta). let after : Meta = record m { keys = m.keys + added } in after) same
-    ∙ ap₂ (λ (n : ℕ) (is_open : Bool). let after : Meta = record first_meta { serial = base.serial; scan = is_open; keys = n } in after) grows (sym still)
+    ∙ ap₂ (λ (n : ℕ) (is_open : Bool). let after : Meta = record old { serial = base.serial; scan = is_open; keys = n } in after) grows (sym still)
 
 -- ---- scans
 

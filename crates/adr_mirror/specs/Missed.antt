@@ -12,7 +12,7 @@ use Rattle.adr_state.specs.BaseChanges.{BaseChange}
 use Rattle.adr_state.specs.Evidence.{open_scan, scan_end}
 use Rattle.adr_db.specs.declared.meta.Meta.{Meta}
 use Rattle.adr_db.specs.Kept.{at_most}
-use Rattle.adr_db.specs.Bases.{Beside, meta_of, HoldsBeside}
+use Rattle.adr_db.specs.Bases.{Beside, with_base, HoldsBeside}
 
 -- the first ones, at most so many where there is a limit
 abbrev pub missed : Option ℕ → Base → Result (List MirrorKey) Refusal
@@ -23,8 +23,8 @@ abbrev pub closing : Base → Result BaseChange Refusal
 closing base = scan_end base >>= λ d. Ok d.1
 
 module _ {S : Type 0} (g : Ghosts S) (old new : Held S) where
-  -- after Ok, the answer is what the base that the tables held beside any numbers and stamps tells, where the caller's numbers were those of the
-  -- base; and they hold it still
+  -- after Ok, the answer is what the base that the tables held, whatever stood beside it, tells, where those of the caller's numbers which a base has
+  -- were those of the base; and they hold it still
   abbrev pub TellsOn : {T E : Type 0} → (Base → Result T Refusal) → Meta → Result T E → Type 0
   TellsOn told before result =
-      HasCleanDisk (state g new) → IfOk result (λ x. (beside : Beside) (base : Base) → HoldsBeside beside base (state g old) → before ≡ meta_of base → (told base ≡ Ok x) × HoldsBeside beside base (state g new))
+      HasCleanDisk (state g new) → IfOk result (λ x. (beside : Beside) (base : Base) → HoldsBeside beside base (state g old) → before ≡ with_base before base → (told base ≡ Ok x) × HoldsBeside beside base (state g new))

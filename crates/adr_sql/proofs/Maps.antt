@@ -103,6 +103,9 @@ number_key j k a b = then_none _ ∙ value_cmp-Int j k
 pub text_same : (j k : List ℕ) → slice_cmp nat_cmp k j ≡ Equal → k ≡ j
 text_same j k e = (bytes_eq-Decides k j).0 (sym (is_eq-slice_cmp k j) ∙ ap is_eq e)
 
+pub text_key : (s t : List ℕ) (a b : Row) → key_order 1 (Text s ∷ a) (Text t ∷ b) ≡ slice_cmp nat_cmp s t
+text_key s t a b = then_none _ ∙ value_cmp-Text s t
+
 -- the test of a column that is a text
 abbrev pub is_text : ℕ → List Term
 is_text at = op2 (Compare Eq Binary) (col 1 (suc at)) (col 0 0) ∷ []

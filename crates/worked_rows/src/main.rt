@@ -19,10 +19,11 @@
 //! The commands of each row are then told as a list to a plain desk and to tables, which have to answer them alike and hold what the row led to.
 //!
 //! Who takes part in an event is read from tables of its own, by number and weight, since no line of a script asks for
-//! that. The calls on reports and roll-ups are made on such tables too, without a desk.
+//! that. The calls on reports and roll-ups, and those on the outbox, are made on such tables too, without a desk.
 #![tactic(auto)]
 
 mod answers;
+mod outbox;
 mod participants;
 mod play;
 mod portfolio;
@@ -36,6 +37,7 @@ mod texts;
 mod twin;
 mod whole_run;
 
+use crate::outbox::run_outbox;
 use crate::participants::run_participants;
 use crate::play::play;
 use crate::report::{report, report_both, report_list};
@@ -194,7 +196,8 @@ fn run_all<R: Env + Files + Print + AllocGlobal + Clone + Drop>(rt: &R) -> Resul
     let texts = run_texts_of(rt, folder.as_str())?;
     let participants = run_participants(rt)?;
     let reports = run_reports(rt)?;
-    Ok(rows && texts && participants && reports)
+    let outbox = run_outbox(rt)?;
+    Ok(rows && texts && participants && reports && outbox)
 }
 
 fn main(rt: HostRuntime) -> Result<ExitCode> {

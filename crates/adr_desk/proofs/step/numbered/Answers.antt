@@ -12,7 +12,7 @@ use Rattle.adr_machine.specs.Listed.{listed}
 use Rattle.adr_machine.proofs.Listed.{drawn_listed}
 use Rattle.adr_desk.specs.Steps.{IsEdited}
 use Rattle.adr_desk.proofs.After.{after_err, after_same, after_ok, after_made, after_refused}
-use Rattle.adr_desk.proofs.DecisionLemmas.{of_store, decision_refused, draw_refused, is_edited}
+use Rattle.adr_desk.proofs.DecisionLemmas.{of_store, numbers_read, decision_refused, draw_refused, is_edited}
 use Rattle.adr_desk.proofs.ListedLemmas.{Listed, contained_listed}
 use Rattle.adr_desk.proofs.step.numbered.Goals as goal
 
@@ -23,7 +23,7 @@ returns-in_err-said-clause-refuses g c clean =
     handed_on _ c.from_residual-in_err-said.result e c.from_residual-in_err-said.ensures.1 (λ held was.
     let found = c.in_ok-before.ensures.finds first (kept_of held) was in
     let next = c.next.ensures ∙ ap (λ (m : Meta). m.serial + 1) found.0 in
-    decision_refused c.args.limits.now c.args.now c.args.command.now held c.next.result next e (c.in_err-said.ensures.carries.refuses clean (beside_of held) held.base found.1 found.0))
+    decision_refused c.args.limits.now c.args.now c.args.command.now held c.next.result next e (c.in_err-said.ensures.carries.refuses clean (beside_of held) held.base found.1 (numbers_read held _ found.0)))
 
 pub returns-in_err-drawn-clause-refuses : goal.returns-in_err-drawn-clause-refuses
 returns-in_err-drawn-clause-refuses g c clean =
@@ -33,7 +33,7 @@ returns-in_err-drawn-clause-refuses g c clean =
     handed_on _ c.from_residual-in_err-drawn.result e c.from_residual-in_err-drawn.ensures.1 (λ held was.
     let found = c.in_ok-before.ensures.finds first (kept_of held) was in
     let next = c.next.ensures ∙ ap (λ (m : Meta). m.serial + 1) found.0 in
-    draw_refused c.args.limits.now c.args.now c.args.command.now held c.next.result next c.carry_out.new.meta c.in_ok-said.said (state g.S.Store c.carry_out.new.tx.conn.now) (c.in_ok-said.ensures.carries.decides clean (beside_of held) held.base found.1 found.0) e (rw c.draws_number.ensures at (rw refused at c.draw.ensures.err)))
+    draw_refused c.args.limits.now c.args.now c.args.command.now held c.next.result next c.in_ok-before.before c.carry_out.new.meta c.in_ok-said.said (state g.S.Store c.carry_out.new.tx.conn.now) (c.in_ok-said.ensures.carries.decides clean (beside_of held) held.base found.1 (numbers_read held _ found.0)) e (rw c.draws_number.ensures at (rw refused at c.draw.ensures.err)))
 
 pub returns-clause-makes : goal.returns-clause-makes
 returns-clause-makes g c clean =
@@ -47,7 +47,7 @@ returns-clause-makes g c clean =
     let found = c.in_ok-before.ensures.finds first (kept_of held) was in
     let next = c.next.ensures ∙ ap (λ (m : Meta). m.serial + 1) found.0 in
     subst (λ (said : Outcome). IsEdited (λ base. edit_of c.args.limits.now c.args.now base c.args.command.now) held said (state g.S.Store c.put_changed.new.tx.conn.now)) same
-    (is_edited c.args.limits.now c.args.now c.args.command.now held c.next.result next c.carry_out.new.meta c.in_ok-said.said (state g.S.Store c.carry_out.new.tx.conn.now) (c.in_ok-said.ensures.carries.decides second (beside_of held) held.base found.1 found.0) c.draw.new.self (state g.S.Store c.put_changed.new.tx.conn.now)
+    (is_edited c.args.limits.now c.args.now c.args.command.now held c.next.result next c.in_ok-before.before c.carry_out.new.meta c.in_ok-said.said (state g.S.Store c.carry_out.new.tx.conn.now) (c.in_ok-said.ensures.carries.decides second (beside_of held) held.base found.1 (numbers_read held _ found.0)) found.0 c.draw.new.self (state g.S.Store c.put_changed.new.tx.conn.now)
     (rw c.draws_number.ensures at left) (λ kept keeps was. leaves kept keeps (was ∙ sym found.0)))) (c.put_changed.ensures.leaves clean)))
 
 pub returns-clause-refuses : goal.returns-clause-refuses

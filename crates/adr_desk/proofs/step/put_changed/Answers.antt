@@ -1,6 +1,7 @@
 use Rattle.std.proofs.Common.{◌≡◌, Bool, true, false, ◌&&◌, ◌==◌, eqb-true, refl, sym, subst, ◌∙◌}
 use Rattle.std.proofs.Math.Bool.{beq}
 use Rattle.sqlite.specs.Held.{state}
+use Rattle.adr_delivery.specs.declared.outbox.EntryCounts.{EntryCounts}
 use Rattle.adr_db.specs.declared.meta.Meta.{Meta}
 use Rattle.adr_db.specs.Kept.{Keeps, with_meta}
 use Rattle.adr_db.proofs.Results.{on_then}
@@ -16,29 +17,43 @@ same_bool true false h = absurd cc
 same_bool false true h = absurd cc
 same_bool false false h = refl
 
--- numbers that compare as equal are the same
-same_numbers : (a b : Meta) → true ≡ ((a.serial == b.serial) && (beq a.scan b.scan && ((a.made == b.made) && ((a.sent == b.sent) && ((a.given_up == b.given_up) && ((a.dropped == b.dropped) && (a.keys == b.keys))))))) → a ≡ b
-same_numbers a b h =
-    let last : Bool = a.keys == b.keys in
-    let fifth : Bool = (a.dropped == b.dropped) && last in
-    let fourth : Bool = (a.given_up == b.given_up) && fifth in
-    let third : Bool = (a.sent == b.sent) && fourth in
-    let second : Bool = (a.made == b.made) && third in
-    let first : Bool = beq a.scan b.scan && second in
-    let serial = both (a.serial == b.serial) first h in
-    let scan = both (beq a.scan b.scan) second serial.1 in
-    let made = both (a.made == b.made) third scan.1 in
-    let sent = both (a.sent == b.sent) fourth made.1 in
-    let given_up = both (a.given_up == b.given_up) fifth sent.1 in
-    let dropped = both (a.dropped == b.dropped) last given_up.1 in
+-- what a test of counts tells
+abbrev are_same : EntryCounts → EntryCounts → Bool
+are_same a b = (a.made == b.made) && ((a.sent == b.sent) && ((a.given_up == b.given_up) && (a.dropped == b.dropped)))
+
+-- counts that compare as equal are the same
+same_counts : (a b : EntryCounts) → true ≡ are_same a b → a ≡ b
+same_counts a b h =
+    let last : Bool = a.dropped == b.dropped in
+    let second : Bool = (a.given_up == b.given_up) && last in
+    let first : Bool = (a.sent == b.sent) && second in
+    let made = both (a.made == b.made) first h in
+    let sent = both (a.sent == b.sent) second made.1 in
+    let given_up = both (a.given_up == b.given_up) last sent.1 in
     λ i. record {
-      serial = eqb-true a.serial b.serial serial.0 i;
-      scan = same_bool a.scan b.scan scan.0 i;
       made = eqb-true a.made b.made made.0 i;
       sent = eqb-true a.sent b.sent sent.0 i;
       given_up = eqb-true a.given_up b.given_up given_up.0 i;
-      dropped = eqb-true a.dropped b.dropped dropped.0 i;
-      keys = eqb-true a.keys b.keys (sym dropped.1) i;
+      dropped = eqb-true a.dropped b.dropped (sym given_up.1) i;
+    }
+
+-- numbers that compare as equal are the same
+same_numbers : (a b : Meta) → true ≡ ((a.serial == b.serial) && (beq a.scan b.scan && (are_same a.counts b.counts && ((a.pending == b.pending) && (a.keys == b.keys))))) → a ≡ b
+same_numbers a b h =
+    let last : Bool = a.keys == b.keys in
+    let third : Bool = (a.pending == b.pending) && last in
+    let second : Bool = are_same a.counts b.counts && third in
+    let first : Bool = beq a.scan b.scan && second in
+    let serial = both (a.serial == b.serial) first h in
+    let scan = both (beq a.scan b.scan) second serial.1 in
+    let counts = both (are_same a.counts b.counts) third scan.1 in
+    let pending = both (a.pending == b.pending) last counts.1 in
+    λ i. record {
+      serial = eqb-true a.serial b.serial serial.0 i;
+      scan = same_bool a.scan b.scan scan.0 i;
+      counts = same_counts a.counts b.counts (sym counts.0) i;
+      pending = eqb-true a.pending b.pending pending.0 i;
+      keys = eqb-true a.keys b.keys (sym pending.1) i;
     }
 
 pub returns-then-eq-clause-leaves : goal.returns-then-eq-clause-leaves

@@ -3,7 +3,7 @@ use Rattle.std.specs.Prelude.{is_some}
 use Rattle.adr_db.proofs.Common.{state, HasCleanDisk, IsRefusalOf, LimitReached, evidence_of, joined, JoinMarks, evidence, scan_with}
 use Rattle.adr_db.specs.declared.meta.Meta.{Meta}
 use Rattle.adr_db.specs.Kept.{Keeps}
-use Rattle.adr_db.specs.Bases.{meta_of, kept_beside}
+use Rattle.adr_db.specs.Bases.{kept_beside}
 use Rattle.adr_db.proofs.Results.{handed_on, own_refuses}
 use Rattle.adr_mirror.specs.Raises.{HaveRisen, are_beyond, with_polled_if}
 use Rattle.adr_mirror.proofs.Keeping.{is_taken, is_refused, counted_is, kept_after, still_open}

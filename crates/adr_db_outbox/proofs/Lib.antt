@@ -1,0 +1,4 @@
+mod RemoteStatements
+mod OutboxStatements
+mod Firsts
+mod NextStatement

@@ -1,0 +1,69 @@
+-- The statements on the table `outbox`.
+use Rattle.std.proofs.Common.{◌≡◌, ℕ, None, Some, List, [], ◌∷◌, codes, refl, subst}
+use Rattle.sqlite.specs.Values.{or_null}
+use Rattle.sqlite.specs.declared.types.Value.{Value}
+use Rattle.adr_db.proofs.Common.{Null, Text, Row, lit, col, understood, everything, AreValues}
+use Rattle.adr_delivery.specs.declared.addressee.Addressee.{Addressee}
+use Rattle.adr_delivery.specs.declared.addressee.Addressee.TheVariants.{Utility, Subscriber}
+use Rattle.adr_delivery.specs.declared.entry.Entry.{Entry}
+use Rattle.adr_db_outbox.specs.declared.outbox.TheConstants.{PUT, REMOVE, READ_ONE, READ_ALL}
+use Rattle.adr_delivery.specs.Entries.{destination, event_of}
+use Rattle.adr_delivery.specs.Jobs.{token_for}
+use Rattle.adr_db.specs.Rows.{number, operation_number, address_of, delivery_columns, entry_row}
+use Rattle.adr_db.proofs.Tables.{outbox}
+use Rattle.adr_db.proofs.Maps.{outbox_map}
+use Rattle.adr_db.proofs.KeptMaps.{HasTexts}
+
+abbrev pub columns : List (List ℕ)
+columns =
+    codes "id"
+    ∷ codes "dest"
+    ∷ codes "event"
+    ∷ codes "operation"
+    ∷ codes "url"
+    ∷ codes "token"
+    ∷ codes "body"
+    ∷ codes "failed"
+    ∷ codes "leases"
+    ∷ codes "leased"
+    ∷ codes "until"
+    ∷ codes "due"
+    ∷ []
+
+-- an event and a token may be NULL
+fit : (e : ℕ × Entry) → AreValues outbox (entry_row e)
+fit e = by e.1.addressee
+  where
+    by : (a : Addressee) → AreValues outbox (entry_row (e.0, record e.1 { addressee = a }))
+    by (Utility event) = record { fits = refl; full = refl; width = refl }
+    by (Subscriber subscription address None) = record { fits = refl; full = refl; width = refl }
+    by (Subscriber subscription address (Some token)) = record { fits = refl; full = refl; width = refl }
+
+pub texts : HasTexts outbox_map PUT.now REMOVE.now READ_ONE.now READ_ALL.now
+unfolding understood everything
+texts = record {
+  puts = λ e. record {
+    terms = lit Null ∷ col 0 0 ∷ col 0 1 ∷ col 0 2 ∷ col 0 3 ∷ col 0 4 ∷ col 0 5 ∷ col 0 6 ∷ col 0 7 ∷ col 0 8 ∷ col 0 9 ∷ col 0 10 ∷ col 0 11 ∷ [];
+    met = 12;
+    sets = col 0 14 ∷ col 0 15 ∷ col 0 16 ∷ col 0 17 ∷ col 0 18 ∷ col 0 19 ∷ col 0 20 ∷ col 0 21 ∷ col 0 22 ∷ col 0 23 ∷ col 0 24 ∷ col 0 25 ∷ [];
+    command = refl;
+    alone = (refl, refl);
+    given = refl;
+    meets = λ id next r. refl;
+    writes = λ id next r. refl;
+  };
+  fit = fit;
+  removes = record { command = refl; alone = (refl, refl); flat = refl; joins = refl };
+  reads_one = record { names = columns; command = refl; alone = (refl, refl); unlisted = refl; from = refl; order = refl; ungrouped = refl; undistinct = refl; joins = refl; sorts = refl; shows = refl };
+  reads_all = record { names = columns; command = refl; alone = (refl, refl); unlisted = refl; from = refl; order = refl; ungrouped = refl; undistinct = refl; joins = refl; sorts = refl; shows = refl };
+}
+
+-- ---- the values of a row
+
+-- a row of an entry with other cells in the place of its event and of its token
+abbrev row_with : ℕ × Entry → Value → Value → Row
+row_with e event token = number e.0 ∷ number (destination e.1.addressee) ∷ event ∷ number (operation_number e.1.operation) ∷ Text (address_of e.1.addressee) ∷ token ∷ Text e.1.body ∷ delivery_columns e.1.delivery
+
+-- where they are those, it is the row of the entry
+pub with_cells : (P : Row → Type 0) (e : ℕ × Entry) (event token : Value) → event ≡ or_null Text (event_of e.1.addressee) → token ≡ or_null Text (token_for e.1.addressee) → P (row_with e event token) → P (entry_row e)
+with_cells P e event token event_is token_is p = subst (λ token. P (row_with e (or_null Text (event_of e.1.addressee)) token)) token_is (subst (λ event. P (row_with e event token)) event_is p)

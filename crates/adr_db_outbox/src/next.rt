@@ -1,0 +1,35 @@
+//! Which entry leaves next, from the table `outbox`.
+ghost use Rattle.std.specs.Prelude.{◌≡◌, [], ◌∷◌, IfErr};
+ghost use Rattle.adr_delivery.specs.Next.{next_entry};
+ghost use Rattle.adr_sql.specs.Calls.{Stays};
+ghost use Rattle.adr_db.specs.Rows.{number};
+ghost use Rattle.adr_db.specs.Calls.{Finds, IsOfStore};
+ghost use Rattle.adr_db.specs.Refusals.{RefusesToShow, CannotReadFirst};
+ghost use Rattle.adr_db.specs.Admitted.{IsWaitingEntry, ReadsWaitingEntry};
+
+use adr_db::cells::number;
+use adr_db::reading::first_of;
+use adr_delivery::Entry;
+use adr_objects::Number;
+use adr_text::{Moment, Refusal};
+use sqlite::{Alter, Transaction};
+use std::alloc::Global;
+
+const READ_NEXT: &str =
+    "SELECT o.id, o.dest, o.event, o.operation, o.url, o.token, o.body, o.failed, o.leases, o.leased, o.until, o.due FROM outbox o WHERE o.due <= ?1 AND (o.leased = 0 OR o.until <= ?1) AND NOT EXISTS (SELECT 1 FROM outbox q WHERE q.dest = o.dest AND q.id < o.id) ORDER BY o.id LIMIT 1";
+
+/// The first entry that is due and has no lease that lasts past the moment, of those before which none of their destination
+/// waits.
+pub fn read_next<S: Alter>(
+    alloc: Global,
+    tx: &mut Transaction<'_, S>,
+    now: Moment,
+) -> Result<Option<(Number, Entry)>, Refusal>
+    ensures same_reference { tx.new.conn.ghost_name ≡ tx.old.conn.ghost_name }
+    ensures stays { Stays S.Store tx.old.conn.now tx.new.conn.now result }
+    ensures finds { Finds S.Store tx.old.conn.now tx.new.conn.now (λ kept next. next ≡ next_entry now kept.entries) result }
+    ensures refused { IfErr result IsOfStore }
+    ensures fails { RefusesToShow S.Store tx.old.conn.now tx.new.conn.now READ_NEXT.now (number now ∷ []) (CannotReadFirst IsWaitingEntry ReadsWaitingEntry) result }
+{
+    first_of(alloc, tx, READ_NEXT, &[number(now.nanos())?])
+}

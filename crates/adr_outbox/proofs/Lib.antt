@@ -1,0 +1,4 @@
+mod Waiting
+mod Failing
+mod Leases
+mod Further

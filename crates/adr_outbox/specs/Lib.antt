@@ -1,0 +1,5 @@
+pub mod Turned
+pub mod Appended
+pub mod Told
+pub mod Leased
+pub mod Settled
