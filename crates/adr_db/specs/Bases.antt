@@ -1,10 +1,11 @@
--- What is kept of a state. What has no table yet is no part of it.
+-- What is kept of a state.
 use Rattle.std.specs.Prelude.{ℕ, Option, None, Some, is_some, List, [], length}
 use Rattle.sqlite_catalog.specs.Listing.{IsSound}
 use Rattle.sqlite.specs.Tree.{Trees}
 use Rattle.sqlite.specs.State as sql
 use Rattle.adr_objects.specs.declared.shown.Stamps.{Stamps}
 use Rattle.adr_delivery.specs.declared.entry.Entry.{Entry}
+use Rattle.adr_delivery.specs.declared.outbox.Outbox.{Outbox}
 use Rattle.adr_state.specs.declared.base.Base.{Base}
 use Rattle.adr_state.specs.declared.state.State.{State}
 use Rattle.adr_state.specs.declared.keys.MirrorKey.{MirrorKey}
@@ -23,9 +24,13 @@ keys_polled (Some keys) = keys
 abbrev pub with_base : Meta → Base → Meta
 with_base numbers base = record numbers { serial = base.serial; scan = is_some base.scan; keys = length base.mirror }
 
--- those of a state, which has no outbox yet
+-- and with the counts of an outbox: they say how many of its entries wait
+abbrev pub counting : Outbox → Meta → Meta
+counting o numbers = record numbers { counts = o.counts; pending = length o.entries }
+
+-- those of a state
 abbrev pub meta_of : State → Meta
-meta_of state = with_base first_meta state.base
+meta_of state = with_base (counting state.outbox first_meta) state.base
 
 -- what stands beside the maps of a base: the numbers of the node, the stamps of what is shown, the utility's ids of reports, and the entries
 -- that wait
@@ -47,9 +52,9 @@ kept_beside beside base = record {
   entries = beside.entries;
 }
 
--- of a state: its own numbers, its stamps, and no outbox yet
+-- of a state: its own numbers, its stamps, and its outbox
 abbrev pub beside_of : State → Beside
-beside_of state = record { numbers = meta_of state; stamps = state.stamps; remotes = []; entries = [] }
+beside_of state = record { numbers = meta_of state; stamps = state.stamps; remotes = state.outbox.remotes; entries = state.outbox.entries }
 
 abbrev pub kept_of : State → Kept
 kept_of state = kept_beside (beside_of state) state.base

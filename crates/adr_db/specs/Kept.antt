@@ -1,6 +1,6 @@
 -- The tables hold the state: the rows of each, read by key, are the corresponding map.
 use Rattle.std.specs.List.{AllByRecursion, flat_map}
-use Rattle.std.specs.Prelude.{ℕ, ℤ, pos, negsuc, false, Option, None, Some, take, bytes_eq, List, [], ◌∷◌, map, filter, fold}
+use Rattle.std.specs.Prelude.{ℕ, ℤ, pos, negsuc, not, false, Option, None, Some, take, bytes_eq, List, [], ◌∷◌, map, filter, fold}
 use Rattle.std.specs.BTreeMap.{insert_entry, is_at}
 use Rattle.std.specs.BTreeSet.{insert_key}
 use Rattle.std.specs.Map.{remove_entry}
@@ -15,6 +15,7 @@ use Rattle.adr_subscription.specs.declared.kept_sub.Sub.{Sub}
 use Rattle.adr_subscription.specs.Types.{IsSub}
 use Rattle.adr_delivery.specs.declared.entry.Entry.{Entry}
 use Rattle.adr_delivery.specs.Counts.{no_counts}
+use Rattle.adr_delivery.specs.Outboxes.{has_addressee}
 use Rattle.adr_state.specs.declared.base.Mark.{Mark}
 use Rattle.adr_state.specs.declared.base.Mark.TheVariants.{Live, Dead}
 use Rattle.adr_state.specs.declared.portfolio.Portfolio.{Portfolio}
@@ -123,6 +124,10 @@ with_remote_id event id kept = record kept { remotes = insert_entry id_cmp kept.
 
 abbrev pub without_remote_id : List ℕ → Kept → Kept
 without_remote_id event kept = record kept { remotes = remove_entry (is_at (id_cmp event)) kept.remotes }
+
+-- the numbers of the entries that go neither to the utility nor to a subscription that is there
+abbrev pub numbers_lost : Kept → List ℕ
+numbers_lost kept = map (λ e. e.0) (filter (λ e. not (has_addressee kept.portfolio.subs e)) kept.entries)
 
 -- ---- reports
 

@@ -2,3 +2,4 @@ mod RemoteStatements
 mod OutboxStatements
 mod Firsts
 mod NextStatement
+mod LostStatement

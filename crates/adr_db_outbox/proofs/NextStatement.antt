@@ -28,7 +28,7 @@ use Rattle.adr_db.proofs.Maps.{outbox_map}
 use Rattle.adr_db_outbox.proofs.OutboxStatements.{columns}
 use Rattle.adr_db_outbox.proofs.Firsts.{is_before, is_first, first_is_next}
 
-abbrev equals : Term → Term → Term
+abbrev pub equals : Term → Term → Term
 equals a b = op2 (Compare Eq Binary) a b
 
 abbrev tests : List Term
@@ -52,7 +52,7 @@ selects = record { names = columns; command = refl; alone = (refl, refl); unlist
 
 -- ---- the tests
 
-compared : (op : CompareOp) (a b : ℕ) → binary (Compare op Binary) (number a) (number b) ≡ from_truth (Some (test op (nat_cmp a b)))
+pub compared : (op : CompareOp) (a b : ℕ) → binary (Compare op Binary) (number a) (number b) ≡ from_truth (Some (test op (nat_cmp a b)))
 unfolding binary
 compared op a b = ap (λ o. from_truth (Some (test op o))) (value_cmp-Int (pos a) (pos b) ∙ numbers_as_values a b)
 
@@ -94,7 +94,7 @@ before_is now e q =
     ap₂ ◌&&◌ (equal_is (number (destination q.1.addressee)) (number (destination e.1.addressee)) refl ∙ ap is_eq (value_cmp-Int (pos (destination e.1.addressee)) (pos (destination q.1.addressee)) ∙ numbers_as_values (destination e.1.addressee) (destination q.1.addressee)))
     (and_true _ ∙ ap is_true (compared Lt q.0 e.0) ∙ told _)
 
-any_map : {X Y : Type 0} (p : Y → Bool) (f : X → Y) (xs : List X) → list_any p (map f xs) ≡ list_any (λ x. p (f x)) xs
+pub any_map : {X Y : Type 0} (p : Y → Bool) (f : X → Y) (xs : List X) → list_any p (map f xs) ≡ list_any (λ x. p (f x)) xs
 any_map p f [] = refl
 any_map p f (x ∷ xs) = ap (λ b. p (f x) || b) (any_map p f xs)
 

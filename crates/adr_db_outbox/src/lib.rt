@@ -1,10 +1,12 @@
 //! The entries that wait and the utility's ids of reports in the tables, one typed call per statement, on a lent transaction.
 #![tactic(auto)]
 
+mod lost;
 mod next;
 mod outbox;
 mod remote;
 
+pub use lost::read_lost;
 pub use next::read_next;
 pub use outbox::{put_entry, read_entries, read_entry, remove_entry};
 pub use remote::{put_remote, read_remote, read_remotes, remove_remote};

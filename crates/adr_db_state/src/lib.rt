@@ -5,4 +5,4 @@ mod stamp;
 mod state;
 
 pub use stamp::{put_stamps, read_stamps, read_stamps_of, remove_stamps};
-pub use state::read_state;
+pub use state::{read_base, read_outbox, read_state};

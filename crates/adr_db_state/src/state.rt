@@ -2,12 +2,14 @@
 ghost use Rattle.std.specs.Prelude.{◌≡◌, Some, None, if◌then◌else◌, IfErr};
 ghost use Rattle.adr_sql.specs.Calls.{Stays};
 ghost use Rattle.adr_db.specs.Calls.{Finds, IsOfStore};
-ghost use Rattle.adr_db.specs.Images.{image_kept};
+ghost use Rattle.adr_db.specs.Images.{base_of, outbox_of, image_kept};
 
 use crate::stamp::read_stamps;
-use adr_db::read_meta;
+use adr_db::{Meta, read_meta};
 use adr_db_mirror::{read_mirror, read_polled_set};
+use adr_db_outbox::{read_entries, read_remotes};
 use adr_db_portfolio::read_portfolio;
+use adr_delivery::Outbox;
 use adr_state::{Base, Polled, State};
 use adr_text::Refusal;
 use sqlite::{Alter, Transaction};
@@ -20,6 +22,46 @@ fn scan_with(is_open: bool, polled: Polled) -> Option<Polled>
     if is_open { Some(polled) } else { None }
 }
 
+/// The maps of the base, with the serial and the scan of the numbers of the node, which are handed in.
+pub fn read_base<S: Alter>(
+    alloc: Global,
+    tx: &mut Transaction<'_, S>,
+    meta: &Meta,
+) -> Result<Base, Refusal>
+    ensures same_reference { tx.new.conn.ghost_name ≡ tx.old.conn.ghost_name }
+    ensures stays { Stays S.Store tx.old.conn.now tx.new.conn.now result }
+    ensures finds { Finds S.Store tx.old.conn.now tx.new.conn.now (λ kept base. base ≡ base_of meta.now kept) result }
+    ensures refused { IfErr result IsOfStore }
+{
+    let mirror = read_mirror(alloc, tx)?;
+    let polled = read_polled_set(alloc, tx)?;
+    let portfolio = read_portfolio(alloc, tx)?;
+    Ok(Base {
+        mirror,
+        scan: scan_with(meta.scan, polled),
+        portfolio,
+        serial: meta.serial,
+    })
+}
+
+/// The entries that wait and the utility's ids of reports, with the counts of the numbers of the node, which are handed in.
+pub fn read_outbox<S: Alter>(
+    alloc: Global,
+    tx: &mut Transaction<'_, S>,
+    meta: &Meta,
+) -> Result<Outbox, Refusal>
+    ensures same_reference { tx.new.conn.ghost_name ≡ tx.old.conn.ghost_name }
+    ensures stays { Stays S.Store tx.old.conn.now tx.new.conn.now result }
+    ensures finds { Finds S.Store tx.old.conn.now tx.new.conn.now (λ kept outbox. outbox ≡ outbox_of meta.now kept) result }
+    ensures refused { IfErr result IsOfStore }
+{
+    Ok(Outbox {
+        entries: read_entries(alloc, tx)?,
+        remotes: read_remotes(alloc, tx)?,
+        counts: meta.counts,
+    })
+}
+
 /// All that is kept, as a state.
 pub fn read_state<S: Alter>(alloc: Global, tx: &mut Transaction<'_, S>) -> Result<State, Refusal>
     ensures same_reference { tx.new.conn.ghost_name ≡ tx.old.conn.ghost_name }
@@ -28,17 +70,9 @@ pub fn read_state<S: Alter>(alloc: Global, tx: &mut Transaction<'_, S>) -> Resul
     ensures refused { IfErr result IsOfStore }
 {
     let meta = read_meta(tx)?;
-    let mirror = read_mirror(alloc, tx)?;
-    let polled = read_polled_set(alloc, tx)?;
-    let portfolio = read_portfolio(alloc, tx)?;
-    let stamps = read_stamps(alloc, tx)?;
     Ok(State {
-        base: Base {
-            mirror,
-            scan: scan_with(meta.scan, polled),
-            portfolio,
-            serial: meta.serial,
-        },
-        stamps,
+        base: read_base(alloc, tx, &meta)?,
+        stamps: read_stamps(alloc, tx)?,
+        outbox: read_outbox(alloc, tx, &meta)?,
     })
 }

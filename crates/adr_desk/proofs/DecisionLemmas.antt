@@ -1,5 +1,5 @@
 -- What the layers below carry out is what the command decides.
-use Rattle.std.proofs.Common.{◌≡◌, inl, inr, ℕ, ◌+◌, List, None, Result, Ok, Err, IfErr, refl, sym, ap, subst, ◌∙◌}
+use Rattle.std.proofs.Common.{◌≡◌, ◌⊎◌, inl, inr, ℕ, ◌+◌, Bool, List, Option, None, Result, Ok, Err, IfErr, refl, sym, ap, subst, ◌∙◌}
 use Rattle.std.proofs.lemmas.Result.{IfErr-weaker}
 use Rattle.std.specs.Result.{IsErrAnd}
 use Rattle.adr_db.proofs.Common.{Ghosts, Held, state, IsRefusalOf, Refusal, OutOfMemory, Store, Base, PortfolioChange, BaseChange, JoinMarks, SetScan, ChangePortfolio, changed, MirrorKey, scan_begin, scan_end, Limits}
@@ -10,7 +10,7 @@ use Rattle.adr_state.specs.declared.portfolio.Portfolio.{Portfolio}
 use Rattle.adr_state.specs.declared.state.State.{State}
 use Rattle.sqlite.specs.State as sql
 use Rattle.adr_db.specs.declared.meta.Meta.{Meta}
-use Rattle.adr_db.specs.Bases.{Beside, beside_of, meta_of, with_base, kept_beside}
+use Rattle.adr_db.specs.Bases.{Beside, meta_of, with_base, counting, kept_beside}
 use Rattle.adr_db.specs.BaseCalls.{Carries, Makes, Refuses, RefusesOn}
 use Rattle.adr_db.specs.Calls.{IsOfStore}
 use Rattle.adr_machine.specs.declared.outcome.Outcome.{Outcome}
@@ -29,7 +29,8 @@ use Rattle.adr_queries.specs.declared.answer.Answer.TheVariants as answer
 use Rattle.adr_state.specs.Serials.{drawn}
 use Rattle.adr_machine.specs.Edits.{draws_number, Decision, counted, answered, of_portfolio, decided, told_by, numbered, edit_of}
 use Rattle.adr_machine.specs.declared.command.Command.{Command}
-use Rattle.adr_db.specs.Kept.{Kept, Keeps, with_meta}
+use Rattle.adr_machine.specs.declared.command.Command.TheVariants.{Lease, Sent, Failed}
+use Rattle.adr_db.specs.Kept.{Kept, Keeps, first_meta}
 use Rattle.adr_desk.specs.Steps.{IsEdited}
 use Rattle.adr_desk.specs.Decisions.{IsDecided, CarriesOut}
 
@@ -47,7 +48,7 @@ failed_refused Store r h = tt
 failed_refused e r h = h
 
 -- whatever is told of what went well
-told_refused : {A B C : Type 0} (e : Refusal) (first : Result A Refusal) (f : A → B) (h : A → C) → IsRefusalOf e (first >>= λ x. Ok (f x)) → IsRefusalOf e (first >>= λ x. Ok (h x))
+pub told_refused : {A B C : Type 0} (e : Refusal) (first : Result A Refusal) (f : A → B) (h : A → C) → IsRefusalOf e (first >>= λ x. Ok (f x)) → IsRefusalOf e (first >>= λ x. Ok (h x))
 told_refused OutOfMemory first f h is = tt
 told_refused Store first f h is = tt
 told_refused e (Ok x) f h is = absurd cc
@@ -115,6 +116,20 @@ module _ {S : Type 0} (g : Ghosts S) (old new : Held S) where
       ap (λ (r : Result (List MirrorKey × BaseChange) Refusal). r >>= λ d. Ok (answered (answer.Probes d.0) d.1)) right ∙ ap (λ (change : BaseChange). Ok (answered (answer.Probes keys) change)) same)
       (λ base e h. told_refused e (scan_end base) (λ d. d.1) (λ d. answered (answer.Probes d.0) d.1) h)
 
+-- what is about an entry of the outbox leaves the base
+module _ {S : Type 0} (g : Ghosts S) (old : Held S) (limits : Limits) (now n : ℕ) (meta : Meta) where
+  left_carries : (c : Command) → ((base : Base) → decided limits now n base c ≡ Ok (answered answer.Done (SetScan base.scan))) → CarriesOut g old old (λ base. decided limits now n base c) meta meta (Ok (outcome.Told answer.Done))
+  left_carries c is = record {
+    decides = λ clean beside base was same. record { change = SetScan base.scan; decided = is base; holds = was; counted = same };
+    refuses = λ clean. tt;
+  }
+
+  pub delivery_carries : (c : Command) → (c ≡ Lease) ⊎ (((entry : ℕ) × (lease : ℕ) × (remote : Option (List ℕ)) × (c ≡ Sent entry lease remote)) ⊎ ((entry : ℕ) × (lease : ℕ) × (forget : Bool) × (c ≡ Failed entry lease forget)))
+      → CarriesOut g old old (λ base. decided limits now n base c) meta meta (Ok (outcome.Told answer.Done))
+  delivery_carries c (inl is) = rw is (left_carries Lease (λ base. refl))
+  delivery_carries c (inr (inl sent)) = rw sent.3 (left_carries (Sent sent.0 sent.1 sent.2) (λ base. refl))
+  delivery_carries c (inr (inr failed)) = rw failed.3 (left_carries (Failed failed.0 failed.1 failed.2) (λ base. refl))
+
 -- a decision on reports, by who sees this much
 module _ {S : Type 0} (g : Ghosts S) (old mid new : Held S) {A : Type 0} (comes : A → Outcome) (decide : Sight → List (MirrorKey × Mark) → Portfolio → Result (A × PortfolioChange) Refusal) (giver : Role) where
   abbrev whole : Base → Result Decision Refusal
@@ -176,19 +191,20 @@ serial_stays (JoinMarks marks scan) base = refl
 serial_stays (SetScan scan) base = refl
 serial_stays (ChangePortfolio change) base = refl
 
--- numbers that were read of a state have those of its base
+-- numbers with those of a base have them
+pub numbers_own : (first : Meta) (base : Base) (numbers : Meta) → numbers ≡ with_base first base → numbers ≡ with_base numbers base
+numbers_own first base numbers is = is ∙ ap (λ (m : Meta). with_base m base) (sym is)
+
+-- so have numbers that were read of a state
 pub numbers_read : (held : State) (numbers : Meta) → numbers ≡ meta_of held → numbers ≡ with_base numbers held.base
-numbers_read held numbers is = is ∙ ap (λ (m : Meta). with_base m held.base) (sym is)
+numbers_read held numbers is = numbers_own (counting held.outbox first_meta) held.base numbers is
 
 -- what was decided, and its number drawn, is the edit
-module _ (limits : Limits) (now : ℕ) (command : Command) (held : State) (n : ℕ) (next : n ≡ held.base.serial + 1) where
-  abbrev base : Base
-  base = held.base
-
+module _ (limits : Limits) (now : ℕ) (command : Command) (base : Base) (n : ℕ) (next : n ≡ base.serial + 1) where
   pub decision_refused : (e : Refusal) → IsRefusalOf e (decided limits now n base command) → IsRefusalOf e (edit_of limits now base command)
   decision_refused e h = then_refused e (decided limits now (base.serial + 1) base command) (numbered limits (draws_number command) base) (subst (λ (m : ℕ). IsRefusalOf e (decided limits now m base command)) next h)
 
-  module _ (before meta : Meta) (said : Outcome) (s : sql.State) (it : IsDecided (λ base. decided limits now n base command) (beside_of held) base before meta said s) where
+  module _ (beside : Beside) (before meta : Meta) (said : Outcome) (s : sql.State) (it : IsDecided (λ base. decided limits now n base command) beside base before meta said s) where
     -- the edit, when it is known what is drawn
     drawn_is : (r : Result ℕ Refusal) → drawn limits meta.serial (draws_number command) ≡ r → edit_of limits now base command ≡ (r >>= λ serial. Ok (said, record (changed it.change base) { serial = serial }))
     drawn_is r is =
@@ -199,13 +215,10 @@ module _ (limits : Limits) (now : ℕ) (command : Command) (held : State) (n : �
     pub draw_refused : (e : Refusal) → drawn limits meta.serial (draws_number command) ≡ Err e → IsRefusalOf e (edit_of limits now base command)
     draw_refused e is = refused_so e _ (drawn_is (Err e) is)
 
-    pub is_edited : before ≡ meta_of held → (serial : ℕ) (t : sql.State) → drawn limits meta.serial (draws_number command) ≡ Ok serial → ((kept : Kept) → Keeps kept s → kept.meta ≡ meta_of held → Keeps (with_meta (record meta { serial = serial }) kept) t)
-        → IsEdited (λ base. edit_of limits now base command) held said t
-    is_edited read serial t left put =
-        let numbers : meta ≡ meta_of (record held { base = changed it.change base }) = it.counted ∙ ap (λ (m : Meta). with_base m (changed it.change base)) read in
-        let counted : ◌≡◌ {A = Meta} (record meta { serial = serial }) (record (meta_of (record held { base = changed it.change base })) { serial = serial }) = ap (λ (m : Meta). let after : Meta = record m { serial = serial } in after) numbers in
-        record {
-          after = record (changed it.change base) { serial = serial };
-          edited = drawn_is (Ok serial) left;
-          holds = subst (λ (m : Meta). Keeps (kept_beside (record (beside_of held) { numbers = m }) (changed it.change base)) t) counted (put (kept_beside (beside_of held) (changed it.change base)) it.holds refl);
-        }
+    pub is_edited : (serial : ℕ) → drawn limits meta.serial (draws_number command) ≡ Ok serial → IsEdited (λ base. edit_of limits now base command) beside base before (record meta { serial = serial }) said s
+    is_edited serial left = record {
+      next = record (changed it.change base) { serial = serial };
+      edited = drawn_is (Ok serial) left;
+      holds = it.holds;
+      counted = ap (λ (m : Meta). let after : Meta = record m { serial = serial } in after) it.counted;
+    }

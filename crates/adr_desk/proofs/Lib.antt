@@ -8,5 +8,7 @@ pub mod ListedLemmas
 pub mod AnswerLemmas
 pub mod StampLemmas
 pub mod StepLemmas
+pub mod ToldLemmas
+pub mod DeliveryLemmas
 pub mod ReplyLemmas
 pub mod Soundness

@@ -2,7 +2,7 @@
 use Rattle.std.proofs.Common.{◌≡◌, ◌⊎◌, inl, inr, List, [], ◌∷◌, Contains, Result, Ok, Err, IfErr, sym, subst}
 use Rattle.std.specs.List.{AllByRecursion}
 use Rattle.adr_text.specs.declared.refusal.Refusal.{Refusal}
-use Rattle.adr_text.specs.declared.refusal.Refusal.TheVariants.{OutOfMemory, Store, BadShape}
+use Rattle.adr_text.specs.declared.refusal.Refusal.TheVariants.{OutOfMemory, Store, Exhausted, OutboxFull, BadShape}
 use Rattle.std.proofs.lemmas.Result.{IfErr-at_err}
 use Rattle.adr_text.specs.Refusals.{Fails}
 use Rattle.adr_subscription.specs.declared.subscription.SubIn.{SubIn}
@@ -35,6 +35,12 @@ module _ (these : List Refusal) where
   pub either_listed : (own : Refusal) → Contains these own → (e : Refusal) → IsOfStore e ⊎ (e ≡ own) → Listed e
   either_listed own has e (inl h) = store_listed e h
   either_listed own has e (inr is) = subst Listed (sym is) (contained_listed own has)
+
+  -- one of the store's, or want of numbers or of room
+  pub room_or_store : Contains these Exhausted → Contains these OutboxFull → (e : Refusal) → IsOfStore e ⊎ ((e ≡ Exhausted) ⊎ (e ≡ OutboxFull)) → Listed e
+  room_or_store exhausted full e (inl h) = store_listed e h
+  room_or_store exhausted full e (inr (inl is)) = subst Listed (sym is) (contained_listed Exhausted exhausted)
+  room_or_store exhausted full e (inr (inr is)) = subst Listed (sym is) (contained_listed OutboxFull full)
 
   -- what is not settled is refused for its shape, or memory ran out
   pub unsettled_listed : Contains these BadShape → (sub : SubIn) (e : Refusal) → Fails e (settled sub) → Listed e

@@ -3,6 +3,7 @@ pub mod Steps
 pub mod Decisions
 pub mod Asks
 pub mod Stamps
+pub mod Told
 pub mod Holding
 pub mod Desks
 pub mod Laws

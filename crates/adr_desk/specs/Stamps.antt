@@ -1,5 +1,5 @@
 -- The stamps that are kept, as the changes of a view leave them.
-use Rattle.std.specs.Prelude.{ℕ, Bool, false, ◌&&◌, ◌==◌, List, length, fold, Option, None, Some, is_some, if◌then◌else◌}
+use Rattle.std.specs.Prelude.{ℕ, Bool, false, ◌&&◌, ◌==◌, List, fold, Option, None, Some, is_some, if◌then◌else◌}
 use Rattle.std.specs.BTreeMap.{insert_entry, is_at}
 use Rattle.std.specs.Map.{remove_entry}
 use Rattle.adr_objects.specs.declared.shown.Stamps.{Stamps}
@@ -38,6 +38,6 @@ stamped change kept = record kept { stamps = change kept.stamps }
 abbrev pub with_restamped : List (ViewKey × Content) → List (ViewKey × Content) → ℕ → Kept → Kept
 with_restamped before after now = stamped (λ stamps. restamped stamps before after now)
 
--- the stamps before and after it, and how many keys change
+-- the stamps before and after it, and what changes
 abbrev pub turned_by : List (ViewKey × Stamps) → List (ViewKey × Content) → List (ViewKey × Content) → ℕ → Turned
-turned_by stamps before after now = record { before = stamps; count = length (changes before after); after = restamped stamps before after now }
+turned_by stamps before after now = record { before = stamps; changes = changes before after; after = restamped stamps before after now }

@@ -7,39 +7,60 @@ use Rattle.adr_text.specs.Refusals.{◌>>=◌, IsRefusalOf}
 use Rattle.adr_text.specs.declared.refusal.Refusal.{Refusal}
 use Rattle.adr_state.specs.declared.base.Base.{Base}
 use Rattle.adr_state.specs.declared.state.State.{State}
-use Rattle.adr_state.specs.declared.limits.Limits.{Limits}
-use Rattle.adr_db.specs.Bases.{HoldsState, AreLeftWith}
+use Rattle.adr_state.specs.declared.limits.Settings.{Settings}
+use Rattle.adr_db.specs.declared.meta.Meta.{Meta}
+use Rattle.adr_db.specs.Kept.{Keeps, with_meta}
+use Rattle.adr_db.specs.Bases.{Beside, with_base, meta_of, kept_of, HoldsBeside, HoldsState, AreLeftWith}
 use Rattle.adr_queries.specs.declared.answer.Answer.{Answer}
 use Rattle.adr_machine.specs.declared.command.Command.{Command}
 use Rattle.adr_machine.specs.declared.outcome.Outcome.{Outcome}
-use Rattle.adr_machine.specs.Edits.{edit}
-use Rattle.adr_machine.specs.Steps.{committed}
+use Rattle.adr_machine.specs.Steps.{committed, step}
 
 -- ---- an edit
 
--- a state with another base, and its stamps as they were
-abbrev pub with_base : Base → State → State
-with_base base held = record held { base = base }
+-- of the edit of a base comes this; the tables hold the base that it makes, beside what stood there, and the caller's numbers are those before with
+-- those of that base
+pub record IsEdited (edit : Base → Result (Outcome × Base) Refusal) (beside : Beside) (base : Base) (before after : Meta) (said : Outcome) (s : sql.State) : Type 0 where
+  pub next : Base
+  pub edited : edit base ≡ Ok (said, next)
+  pub holds : HoldsBeside beside next s
+  pub counted : after ≡ with_base before next
 
--- of the edit of the base that the tables held comes this, and they hold the base that it makes, with the same stamps
-pub record IsEdited (edit : Base → Result (Outcome × Base) Refusal) (held : State) (said : Outcome) (s : sql.State) : Type 0 where
-  pub after : Base
-  pub edited : edit held.base ≡ Ok (said, after)
-  pub holds : HoldsState (with_base after held) s
+-- after Ok, so it is of each base that the tables held, where those of the caller's numbers which a base has were those of the base
+abbrev pub EditsTables : (Base → Result (Outcome × Base) Refusal) → Meta → Meta → sql.State → sql.State → Result Outcome Refusal → Type 0
+EditsTables edit before after old new result =
+    HasCleanDisk new → IfOk result (λ said. (beside : Beside) (base : Base) → HoldsBeside beside base old → before ≡ with_base before base → IsEdited edit beside base before after said new)
 
--- after Ok, the tables hold what the edit makes of the base of each state that they held
-abbrev pub EditsTables : (Base → Result (Outcome × Base) Refusal) → sql.State → sql.State → Result Outcome Refusal → Type 0
-EditsTables edit old new result = HasCleanDisk new → IfOk result (λ said. (held : State) → HoldsState held old → IsEdited edit held said new)
-
--- ---- a step
+-- ---- a step, whose numbers are not put yet
 
 -- the step that an edit makes: then comes its commit
-abbrev pub step_of : (Base → Result (Outcome × Base) Refusal) → ℕ → State → Result (Answer × State) Refusal
-step_of edit now held = edit held.base >>= λ e. committed held now e.0 e.1
+abbrev pub step_of : Settings → (Base → Result (Outcome × Base) Refusal) → ℕ → State → Result (Answer × State) Refusal
+step_of settings edit now held = edit held.base >>= λ e. committed settings held now e.0 e.1
 
--- the machine's step under these limits, which are all that it asks of its settings
-abbrev pub step_by : Limits → ℕ → Command → State → Result (Answer × State) Refusal
-step_by limits now command = step_of (λ base. edit limits now base command) now
+-- the machine's step
+abbrev pub step_by : Settings → ℕ → Command → State → Result (Answer × State) Refusal
+step_by settings now command held = step settings held now command
+
+-- the tables hold a state, with these numbers of the node in the place of its own
+abbrev pub HoldsBut : Meta → State → sql.State → Type 0
+HoldsBut numbers held s = Keeps (with_meta numbers (kept_of held)) s
+
+-- the step of a state answers this; the tables hold the state that it makes, but for its numbers, and these the caller has
+pub record IsCommitted (step : State → Result (Answer × State) Refusal) (held : State) (before after : Meta) (answer : Answer) (s : sql.State) : Type 0 where
+  pub next : State
+  pub stepped : step held ≡ Ok (answer, next)
+  pub holds : HoldsBut before next s
+  pub counted : after ≡ meta_of next
+
+-- after Ok, so it is of each state that the tables held, where the caller's numbers were its own
+abbrev pub CommitsTables : (State → Result (Answer × State) Refusal) → Meta → Meta → sql.State → sql.State → Result Answer Refusal → Type 0
+CommitsTables step before after old new result = HasCleanDisk new → IfOk result (λ answer. (held : State) → HoldsState held old → before ≡ meta_of held → IsCommitted step held before after answer new)
+
+-- a refusal is the machine's own on each such state, or want of memory or the store's in its place
+abbrev pub RefusesToCommit : {A T : Type 0} → (State → Result A Refusal) → Meta → sql.State → sql.State → Result T Refusal → Type 0
+RefusesToCommit taken before old new result = HasCleanDisk new → IfErr result (λ refusal. (held : State) → HoldsState held old → before ≡ meta_of held → IsRefusalOf refusal (taken held))
+
+-- ---- a step
 
 -- the step of the state that the tables held answers this, and they hold the state that it makes
 pub record IsStepped (step : State → Result (Answer × State) Refusal) (held : State) (answer : Answer) (s : sql.State) : Type 0 where

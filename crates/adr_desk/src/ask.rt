@@ -6,14 +6,16 @@ ghost use Rattle.adr_db.specs.Calls.{Finds, IsOfStore};
 ghost use Rattle.adr_queries.specs.declared.query.Query.TheVariants as query;
 ghost use Rattle.adr_queries.specs.Listed.{listed_for, IsListed};
 ghost use Rattle.adr_queries.specs.Replies.{reply};
-ghost use Rattle.adr_desk.specs.Asks.{asks_portfolio, state_for};
+ghost use Rattle.adr_desk.specs.Asks.{asks_portfolio, asks_outbox, shown_alone, state_for};
 ghost use Rattle.adr_desk.specs.Steps.{TellsTables, RefusesAs};
 ghost use Rattle.adr_desk.specs.Transactions.{IsDropped};
 
 use crate::frame::begin;
+use crate::totals::counted;
 use adr_db::read_meta;
 use adr_db_portfolio::read_portfolio;
-use adr_db_state::read_state;
+use adr_db_state::{read_base, read_stamps, read_state};
+use adr_delivery::Outbox;
 use adr_events::page;
 use adr_machine::{Answer, EventFilter, Page, Query, Role, is_operator, reply, rollup_told};
 use adr_mirror::probes;
@@ -39,6 +41,30 @@ fn asks_portfolio(query: &Query) -> bool
     )
 }
 
+/// Whether the reply is that of the outbox.
+fn asks_outbox(query: &Query) -> bool
+    ensures { result ≡ asks_outbox query.now }
+{
+    matches!(query, Query::Outbox { .. })
+}
+
+/// What is kept of the state but the outbox, which is not read.
+fn shown_alone<S: Alter>(alloc: Global, tx: &mut Transaction<'_, S>) -> Result<State, Refusal>
+    ensures same_reference { tx.new.conn.ghost_name ≡ tx.old.conn.ghost_name }
+    ensures stays { Stays S.Store tx.old.conn.now tx.new.conn.now result }
+    ensures finds { Finds S.Store tx.old.conn.now tx.new.conn.now (λ kept found. found ≡ shown_alone kept) result }
+    ensures refused { IfErr result IsOfStore }
+{
+    let meta = read_meta(tx)?;
+    let base = read_base(alloc, tx, &meta)?;
+    let stamps = read_stamps(alloc, tx)?;
+    Ok(State {
+        base,
+        stamps,
+        outbox: Outbox::new(alloc),
+    })
+}
+
 /// What is kept of the state that a query asks for.
 fn state_for<S: Alter>(
     alloc: Global,
@@ -50,8 +76,11 @@ fn state_for<S: Alter>(
     ensures finds { Finds S.Store tx.old.conn.now tx.new.conn.now (λ kept found. found ≡ state_for query.now kept) result }
     ensures refused { IfErr result IsOfStore }
 {
-    if !asks_portfolio(query) {
+    if asks_outbox(query) {
         return read_state(alloc, tx);
+    }
+    if !asks_portfolio(query) {
+        return shown_alone(alloc, tx);
     }
     let mut state = State::new(alloc);
     state.base.portfolio = read_portfolio(alloc, tx)?;
@@ -151,6 +180,7 @@ fn asked<S: Alter>(
         Query::Events { role, filter, page } => events(alloc, tx, role, filter, *page),
         Query::Rollup { role, event } => rolled_up(alloc, tx, role, event),
         Query::Probes { limit } => missed(alloc, tx, *limit),
+        Query::Outbox { role } => counted(tx, role),
         _ => replied(alloc, tx, query),
     }
 }

@@ -21,8 +21,8 @@ use adr_text::{Moment, Refusal};
 use sqlite::{Alter, Transaction};
 use std::alloc::Global;
 
-/// What the command decides, where that is the next number, and what comes of it. The numbers of the node are handed in, and are left as they have to be put; a number that is drawn
-/// is not drawn yet.
+/// What the command decides, where that is the next number, and what comes of it. The numbers of the node are handed in, and
+/// are left as they have to be put; a number that is drawn is not drawn yet.
 pub(crate) fn carry_out<S: Alter>(
     alloc: Global,
     tx: &mut Transaction<'_, S>,
@@ -81,5 +81,7 @@ pub(crate) fn carry_out<S: Alter>(
         Command::SubPost { role, sub } => sub_post(alloc, tx, limits, now, number, role, sub),
         Command::SubPut { role, id, sub } => sub_put(alloc, tx, now, role, id, sub),
         Command::SubDelete { role, id } => sub_delete(alloc, tx, role, id),
+        // what is about an entry leaves the base
+        Command::Lease | Command::Sent { .. } | Command::Failed { .. } => done(Ok(())),
     }
 }

@@ -80,17 +80,11 @@ impl<S: Alter> Desk for SqlDesk<S> {
         ensures unchanged { OnErr result (IsSound S.Store self.new → state_of S.Store self.new ≡ state_of S.Store self.old) }
         ensures was_sound { IsSound S.Store self.new → IsSound S.Store self.old }
         ensures same_settings { settings_of self.new ≡ settings_of self.old }
-        ensures crash { Survives (shown S.Store self.old) (shown S.Store self.new) (λ trees. (held : State) → HoldsState held (shown S.Store self.old) → LeftStepped (step_by (settings_of self.old).limits now command.now) held trees) }
+        ensures crash { Survives (shown S.Store self.old) (shown S.Store self.new) (λ trees. (held : State) → HoldsState held (shown S.Store self.old) → LeftStepped (step_by (settings_of self.old) now command.now) held trees) }
         ensures committed { OnOk result (IsSound S.Store self.new → (shown S.Store self.new).committed ≡ (shown S.Store self.new).now) }
         ensures stands { OnOk result (IsSound S.Store self.new → (trees : Trees) → (shown S.Store self.new).may_leave trees → trees ≡ (shown S.Store self.new).now.trees) }
     {
-        apply_in(
-            self.alloc,
-            &mut self.conn,
-            &self.settings.limits,
-            now,
-            command,
-        )
+        apply_in(self.alloc, &mut self.conn, &self.settings, now, command)
     }
 
     fn ask(&mut self, query: &Query) -> Result<Answer, Refusal>

@@ -4,14 +4,18 @@
 mod ask;
 mod create;
 mod decided;
+mod deliver;
 mod desk;
 mod frame;
 mod image;
 pub mod laws;
 mod reports;
+mod seen;
 mod sight;
 mod stamps;
 mod step;
 mod subs;
+mod told;
+mod totals;
 
 pub use desk::{MemoryDesk, SqlDesk};

@@ -14,8 +14,8 @@ ghost use Rattle.adr_desk.specs.Stamps.{left_at, left_of, are_those, put_at, put
 use adr_db_state::{put_stamps, read_stamps, remove_stamps};
 use adr_objects::Stamps;
 use adr_state::ViewKey;
-use adr_text::{Moment, Refusal, Table};
-use adr_view::{View, changes_of, restamped, row_at};
+use adr_text::{Moment, Refusal, Rows, Table};
+use adr_view::{Change, View, changes_of, restamped, row_at};
 use sqlite::{Alter, Transaction};
 use std::alloc::Global;
 
@@ -115,12 +115,21 @@ fn turn<S: Alter>(
     put_each(tx, before, after)
 }
 
-/// The stamps before and after a change of what is shown, and how many keys changed.
-#[derive(Drop)]
+/// The stamps before and after a change of what is shown, and what changed.
 pub(crate) struct Turned {
     pub before: Table<ViewKey, Stamps>,
-    pub count: usize,
+    pub changes: Rows<Change>,
     pub after: Table<ViewKey, Stamps>,
+}
+
+impl Drop for Turned {
+    fn drop(self) {
+        let Turned {
+            before: _,
+            changes: _,
+            after: _,
+        } = self;
+    }
 }
 
 /// The stamps become those after a change from one view to another. A key that appears gets both stamps now, one
@@ -140,10 +149,10 @@ pub(crate) fn restamp<S: Alter>(
     let old = read_stamps(alloc, tx)?;
     let new = restamped(alloc, &old, before, after, now)?;
     turn(tx, &old, &new)?;
-    let count = changes_of(alloc, before, after)?.len();
+    let changes = Rows::from_vec(changes_of(alloc, before, after)?);
     Ok(Turned {
         before: old,
-        count,
+        changes,
         after: new,
     })
 }

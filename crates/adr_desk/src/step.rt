@@ -6,20 +6,23 @@ ghost use Rattle.adr_state.specs.declared.state.State.{State};
 ghost use Rattle.adr_sql.specs.Calls.{Stays, Commits};
 ghost use Rattle.adr_db.specs.Kept.{Kept, Keeps, with_meta};
 ghost use Rattle.adr_db.specs.Bases.{HoldsState};
+ghost use Rattle.adr_db.specs.BaseCalls.{RefusesOn};
 ghost use Rattle.adr_db.specs.Calls.{IsOfStore};
 ghost use Rattle.adr_machine.specs.Edits.{edit_of};
 ghost use Rattle.adr_queries.specs.Listed.{IsListed};
 ghost use Rattle.adr_machine.specs.Listed.{listed};
 ghost use Rattle.adr_desk.specs.Decisions.{IsAnswered};
-ghost use Rattle.adr_desk.specs.Steps.{step_of, step_by, EditsTables, StepsTables, RefusesAs, HoldsStepped, LeftStepped};
+ghost use Rattle.adr_desk.specs.Steps.{step_of, step_by, EditsTables, CommitsTables, RefusesToCommit, StepsTables, RefusesAs, HoldsStepped, LeftStepped};
 
 use crate::decided::carry_out;
+use crate::deliver::delivered;
 use crate::frame::{begin, commit};
+use crate::seen::see;
 use crate::stamps::restamp;
+use crate::told::tell;
 use adr_db::{Meta, put_meta, read_meta};
-use adr_events::view;
 use adr_machine::told::after;
-use adr_machine::{Answer, Command, Outcome, answered_by};
+use adr_machine::{Answer, Command, Outcome, Settings, answered_by};
 use adr_state::Limits;
 use adr_text::{Moment, Refusal};
 use sqlite::{Alter, Connection, Transaction};
@@ -42,99 +45,118 @@ fn put_changed<S: Alter>(
     put_meta(tx, after)
 }
 
-/// What the command decides is carried out, and a number drawn where one is wanted. The numbers of the node
-/// are read once, and put at most once.
+/// What the command decides is carried out, and a number drawn where one is wanted. The numbers of the node are handed in,
+/// and are left as they have to be put.
 fn numbered<S: Alter>(
     alloc: Global,
     tx: &mut Transaction<'_, S>,
     limits: &Limits,
     now: Moment,
+    meta: &mut Meta,
     command: &Command,
 ) -> Result<Outcome, Refusal>
     ensures same_reference { tx.new.conn.ghost_name ≡ tx.old.conn.ghost_name }
     ensures stays { Stays S.Store tx.old.conn.now tx.new.conn.now result }
-    ensures makes { EditsTables (λ base. edit_of limits.now now base command.now) (state S.Store tx.old.conn.now) (state S.Store tx.new.conn.now) result }
-    ensures refuses { RefusesAs (λ held. edit_of limits.now now held.base command.now) (state S.Store tx.old.conn.now) (state S.Store tx.new.conn.now) result }
+    ensures makes { EditsTables (λ base. edit_of limits.now now base command.now) meta.old meta.new (state S.Store tx.old.conn.now) (state S.Store tx.new.conn.now) result }
+    ensures refuses { RefusesOn S.Store tx.old.conn.now tx.new.conn.now (λ base. edit_of limits.now now base command.now) meta.old result }
     ensures answered { IfOk result (IsAnswered command.now) }
+    ensures listed { IfErr result (IsListed (Unit {0}) (listed command.now)) }
+{
+    let number = meta.serial.next();
+    let said = carry_out(alloc, tx, limits, now, number, meta, command)?;
+    let drawn = meta.serial.draw(limits, command.draws_number());
+    after(drawn, said)
+}
+
+/// The command of one who may give it: its edit, then the stamps of what is shown, and what is told of the changes. All
+/// that is shown is computed before and after it. The numbers of the node are handed in, and are left as they have to be
+/// put.
+fn committed<S: Alter>(
+    alloc: Global,
+    tx: &mut Transaction<'_, S>,
+    settings: &Settings,
+    now: Moment,
+    meta: &mut Meta,
+    command: &Command,
+) -> Result<Answer, Refusal>
+    ensures same_reference { tx.new.conn.ghost_name ≡ tx.old.conn.ghost_name }
+    ensures stays { Stays S.Store tx.old.conn.now tx.new.conn.now result }
+    ensures makes { CommitsTables (step_of settings.now (λ base. edit_of settings.now.limits now base command.now) now) meta.old meta.new (state S.Store tx.old.conn.now) (state S.Store tx.new.conn.now) result }
+    ensures refuses { RefusesToCommit (step_of settings.now (λ base. edit_of settings.now.limits now base command.now) now) meta.old (state S.Store tx.old.conn.now) (state S.Store tx.new.conn.now) result }
+    ensures listed { IfErr result (IsListed (Unit {0}) (listed command.now)) }
+{
+    let before = see(alloc, tx, meta)?;
+    let said = numbered(alloc, tx, &settings.limits, now, meta, command)?;
+    let after = see(alloc, tx, meta)?;
+    let turned = restamp(alloc, tx, now, &before.view, &after.view)?;
+    tell(alloc, tx, settings, meta, command, &before, &after, &turned)?;
+    answered_by(said, &turned.before, turned.changes.len(), &turned.after)
+}
+
+/// What the command makes of the tables, but for the numbers of the node, which are handed in.
+fn acted<S: Alter>(
+    alloc: Global,
+    tx: &mut Transaction<'_, S>,
+    settings: &Settings,
+    now: Moment,
+    meta: &mut Meta,
+    command: &Command,
+) -> Result<Answer, Refusal>
+    ensures same_reference { tx.new.conn.ghost_name ≡ tx.old.conn.ghost_name }
+    ensures stays { Stays S.Store tx.old.conn.now tx.new.conn.now result }
+    ensures makes { CommitsTables (step_by settings.now now command.now) meta.old meta.new (state S.Store tx.old.conn.now) (state S.Store tx.new.conn.now) result }
+    ensures refuses { RefusesToCommit (step_by settings.now now command.now) meta.old (state S.Store tx.old.conn.now) (state S.Store tx.new.conn.now) result }
+    ensures listed { IfErr result (IsListed (Unit {0}) (listed command.now)) }
+{
+    if command.is_delivery() {
+        return delivered(alloc, tx, &settings.limits, now, meta, command);
+    }
+    if !command.is_allowed() {
+        return Err(Refusal::Forbidden);
+    }
+    committed(alloc, tx, settings, now, meta, command)
+}
+
+/// The command on a lent transaction. The numbers of the node are read once, and put at most once.
+fn stepped<S: Alter>(
+    alloc: Global,
+    tx: &mut Transaction<'_, S>,
+    settings: &Settings,
+    now: Moment,
+    command: &Command,
+) -> Result<Answer, Refusal>
+    ensures same_reference { tx.new.conn.ghost_name ≡ tx.old.conn.ghost_name }
+    ensures stays { Stays S.Store tx.old.conn.now tx.new.conn.now result }
+    ensures makes { StepsTables (step_by settings.now now command.now) (state S.Store tx.old.conn.now) (state S.Store tx.new.conn.now) result }
+    ensures refuses { RefusesAs (step_by settings.now now command.now) (state S.Store tx.old.conn.now) (state S.Store tx.new.conn.now) result }
     ensures listed { IfErr result (IsListed (Unit {0}) (listed command.now)) }
 {
     let before = read_meta(tx)?;
     let mut meta = before;
-    let said = carry_out(
-        alloc,
-        tx,
-        limits,
-        now,
-        before.serial.next(),
-        &mut meta,
-        command,
-    )?;
-    let drawn = after(meta.serial.draw(limits, command.draws_number()), said)?;
-    after(put_changed(tx, &before, &meta), drawn)
-}
-
-/// The command of one who may give it: its edit, and then the stamps of what is shown. All that is shown is
-/// computed before and after it.
-fn committed<S: Alter>(
-    alloc: Global,
-    tx: &mut Transaction<'_, S>,
-    limits: &Limits,
-    now: Moment,
-    command: &Command,
-) -> Result<Answer, Refusal>
-    ensures same_reference { tx.new.conn.ghost_name ≡ tx.old.conn.ghost_name }
-    ensures stays { Stays S.Store tx.old.conn.now tx.new.conn.now result }
-    ensures makes { StepsTables (step_of (λ base. edit_of limits.now now base command.now) now) (state S.Store tx.old.conn.now) (state S.Store tx.new.conn.now) result }
-    ensures refuses { RefusesAs (step_of (λ base. edit_of limits.now now base command.now) now) (state S.Store tx.old.conn.now) (state S.Store tx.new.conn.now) result }
-    ensures listed { IfErr result (IsListed (Unit {0}) (listed command.now)) }
-{
-    let before = view(alloc, tx)?;
-    let said = numbered(alloc, tx, limits, now, command)?;
-    let after = view(alloc, tx)?;
-    let turned = restamp(alloc, tx, now, &before, &after)?;
-    answered_by(said, &turned.before, turned.count, &turned.after)
-}
-
-/// The command on a lent transaction.
-fn stepped<S: Alter>(
-    alloc: Global,
-    tx: &mut Transaction<'_, S>,
-    limits: &Limits,
-    now: Moment,
-    command: &Command,
-) -> Result<Answer, Refusal>
-    ensures same_reference { tx.new.conn.ghost_name ≡ tx.old.conn.ghost_name }
-    ensures stays { Stays S.Store tx.old.conn.now tx.new.conn.now result }
-    ensures makes { StepsTables (step_by limits.now now command.now) (state S.Store tx.old.conn.now) (state S.Store tx.new.conn.now) result }
-    ensures refuses { RefusesAs (step_by limits.now now command.now) (state S.Store tx.old.conn.now) (state S.Store tx.new.conn.now) result }
-    ensures listed { IfErr result (IsListed (Unit {0}) (listed command.now)) }
-{
-    if !command.is_allowed() {
-        return Err(Refusal::Forbidden);
-    }
-    committed(alloc, tx, limits, now, command)
+    let answer = acted(alloc, tx, settings, now, &mut meta, command)?;
+    after(put_changed(tx, &before, &meta), answer)
 }
 
 /// The command in a transaction of its own: all of it is committed, or nothing is left of it.
 pub(crate) fn apply_in<S: Alter>(
     alloc: Global,
     conn: &mut Connection<S>,
-    limits: &Limits,
+    settings: &Settings,
     now: Moment,
     command: &Command,
 ) -> Result<Answer, Refusal>
     requires { conn.old.in_transaction ≡ false }
     ensures whole { Commits S.Store conn.old conn.new
-        (λ s. (held : State) → HoldsState held (state S.Store conn.old) → HoldsStepped (step_by limits.now now command.now) held s)
-        (λ trees. (held : State) → HoldsState held (state S.Store conn.old) → LeftStepped (step_by limits.now now command.now) held trees)
+        (λ s. (held : State) → HoldsState held (state S.Store conn.old) → HoldsStepped (step_by settings.now now command.now) held s)
+        (λ trees. (held : State) → HoldsState held (state S.Store conn.old) → LeftStepped (step_by settings.now now command.now) held trees)
         result }
-    ensures makes { StepsTables (step_by limits.now now command.now) (state S.Store conn.old) (state S.Store conn.new) result }
-    ensures refuses { RefusesAs (step_by limits.now now command.now) (state S.Store conn.old) (state S.Store conn.new) result }
+    ensures makes { StepsTables (step_by settings.now now command.now) (state S.Store conn.old) (state S.Store conn.new) result }
+    ensures refuses { RefusesAs (step_by settings.now now command.now) (state S.Store conn.old) (state S.Store conn.new) result }
     ensures listed { IfErr result (IsListed (Unit {0}) (listed command.now)) }
     ensures unchanged { HasCleanDisk (state S.Store conn.new) → IsTrue (state S.Store conn.new).is_open → OnErr result ((state S.Store conn.new).now ≡ (state S.Store conn.old).now) }
 {
     let mut tx = begin(conn);
-    let answer = stepped(alloc, &mut tx, limits, now, command)?;
+    let answer = stepped(alloc, &mut tx, settings, now, command)?;
     let ended = commit(tx);
     after(ended, answer)
 }

@@ -1,6 +1,6 @@
 -- What is accepted is answered: a report that is kept stands in the view after, and one that goes stood in the view before, so each has its stamps.
 use Rattle.std.proofs.Common.{◌≡◌, ℕ, ◌+◌, List, Some, None, Result, Ok, Err, refl, sym, ap, subst, ◌∙◌}
-use Rattle.std.specs.Prelude.{IsSome, IsOk, IfOk, option_map}
+use Rattle.std.specs.Prelude.{IsSome, IsOk, IfOk, IfErr, option_map}
 use Rattle.std.proofs.lemmas.Cmp.{tied_itself}
 use Rattle.std.proofs.lemmas.Map.Views.{IsSome-lookup_from_Contains}
 use Rattle.adr_laws.proofs.Common.{Contains, Contains-from_lookup, false≢true, keys_of, eq_by_cmp_equiv, nat_cmp, nat_cmp_total, tells_apart, Base, State, BaseChange, ChangePortfolio, changed, Command, Refusal, view_cmp, at, empty, step_at}
@@ -21,16 +21,16 @@ use Rattle.adr_view.proofs.ListLemmas.{in_map}
 use Rattle.adr_view.proofs.OrderLemmas.{in_order_put}
 use Rattle.adr_view.proofs.OtherLemmas.{others_shown}
 use Rattle.adr_view.proofs.ShownLemmas.{view_total}
-use Rattle.adr_machine.specs.declared.command.Command.TheVariants.{Evidence, Gone, ScanBegin, ScanEnd, VenAdd, VenPut, VenRemove, ResourceAdd, ResourcePut, ResourceRemove, ShareSet, ReportPost, ReportPut, ReportDelete, SubPost, SubPut, SubDelete}
+use Rattle.adr_machine.specs.declared.command.Command.TheVariants.{Evidence, Gone, ScanBegin, ScanEnd, VenAdd, VenPut, VenRemove, ResourceAdd, ResourcePut, ResourceRemove, ShareSet, ReportPost, ReportPut, ReportDelete, SubPost, SubPut, SubDelete, Lease, Sent, Failed}
 use Rattle.adr_machine.specs.declared.outcome.Outcome.{Outcome}
 use Rattle.adr_machine.specs.declared.outcome.Outcome.TheVariants as outcome
 use Rattle.adr_machine.specs.Edits.{Decision}
 use Rattle.adr_queries.specs.Shown.{object_at, told}
 use Rattle.adr_machine.specs.Steps.{answered_by}
-use Rattle.adr_machine.specs.Steps.{changed as restamped_by, committed}
-use Rattle.adr_laws.specs.Laws.{IsStampedAsShown, ReportsAreAnswered, ReportsAreAnsweredAfterRuns}
+use Rattle.adr_machine.specs.Steps.{changed as restamped_by, outbox_then}
+use Rattle.adr_laws.specs.Laws.{IsStampedAsShown, IsAnsweredWhereTold, ReportsAreAnswered, ReportsAreAnsweredAfterRuns}
 use Rattle.adr_laws.specs.Standing.{state_of}
-use Rattle.adr_laws.proofs.Decisions.{IsKept, IsGone, IsOther, IsPlain, Comes, base_after, state_by, after_edit}
+use Rattle.adr_laws.proofs.Decisions.{IsKept, IsGone, IsOther, IsPlain, Comes, base_after, after_edit}
 use Rattle.adr_laws.proofs.PortfolioLemmas.{rows_in_order}
 use Rattle.adr_laws.proofs.StampLemmas.{keys_restamped, stamps_of_view}
 
@@ -99,16 +99,20 @@ module _ (s : State) (stamped : IsStampedAsShown s) (stands : StandsInOrder s.ba
   by_command (SubPost role sub) comes = plain_answered comes
   by_command (SubPut role id sub) comes = plain_answered comes
   by_command (SubDelete role id) comes = plain_answered comes
+  by_command Lease comes = plain_answered comes
+  by_command (Sent entry lease remote) comes = plain_answered comes
+  by_command (Failed entry lease forget) comes = plain_answered comes
 
--- the commit of what is answered stands
-stands_then : {A B : Type 0} (r : Result A Refusal) (f : A → B) → IsOk r → IsOk (r >>= λ x. Ok (f x))
-stands_then (Ok x) f is = refl
-stands_then (Err e) f is = absurd (false≢true is)
+-- the commit of what is answered is refused only as what is told of it is
+refused_then : {A B C : Type 0} (o : Result B Refusal) (r : Result A Refusal) (f : B → A → C) → IsOk r → IfErr (o >>= λ next. r >>= λ x. Ok (f next x)) (λ refusal. o ≡ Err refusal)
+refused_then (Ok next) (Ok x) f is = tt
+refused_then (Ok next) (Err e) f is = absurd (false≢true is)
+refused_then (Err e) r f is = refl
 
 pub reports_answered : ReportsAreAnswered
 reports_answered settings s c stamped stands =
-    after_edit settings s c (λ r. IfOk r (λ e. IsOk (committed s c.0 e.0 e.1))) (λ refusal. tt)
-    (λ d fits. stands_then (answered_by d.outcome s.stamps (restamped_by s c.0 (base_after s.base c.1 d))) (λ a. (a, state_by s c d)) (by_command s stamped stands c d c.1 fits.is))
+    after_edit settings s c (λ r. IfOk r (IsAnsweredWhereTold settings s c.0)) (λ refusal. tt)
+    (λ d fits within. refused_then (outbox_then settings s c.0 (base_after s.base c.1 d)) (answered_by d.outcome s.stamps (restamped_by s c.0 (base_after s.base c.1 d))) _ (by_command s stamped stands c d c.1 fits.is))
 
 pub reports_answered_after_runs : ReportsAreAnsweredAfterRuns
 reports_answered_after_runs settings cs c = reports_answered settings (state_of (step_at settings) empty cs) c (stamps_of_view settings cs) (rows_in_order settings cs)

@@ -1,9 +1,9 @@
 -- What a command decides fits the base, and what a step makes of it: the one walk over the commands. The laws walk over the kinds of change.
-use Rattle.std.proofs.Common.{◌≡◌, ℕ, ◌≤◌, ◌+◌, Bool, true, false, cond, ◌==◌, ◌⊎◌, inl, inr, ◌&&◌, List, [], ◌∷◌, Option, Some, None, Result, Ok, Err, IfOk, refl, ap, subst, arith}
+use Rattle.std.proofs.Common.{◌≡◌, ℕ, ◌≤◌, ◌+◌, Bool, true, false, cond, ◌==◌, ◌⊎◌, inl, inr, ◌&&◌, List, [], ◌∷◌, length, Option, Some, None, Result, Ok, Err, IfOk, refl, ap, subst, arith}
 use Rattle.std.specs.Prelude.{nat_lt, nat_le, is_some, IsSome, IfSome, option_map, option_and_then}
 use Rattle.std.specs.Option.{option_map_or}
-use Rattle.adr_laws.proofs.Common.{nat_cmp, unsigned_Decides, cond_both, Refusal, Base, at, ven_name, resource_name, is_taken, is_taken_by_another, is_full, BaseChange, JoinMarks, ChangePortfolio, changed, Command, Settings, State, step_at}
-use Rattle.std.proofs.lemmas.Bool.{eqb-false, ltb-false}
+use Rattle.adr_laws.proofs.Common.{nat_cmp, unsigned_Decides, cond_both, Refusal, Base, at, ven_name, resource_name, is_taken, is_taken_by_another, is_full, BaseChange, JoinMarks, SetScan, ChangePortfolio, changed, Command, Settings, State, step_at}
+use Rattle.std.proofs.lemmas.Bool.{eqb-false, leb-false, ltb-false}
 use Rattle.adr_text.specs.Refusals.{◌>>=◌}
 use Rattle.adr_text.specs.declared.refusal.Refusal.TheVariants as refusal
 use Rattle.adr_state.specs.declared.base.Mark.{Mark}
@@ -36,16 +36,22 @@ use Rattle.adr_view.specs.declared.report.Reported.{Reported}
 use Rattle.adr_view.specs.Reports.{is_shown_to, reported_of, reported_by, reported_in, reported, fits, kept_report, report_on, report_with_id, putting_report, report_made, report_replaced, report_removed, may_report, may_change}
 use Rattle.adr_view.specs.Rollups.{event_at}
 use Rattle.adr_queries.specs.declared.answer.Answer.{Answer}
-use Rattle.adr_machine.specs.declared.command.Command.TheVariants.{Evidence, Gone, ScanBegin, ScanEnd, VenAdd, VenPut, VenRemove, ResourceAdd, ResourcePut, ResourceRemove, ShareSet, ReportPost, ReportPut, ReportDelete, SubPost, SubPut, SubDelete}
+use Rattle.adr_queries.specs.declared.answer.Answer.TheVariants as answer
+use Rattle.adr_machine.specs.declared.command.Command.TheVariants.{Evidence, Gone, ScanBegin, ScanEnd, VenAdd, VenPut, VenRemove, ResourceAdd, ResourcePut, ResourceRemove, ShareSet, ReportPost, ReportPut, ReportDelete, SubPost, SubPut, SubDelete, Lease, Sent, Failed}
 use Rattle.adr_machine.specs.declared.outcome.Outcome.{Outcome}
 use Rattle.adr_machine.specs.declared.outcome.Outcome.TheVariants as outcome
 use Rattle.adr_queries.specs.declared.role.Role.{Role}
 use Rattle.adr_queries.specs.declared.role.Role.TheVariants as role
 use Rattle.adr_queries.specs.Roles.{sight_by, sight_of}
 use Rattle.adr_state.specs.Serials.{drawn}
-use Rattle.adr_machine.specs.Edits.{Decision, is_allowed, counted, of_portfolio, report_kept, report_gone, sub_outcome, draws_number, decided, numbered, edit_of, edit}
+use Rattle.adr_machine.specs.Edits.{Decision, is_allowed, counted, answered, of_portfolio, report_kept, report_gone, sub_outcome, draws_number, is_delivery, decided, numbered, edit_of, edit}
 use Rattle.adr_machine.specs.Steps.{answered_by}
-use Rattle.adr_machine.specs.Steps.{changed as restamped_by, committed}
+use Rattle.adr_machine.specs.Steps.{changed as restamped_by, entries_then, outbox_then, committed, delivery_step, edit_step}
+use Rattle.adr_machine.specs.Deliveries.{delivered}
+use Rattle.adr_notices.specs.Committed.{with_further}
+use Rattle.adr_delivery.specs.declared.entry.Entry.{Entry}
+use Rattle.adr_delivery.specs.declared.outbox.Outbox.{Outbox}
+use Rattle.adr_delivery.specs.Outboxes.{kept_for}
 use Rattle.adr_laws.specs.Reported.{SaysAsSent}
 use Rattle.adr_laws.specs.Laws.{HasVen, HasResource, evidence_in, HasWeight, HasReported, HasOwner}
 use Rattle.adr_laws.proofs.EditLemmas.{tested, first_then, found_then, new_then, free_then, whatever}
@@ -326,6 +332,9 @@ module _ (limits : Limits) (now next : ℕ) (base : Base) where
       first_then (Draws false) fits (weight_set limits key weight base.portfolio) _
       (cond_both (weight == 0) (Ok (DropShare key)) _ (λ r. IfOk r fits) (λ none. (tt, refl)) (λ some. tested fits (is_beyond limits key base.portfolio.shares) refusal.LimitReached (Ok (PutShare key weight)) (λ room. ((there, has_weight weight some small), refl)))) (λ change h. h))
 
+  leaves_fits : Fits next false base [] IsPlain (answered answer.Done (SetScan base.scan))
+  leaves_fits = record { fits = tt; tells = refl; is = record { comes = tt; puts_none = refl } }
+
   pub decided_fits : (c : Command) → IfOk (decided limits now next base c) (Fits next (draws_number c) base (evidence_in c) (Comes next base c))
   decided_fits (Evidence founds polled) = counted_fits (evidence_of founds) _ (joining_fits (evidence_of founds) (scan_with base.scan founds polled))
   decided_fits (Gone kind id) = let marks : List (MirrorKey × Mark) = (record { kind = kind; id = id }, Dead) ∷ [] in counted_fits marks _ (joining_fits marks base.scan)
@@ -379,41 +388,124 @@ module _ (limits : Limits) (now next : ℕ) (base : Base) where
       first_then (Fits next false base [] IsPlain) (λ sight. Unit {0}) (sight_of base role) _ (whatever (sight_of base role)) (λ sight h.
       portfolio_fits false sub_outcome (λ x. tt) (sub_delete sight id base.portfolio)
       (first_then (Draws false) (λ s. Unit {0}) (sub_in_sight sight id base.portfolio) _ (whatever (sub_in_sight sight id base.portfolio)) (λ s there. (tt, refl))))
+  -- what is about an entry leaves the base
+  decided_fits Lease = leaves_fits
+  decided_fits (Sent entry lease remote) = leaves_fits
+  decided_fits (Failed entry lease forget) = leaves_fits
 
--- ---- a step
+-- ---- an edit
 
 -- the base after a decision of a command
 abbrev pub base_after : Base → Command → Decision → Base
 base_after base c d = record (changed d.change base) { serial = serial_then base.serial (draws_number c) }
 
--- the state after it
-abbrev pub state_by : State → ℕ × Command → Decision → State
-state_by s c d = record { base = base_after s.base c.1 d; stamps = (restamped_by s c.0 (base_after s.base c.1 d)).1 }
+-- what was within its limit is so still
+abbrev pub StaysWithin : ℕ → ℕ → ℕ → Type 0
+StaysWithin most before after = before ≤ most → after ≤ most
 
 -- what holds of what every edit makes that is refused, and of what every decision that fits makes, holds of an edit
 pub after_edit : (settings : Settings) (s : State) (c : ℕ × Command) (P : Result (Outcome × Base) Refusal → Type 0) → ((refusal : Refusal) → P (Err refusal))
-    → ((d : Decision) → FitsCommand s.base c.1 d → P (Ok (d.outcome, base_after s.base c.1 d))) → P (edit settings.limits c.0 s.base c.1)
+    → ((d : Decision) → FitsCommand s.base c.1 d → StaysWithin settings.limits.serial s.base.serial (serial_then s.base.serial (draws_number c.1)) → P (Ok (d.outcome, base_after s.base c.1 d))) → P (edit settings.limits c.0 s.base c.1)
 unfolding edit
 after_edit settings s c P refused made =
     cond_both (is_allowed c.1) (edit_of settings.limits c.0 s.base c.1) (Err refusal.Forbidden) P (λ allowed. by_decision _ (decided_fits settings.limits c.0 (s.base.serial + 1) s.base c.1)) (λ forbidden. refused refusal.Forbidden)
   where
+    most : ℕ
+    most = settings.limits.serial
+
     ending : Decision → Result ℕ Refusal → Result (Outcome × Base) Refusal
     ending d r = r >>= λ serial. Ok (d.outcome, record (changed d.change s.base) { serial = serial })
 
-    by_drawn : (d : Decision) (draws : Bool) → P (ending d (Ok (serial_then s.base.serial draws))) → P (ending d (drawn settings.limits s.base.serial draws))
-    by_drawn d false is = is
-    by_drawn d true is = cond_both (nat_le settings.limits.serial s.base.serial) (Err refusal.Exhausted) (Ok (s.base.serial + 1)) (λ r. P (ending d r)) (λ none. refused refusal.Exhausted) (λ left. is)
+    by_drawn : (d : Decision) (draws : Bool) → (StaysWithin most s.base.serial (serial_then s.base.serial draws) → P (ending d (Ok (serial_then s.base.serial draws)))) → P (ending d (drawn settings.limits s.base.serial draws))
+    by_drawn d false is = is (λ within. within)
+    by_drawn d true is =
+        cond_both (nat_le most s.base.serial) (Err refusal.Exhausted) (Ok (s.base.serial + 1)) (λ r. P (ending d r)) (λ none. refused refusal.Exhausted) (λ left. is (λ within. let less = leb-false most s.base.serial left in omega (arith, less)))
 
     by_decision : (r : Result Decision Refusal) → IfOk r (FitsCommand s.base c.1) → P (r >>= numbered settings.limits (draws_number c.1) s.base)
     by_decision (Ok d) fits = by_drawn d (draws_number c.1) (made d fits)
     by_decision (Err refusal) fits = refused refusal
 
--- what every refusal leaves so, and every decision that fits and is answered makes so, is so after a step
-pub after_step : (settings : Settings) (s : State) (c : ℕ × Command) (P : Result (Answer × State) Refusal → Type 0) → ((refusal : Refusal) → P (Err refusal))
-    → ((d : Decision) (a : Answer) → FitsCommand s.base c.1 d → answered_by d.outcome s.stamps (restamped_by s c.0 (base_after s.base c.1 d)) ≡ Ok a → P (Ok (a, state_by s c d))) → P (step_at settings s c)
-after_step settings s c P refused made =
-    after_edit settings s c (λ r. P (r >>= λ e. committed s c.0 e.0 e.1)) refused (λ d fits. by d fits (answered_by d.outcome s.stamps (restamped_by s c.0 (base_after s.base c.1 d))) refl)
+-- ---- a step
+
+-- what is told of a decision
+abbrev pub entries_by : Settings → State → ℕ × Command → Decision → List Entry
+entries_by settings s c d = entries_then settings s c.0 (base_after s.base c.1 d)
+
+-- the outbox with it, and the serial then
+abbrev pub next_by : Settings → State → ℕ × Command → Decision → Outbox × ℕ
+next_by settings s c d = with_further (serial_then s.base.serial (draws_number c.1)) (entries_by settings s c d) (kept_for (changed d.change s.base).portfolio.subs s.outbox)
+
+-- the state after a decision
+abbrev pub state_by : Settings → State → ℕ × Command → Decision → State
+state_by settings s c d = record {
+  base = record (changed d.change s.base) { serial = (next_by settings s c d).1 };
+  stamps = (restamped_by s c.0 (base_after s.base c.1 d)).1;
+  outbox = (next_by settings s c d).0;
+}
+
+-- a decision of an edit that fits and is answered
+pub record IsAnswered (settings : Settings) (s : State) (c : ℕ × Command) (d : Decision) (a : Answer) : Type 0 where
+  pub edits : is_delivery c.1 ≡ false
+  pub fits : FitsCommand s.base c.1 d
+  pub answers : answered_by d.outcome s.stamps (restamped_by s c.0 (base_after s.base c.1 d)) ≡ Ok a
+  pub within : StaysWithin settings.limits.serial s.base.serial (next_by settings s c d).1
+
+-- the serial does not fall by what is told
+pub rises_on : (settings : Settings) (s : State) (c : ℕ × Command) (d : Decision) → serial_then s.base.serial (draws_number c.1) ≤ (next_by settings s c d).1
+rises_on settings s c d = omega arith
+
+-- entries are appended, where there are numbers and room
+after_room : (settings : Settings) (s : State) (c : ℕ × Command) (d : Decision) (P : Result (Outbox × ℕ) Refusal → Type 0) → ((refusal : Refusal) → P (Err refusal))
+    → (StaysWithin settings.limits.serial (serial_then s.base.serial (draws_number c.1)) (next_by settings s c d).1 → P (Ok (next_by settings s c d))) → P (outbox_then settings s c.0 (base_after s.base c.1 d))
+after_room settings s c d P refused made =
+    cond_both (length entries == 0) (Ok tt) _ (λ r. P (ending r)) (λ none. made (λ within. let is = (unsigned_Decides (length entries) 0).0 none in omega (arith, within, is)))
+    (λ some. cond_both (nat_lt most (serial + length entries)) (Err refusal.Exhausted) _ (λ r. P (ending r)) (λ more. refused refusal.Exhausted)
+    (λ left. cond_both (nat_lt settings.limits.pending (waiting + length entries)) (Err refusal.OutboxFull) (Ok tt) (λ r. P (ending r)) (λ full. refused refusal.OutboxFull)
+    (λ room. made (λ within. ltb-false most (serial + length entries) left))))
   where
-    by : (d : Decision) → FitsCommand s.base c.1 d → (r : Result Answer Refusal) → answered_by d.outcome s.stamps (restamped_by s c.0 (base_after s.base c.1 d)) ≡ r → P (r >>= λ a. Ok (a, state_by s c d))
-    by d fits (Ok a) is = made d a fits is
-    by d fits (Err refusal) is = refused refusal
+    most : ℕ
+    most = settings.limits.serial
+
+    serial : ℕ
+    serial = serial_then s.base.serial (draws_number c.1)
+
+    entries : List Entry
+    entries = entries_by settings s c d
+
+    kept : Outbox
+    kept = kept_for (changed d.change s.base).portfolio.subs s.outbox
+
+    waiting : ℕ
+    waiting = length kept.entries
+
+    ending : Result Unit Refusal → Result (Outbox × ℕ) Refusal
+    ending r = r >>= λ _. Ok (with_further serial entries kept)
+
+-- what every refusal leaves so, and every decision that fits and is answered makes so, and every command about an entry that is carried out, is so after a step
+pub after_step : (settings : Settings) (s : State) (c : ℕ × Command) (P : Result (Answer × State) Refusal → Type 0) → ((refusal : Refusal) → P (Err refusal))
+    → ((a : Answer) (o : Outbox) → is_delivery c.1 ≡ true → delivered settings.limits c.0 s.outbox c.1 ≡ Ok (a, o) → P (Ok (a, record s { outbox = o })))
+    → ((d : Decision) (a : Answer) → IsAnswered settings s c d a → P (Ok (a, state_by settings s c d))) → P (step_at settings s c)
+after_step settings s c P refused carried made =
+    cond_both (is_delivery c.1) (delivery_step settings s c.0 c.1) (edit_step settings s c.0 c.1) P (λ is. by_delivered is _ refl)
+    (λ edits. after_edit settings s c (λ r. P (r >>= λ e. committed settings s c.0 e.0 e.1)) refused (λ d fits within.
+    after_room settings s c d (λ r. P (r >>= λ next. answered_by d.outcome s.stamps (restamped_by s c.0 (base_after s.base c.1 d)) >>= λ a. Ok (a, state_with d next))) refused (λ on.
+    by d edits fits (λ first. on (within first)) (answered_by d.outcome s.stamps (restamped_by s c.0 (base_after s.base c.1 d))) refl)))
+  where
+    state_with : Decision → Outbox × ℕ → State
+    state_with d next = record { base = record (base_after s.base c.1 d) { serial = next.1 }; stamps = (restamped_by s c.0 (base_after s.base c.1 d)).1; outbox = next.0 }
+
+    by_delivered : is_delivery c.1 ≡ true → (r : Result (Answer × Outbox) Refusal) → delivered settings.limits c.0 s.outbox c.1 ≡ r → P (r >>= λ d. Ok (d.0, record s { outbox = d.1 }))
+    by_delivered is (Ok d) done = carried d.0 d.1 is done
+    by_delivered is (Err refusal) done = refused refusal
+
+    by : (d : Decision) → is_delivery c.1 ≡ false → FitsCommand s.base c.1 d → StaysWithin settings.limits.serial s.base.serial (next_by settings s c d).1 → (r : Result Answer Refusal)
+        → answered_by d.outcome s.stamps (restamped_by s c.0 (base_after s.base c.1 d)) ≡ r → P (r >>= λ a. Ok (a, state_by settings s c d))
+    by d edits fits within (Ok a) is = made d a (record { edits = edits; fits = fits; answers = is; within = within })
+    by d edits fits within (Err refusal) is = refused refusal
+
+-- what holds of each command about an entry
+pub of_delivery : (P : Command → Type 0) → P Lease → ((entry lease : ℕ) (remote : Option (List ℕ)) → P (Sent entry lease remote)) → ((entry lease : ℕ) (forget : Bool) → P (Failed entry lease forget)) → (c : Command) → is_delivery c ≡ true → P c
+of_delivery P lease sent failed Lease is = lease
+of_delivery P lease sent failed (Sent entry n remote) is = sent entry n remote
+of_delivery P lease sent failed (Failed entry n forget) is = failed entry n forget
+of_delivery P lease sent failed c is = absurd (let no : false ≡ true = is in cc)

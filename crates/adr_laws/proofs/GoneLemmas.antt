@@ -34,7 +34,7 @@ pub removed_gone : RemovedReportsAreGone
 removed_gone settings cs now role id n number accepted =
     let command : ℕ × Command = (now, ReportDelete role id) in
     ap (λ (t : State). at nat_cmp n t.base.portfolio.reports) (state_of-push (step_at settings) empty cs command)
-    ∙ after_step settings s command (λ r. IsOk r → at nat_cmp n (state_after s r).base.portfolio.reports ≡ None) (λ refusal is. absurd (false≢true is)) (λ d a fits answered is. gone d fits.is) accepted
+    ∙ after_step settings s command (λ r. IsOk r → at nat_cmp n (state_after s r).base.portfolio.reports ≡ None) (λ refusal is. absurd (false≢true is)) (λ a o delivers done is. absurd (false≢true delivers)) (λ d a done is. gone d done.fits.is) accepted
   where
     s : State
     s = state_of (step_at settings) empty cs

@@ -17,3 +17,7 @@ pub mod LastLemmas
 pub mod WrittenLemmas
 pub mod CountedLemmas
 pub mod GoneLemmas
+pub mod WaitLemmas
+pub mod OutboxLemmas
+pub mod ApartLemmas
+pub mod TallyLemmas

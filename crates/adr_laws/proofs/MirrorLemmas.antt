@@ -9,8 +9,8 @@ use Rattle.adr_state.specs.Mirror.{raised, joined}
 use Rattle.adr_state.specs.Laws.{IsJoined}
 use Rattle.adr_state.proofs.LawLemmas.{joins_greatest, key_order}
 use Rattle.adr_laws.specs.Standing.{state_of}
-use Rattle.adr_laws.specs.Laws.{accepted_in, accepted_evidence, MirrorIsGreatest}
-use Rattle.adr_laws.proofs.Decisions.{marks_in, after_step}
+use Rattle.adr_laws.specs.Laws.{evidence_in, accepted_in, accepted_evidence, MirrorIsGreatest}
+use Rattle.adr_laws.proofs.Decisions.{marks_in, after_step, of_delivery}
 use Rattle.adr_view.proofs.OrderLemmas.{InOrder, none_sorted, in_order_put}
 
 -- each kind of change joins the mirror with what it tells
@@ -22,7 +22,8 @@ change_joins (ChangePortfolio change) base = refl
 -- and so does each step with what its command tells, where it was accepted
 step_joins : (settings : Settings) (s : State) (c : ℕ × Command) → (state_after s (step_at settings s c)).base.mirror ≡ joined s.base.mirror (accepted_in (step_at settings s c) c.1)
 step_joins settings s c =
-    after_step settings s c (λ r. (state_after s r).base.mirror ≡ joined s.base.mirror (accepted_in r c.1)) (λ refusal. refl) (λ d a fits answered. change_joins d.change s.base ∙ ap (joined s.base.mirror) fits.tells)
+    after_step settings s c (λ r. (state_after s r).base.mirror ≡ joined s.base.mirror (accepted_in r c.1)) (λ refusal. refl)
+    (λ a o is done. ap (joined s.base.mirror) (sym (of_delivery (λ command. evidence_in command ≡ []) refl (λ entry lease remote. refl) (λ entry lease forget. refl) c.1 is))) (λ d a is. change_joins d.change s.base ∙ ap (joined s.base.mirror) is.fits.tells)
 
 -- the mirror after a run is the one before, joined with all accepted evidence
 run_joins : (settings : Settings) (s : State) (cs : List (ℕ × Command)) → (state_of (step_at settings) s cs).base.mirror ≡ joined s.base.mirror (accepted_evidence settings s cs)

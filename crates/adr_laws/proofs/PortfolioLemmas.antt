@@ -12,7 +12,7 @@ use Rattle.adr_state.specs.Portfolios.{is_of_ven, reported_on, PortfolioChange, 
 use Rattle.adr_machine.specs.Edits.{draws_number}
 use Rattle.adr_laws.specs.Standing.{state_of}
 use Rattle.adr_laws.specs.Laws.{HasVen, HasResource, HasWeight, HasReported, HasOwner, NamesDiffer, PortfolioIsWhole, RowsStandInOrder, AreDrawnOnce, numbers_of, NumbersAreOwn, RevisionsAreOwn, NumbersAreDrawnOnce}
-use Rattle.adr_laws.proofs.Decisions.{FitsPortfolio, FitsBase, after_step}
+use Rattle.adr_laws.proofs.Decisions.{FitsPortfolio, FitsBase, next_by, rises_on, after_step}
 use Rattle.adr_laws.proofs.MirrorLemmas.{mirror_in_order}
 use Rattle.adr_laws.proofs.NumberLemmas.{serial_then, rises, HaveOwn, BothOwn, IsDrawn, none_own, turned, some_both, put_both, both_from_here, each_number, each_drawn}
 use Rattle.adr_laws.proofs.ReportLemmas.{HaveReports, is_one, one_put, no_reports, some_reports, later_reports, reports_from_here, put_reports, reports_differ}
@@ -47,7 +47,7 @@ module _ (first : Base) where
   abbrev SubsWhole : ℕ → Portfolio → Type 0
   SubsWhole serial p = HaveSubs first.serial (keys_of first.portfolio.subs) serial p
 
-  abbrev Whole : Base → Type 0
+  abbrev pub Whole : Base → Type 0
   Whole base = AreWhole base.serial base.portfolio × SubsWhole base.serial base.portfolio
 
   -- more numbers were drawn
@@ -131,34 +131,38 @@ module _ (first : Base) where
   change_whole serial draws p (DropSub n) fits h = later serial (serial_then serial draws) p (rises serial draws) h
 
   -- what is used was drawn by then
-  used_low : (serial : ℕ) (p : Portfolio) → AreWhole serial p → (n : ℕ) → IsUsed p n → n ≤ serial
+  pub used_low : (serial : ℕ) (p : Portfolio) → AreWhole serial p → (n : ℕ) → IsUsed p n → n ≤ serial
   used_low serial p h n (inl v) = let low = (h.0.ones.drawn v.0 v.1).up_to_the_serial in let same = v.2 in omega arith
   used_low serial p h n (inr (inl r)) = let low = (h.0.others.drawn r.0 r.1).up_to_the_serial in let same = r.2 in omega arith
   used_low serial p h n (inr (inr r)) = let low = (h.2.own.drawn r.0 r.1).up_to_the_serial in let same = r.2 in omega arith
 
-  abbrev Grows : Bool → Base → BaseChange → Type 0
-  Grows draws base change = AreWhole (serial_then base.serial draws) (changed change base).portfolio × SubsWhole (serial_then base.serial draws) (changed change base).portfolio
+  -- both stay, when more numbers were drawn
+  all_later : (serial next : ℕ) (p : Portfolio) → serial ≤ next → AreWhole serial p × SubsWhole serial p → AreWhole next p × SubsWhole next p
+  all_later serial next p passed h = (later serial next p passed h.0, later_subs h.1 passed)
 
-  -- the portfolio stays, and a number is drawn or none
-  all_later : (draws : Bool) (base : Base) → Whole base → AreWhole (serial_then base.serial draws) base.portfolio × SubsWhole (serial_then base.serial draws) base.portfolio
-  all_later draws base h = (later base.serial (serial_then base.serial draws) base.portfolio (rises base.serial draws) h.0, later_subs h.1 h.0.0.rose (used_low base.serial base.portfolio h.0) h.0.0.ones.in_order draws)
-
-  base_whole : (draws : Bool) (base : Base) (change : BaseChange) → FitsBase (base.serial + 1) draws base change → Whole base → Grows draws base change
-  base_whole draws base (JoinMarks marks scan) fits h = all_later draws base h
-  base_whole draws base (SetScan scan) fits h = all_later draws base h
+  pub base_whole : (draws : Bool) (base : Base) (change : BaseChange) → FitsBase (base.serial + 1) draws base change → Whole base → Whole (record (changed change base) { serial = serial_then base.serial draws })
+  base_whole draws base (JoinMarks marks scan) fits h = all_later base.serial (serial_then base.serial draws) base.portfolio (rises base.serial draws) h
+  base_whole draws base (SetScan scan) fits h = all_later base.serial (serial_then base.serial draws) base.portfolio (rises base.serial draws) h
   base_whole draws base (ChangePortfolio change) fits h = (change_whole base.serial draws base.portfolio change fits h.0, subs_after h.1 h.0.0.rose (used_low base.serial base.portfolio h.0) h.0.0.ones.in_order draws change fits)
 
+  pub step_whole : (settings : Settings) (s : State) (c : ℕ × Command) → Whole s.base → Whole (state_after s (step_at settings s c)).base
+  step_whole settings s c h =
+      after_step settings s c (λ r. Whole (state_after s r).base) (λ refusal. h) (λ a o is done. h)
+      (λ d a is. all_later (serial_then s.base.serial (draws_number c.1)) (next_by settings s c d).1 (changed d.change s.base).portfolio (rises_on settings s c d) (base_whole (draws_number c.1) s.base d.change is.fits.fits h))
+
   run_whole : (settings : Settings) (s : State) (cs : List (ℕ × Command)) → Whole s.base → Whole (state_of (step_at settings) s cs).base
-  run_whole settings =
-      run_keeps (step_at settings) (λ s. Whole s.base) (λ s c h. after_step settings s c (λ r. Whole (state_after s r).base) (λ refusal. h) (λ d a fits answered. base_whole (draws_number c.1) s.base d.change fits.fits h))
+  run_whole settings = run_keeps (step_at settings) (λ s. Whole s.base) (step_whole settings)
 
 -- the state after a run from an empty start
 abbrev after : Settings → List (ℕ × Command) → State
 after settings cs = state_of (step_at settings) empty cs
 
 -- nothing is there at first
+pub none_whole : Whole empty.base empty.base
+none_whole = ((none_own, (λ r none. absurd (omega (arith, none.1)), λ s none. absurd (omega (arith, none.1)), λ s none. absurd (omega (arith, none.1))), no_reports), no_subs)
+
 whole_after : (settings : Settings) (cs : List (ℕ × Command)) → Whole empty.base (after settings cs).base
-whole_after settings cs = run_whole empty.base settings empty cs ((none_own, (λ r none. absurd (omega (arith, none.1)), λ s none. absurd (omega (arith, none.1)), λ s none. absurd (omega (arith, none.1))), no_reports), no_subs)
+whole_after settings cs = run_whole empty.base settings empty cs none_whole
 
 -- no two rows of those of one kind have one name
 all_differ : {V X : Type 0} {name : V → X} {first : ℕ} {had : List ℕ} {serial : ℕ} (rows : List (ℕ × V)) → HaveOwn name first had serial rows → NamesDiffer name rows

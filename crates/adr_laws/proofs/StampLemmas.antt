@@ -10,7 +10,7 @@ use Rattle.adr_view.specs.Same.{is_same_content}
 use Rattle.adr_view.specs.Views.{view}
 use Rattle.adr_laws.specs.Standing.{state_of}
 use Rattle.adr_laws.specs.Laws.{StampsAreOfTheView, StampsAreInTime}
-use Rattle.adr_laws.proofs.Decisions.{after_step}
+use Rattle.adr_laws.proofs.Decisions.{base_after, next_by, after_step}
 use Rattle.adr_view.proofs.OrderLemmas.{made_in_order}
 use Rattle.adr_view.proofs.ShownLemmas.{view_total, shown_in_order}
 use Rattle.adr_laws.proofs.RunLemmas.{run_keeps}
@@ -38,9 +38,15 @@ nothing_stamped : IsStamped empty
 unfolding view
 nothing_stamped = refl
 
+-- the serial is not shown
+same_view : (base : Base) (serial : ℕ) → view (record base { serial = serial }) ≡ view base
+unfolding view
+same_view base serial = refl
+
 run_stamps : (settings : Settings) (cs : List (ℕ × Command)) → IsStamped (state_of (step_at settings) empty cs)
 run_stamps settings cs =
-    run_keeps (step_at settings) IsStamped (λ s c h. after_step settings s c (λ r. IsStamped (state_after s r)) (λ refusal. h) (λ d a fits answered. keys_restamped s.stamps (view s.base) _ c.0)) empty cs nothing_stamped
+    run_keeps (step_at settings) IsStamped (λ s c h. after_step settings s c (λ r. IsStamped (state_after s r)) (λ refusal. h) (λ a o is done. h)
+    (λ d a is. keys_restamped s.stamps (view s.base) (base_after s.base c.1 d) c.0 ∙ ap keys_of (sym (same_view (base_after s.base c.1 d) (next_by settings s c d).1)))) empty cs nothing_stamped
 
 pub stamps_of_view : StampsAreOfTheView
 stamps_of_view settings cs =
@@ -85,7 +91,8 @@ restamped_in_time last now stamps before after passed h = subst (AreInTime now) 
 
 step_in_time : (settings : Settings) (last : ℕ) (s : State) (c : ℕ × Command) → last ≤ c.0 → AreInTime last s.stamps → AreInTime c.0 (state_after s (step_at settings s c)).stamps
 step_in_time settings last s c passed h =
-    after_step settings s c (λ r. AreInTime c.0 (state_after s r).stamps) (λ refusal. All-weaker (IsInTime last) (IsInTime c.0) (later last c.0 passed) (values_of s.stamps) h) (λ d a fits answered. restamped_in_time last c.0 s.stamps (view s.base) _ passed h)
+    let stay : AreInTime c.0 s.stamps = All-weaker (IsInTime last) (IsInTime c.0) (later last c.0 passed) (values_of s.stamps) h in
+    after_step settings s c (λ r. AreInTime c.0 (state_after s r).stamps) (λ refusal. stay) (λ a o is done. stay) (λ d a is. restamped_in_time last c.0 s.stamps (view s.base) _ passed h)
 
 -- the moments of commands
 abbrev moments : List (ℕ × Command) → List ℕ

@@ -19,13 +19,13 @@ use Rattle.adr_laws.proofs.ReportLemmas.{IsOneOrNext, is_one, one_put}
 
 -- ---- numbers of vens, of resources and of reports
 
-abbrev HasRow : {V : Type 0} → List (ℕ × V) → ℕ → Type 0
+abbrev pub HasRow : {V : Type 0} → List (ℕ × V) → ℕ → Type 0
 HasRow {V} rows n = (r : ℕ × V) × Contains rows r × (r.0 ≡ n)
 
 abbrev pub IsUsed : Portfolio → ℕ → Type 0
 IsUsed p n = HasRow p.vens n ⊎ (HasRow p.resources n ⊎ HasRow p.reports n)
 
-one_of : {V : Type 0} (serial : ℕ) (rows : List (ℕ × V)) (m n : ℕ) → m ≡ n → IsOneOrNext serial rows m → HasRow rows n ⊎ (n ≡ serial + 1)
+pub one_of : {V : Type 0} (serial : ℕ) (rows : List (ℕ × V)) (m n : ℕ) → m ≡ n → IsOneOrNext serial rows m → HasRow rows n ⊎ (n ≡ serial + 1)
 one_of serial rows m n same (inl one) = inl (one.0, one.1, one.2 ∙ same)
 one_of serial rows m n same (inr next) = inr (sym same ∙ next)
 
@@ -37,7 +37,7 @@ used_by serial p q vens resources reports n (inr (inl r)) = elim (one_of serial 
 used_by serial p q vens resources reports n (inr (inr r)) = elim (one_of serial p.reports r.0.0 n r.2 (reports r.0 r.1)) [ inl one ↦ inl (inr (inr one)) | inr next ↦ inr next ]
 
 -- after a change each number that is used was used before, or is the next one
-used_after : (serial : ℕ) (draws : Bool) (p : Portfolio) (change : PortfolioChange) → FitsPortfolio (serial + 1) draws p change → (n : ℕ) → IsUsed (portfolio_after change p) n → IsUsed p n ⊎ (n ≡ serial + 1)
+pub used_after : (serial : ℕ) (draws : Bool) (p : Portfolio) (change : PortfolioChange) → FitsPortfolio (serial + 1) draws p change → (n : ℕ) → IsUsed (portfolio_after change p) n → IsUsed p n ⊎ (n ≡ serial + 1)
 used_after serial draws p (PutVen n ven) fits = used_by serial p (portfolio_after (PutVen n ven) p) (one_put serial draws n ven p.vens fits.0) (is_one serial p.resources) (is_one serial p.reports)
 used_after serial draws p (DropVen n) fits =
     used_by serial p (portfolio_after (DropVen n) p) (λ v there. is_one serial p.vens v (from_removal (is_at (nat_cmp n)) p.vens v there)) (λ r there. is_one serial p.resources r (from_filter (λ (r : ℕ × Resource). not (r.1.ven == n)) p.resources r there).0)
@@ -79,6 +79,10 @@ module _ {first : ℕ} {had : List ℕ} {serial : ℕ} {p : Portfolio} (h : Have
     apart = λ s there one. elim (used s.0 one) [ inl old ↦ h.apart s (from s there) old | inr next ↦ absurd (let low = (h.drawn s (from s there)).up_to_the_serial in omega arith) ];
     owned = owned;
   }
+
+  -- all of them, when more numbers were drawn
+  pub later_subs : {next : ℕ} → serial ≤ next → HaveSubs first had next p
+  later_subs passed = some_subs p passed h.in_order (λ s there. there) (λ n used. inl used) h.owned
 
   -- since the subscriptions themselves
   pub subs_from_here : HaveSubs serial (keys_of p.subs) serial p
@@ -123,10 +127,6 @@ module _ {first : ℕ} {had : List ℕ} {serial : ℕ} {p : Portfolio} (h : Have
         let left = from_removal (is_at (nat_cmp n)) p.subs in
         some_subs (portfolio_after (DropSub n) p) (rises serial draws) (in_order_removed nat_cmp (is_at (nat_cmp n)) p.subs h.in_order) left (used_after serial draws p (DropSub n) fits) (λ s there. h.owned s (left s there))
     subs_after draws change fits = some_subs (portfolio_after change p) (rises serial draws) h.in_order (λ s there. there) (used_after serial draws p change fits) h.owned
-
-    -- all of them, when more numbers were drawn
-    pub later_subs : (draws : Bool) → HaveSubs first had (serial_then serial draws) p
-    later_subs draws = some_subs p (rises serial draws) h.in_order (λ s there. there) (λ n used. inl used) h.owned
 
 -- none are there
 pub no_subs : HaveSubs 0 [] 0 nobody

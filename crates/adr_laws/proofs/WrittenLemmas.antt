@@ -23,14 +23,14 @@ use Rattle.adr_view.proofs.RowLemmas.{from_put, from_removal, from_filter}
 use Rattle.adr_queries.specs.declared.answer.Answer.{Answer}
 use Rattle.adr_queries.specs.declared.answer.Answer.TheVariants as answer
 use Rattle.adr_queries.specs.declared.answer.Object.TheVariants as object
-use Rattle.adr_machine.specs.declared.command.Command.TheVariants.{Evidence, Gone, ScanBegin, ScanEnd, VenAdd, VenPut, VenRemove, ResourceAdd, ResourcePut, ResourceRemove, ShareSet, ReportPost, ReportPut, ReportDelete, SubPost, SubPut, SubDelete}
+use Rattle.adr_machine.specs.declared.command.Command.TheVariants.{Evidence, Gone, ScanBegin, ScanEnd, VenAdd, VenPut, VenRemove, ResourceAdd, ResourcePut, ResourceRemove, ShareSet, ReportPost, ReportPut, ReportDelete, SubPost, SubPut, SubDelete, Lease, Sent, Failed}
 use Rattle.adr_machine.specs.Edits.{Decision, draws_number}
 use Rattle.adr_queries.specs.Shown.{object_at, told}
 use Rattle.adr_machine.specs.Steps.{answered_by}
 use Rattle.adr_machine.specs.Steps.{changed as restamped_by}
 use Rattle.adr_laws.specs.Reported.{report_in, written_by, written_in, written, WritesOne, Writes, ReportsAreWrittenAsSent}
 use Rattle.adr_laws.specs.Standing.{state_of}
-use Rattle.adr_laws.proofs.Decisions.{FitsBase, puts_of, puts_in, IsKept, Comes, base_after, after_step}
+use Rattle.adr_laws.proofs.Decisions.{FitsBase, puts_of, puts_in, IsKept, Comes, base_after, next_by, rises_on, after_step, of_delivery}
 use Rattle.adr_laws.proofs.NumberLemmas.{serial_then, rises}
 
 -- after a put, the row of its number is the one that was put
@@ -141,7 +141,8 @@ kept_writes : {IsItsNumber : ℕ → Type 0} {sent : ReportIn} (s : State) (now 
 kept_writes s now d after a k is = record { number = k.number; says = k.report.body; is_that = kept_answer s now d after a k is; is_its_number = k.is_its_number; as_sent = k.as_sent }
 
 pub written_as_sent : ReportsAreWrittenAsSent
-written_as_sent settings s c = after_step settings s c (λ r. IfOk r (λ taken. Writes s.base c.1 (written_by c.1 taken.0))) (λ refusal. tt) (λ d a fits is. by_command d a c.1 fits.is is)
+written_as_sent settings s c = after_step settings s c (λ r. IfOk r (λ taken. Writes s.base c.1 (written_by c.1 taken.0))) (λ refusal. tt)
+    (λ a o is done. of_delivery (λ command. Writes s.base command (written_by command a)) refl (λ entry lease remote. refl) (λ entry lease forget. refl) c.1 is) (λ d a is. by_command d a c.1 is.fits.is is.answers)
   where
     by_command : (d : Decision) (a : Answer) (command : Command) → Comes (s.base.serial + 1) s.base command d → answered_by d.outcome s.stamps (restamped_by s c.0 (base_after s.base command d)) ≡ Ok a → Writes s.base command (written_by command a)
     by_command d a (Evidence founds polled) comes is = refl
@@ -161,10 +162,17 @@ written_as_sent settings s c = after_step settings s c (λ r. IfOk r (λ taken. 
     by_command d a (SubPost role sub) comes is = refl
     by_command d a (SubPut role id sub) comes is = refl
     by_command d a (SubDelete role id) comes is = refl
+    by_command d a Lease comes is = refl
+    by_command d a (Sent entry lease remote) comes is = refl
+    by_command d a (Failed entry lease forget) comes is = refl
 
 -- all that was written stands, each with its revision
 abbrev pub IsWritten : List (ℕ × ReportBody) → Base → Type 0
 IsWritten writes base = (revised : List (ℕ × (ℕ × ReportBody))) × AreWritten base.serial base.portfolio.reports revised × (values_of revised ≡ writes)
+
+-- still, when more numbers were drawn
+later_written : (writes : List (ℕ × ReportBody)) (base : Base) (next : ℕ) → base.serial ≤ next → IsWritten writes base → IsWritten writes (record base { serial = next })
+later_written writes base next passed h = (h.0, some_written h.1 base.portfolio.reports passed h.1.in_order (λ r there. there), h.2)
 
 -- reports that are left
 abbrev AreLeft : List (ℕ × Report) → List (ℕ × Report) → Type 0
@@ -228,10 +236,16 @@ module _ (writes : List (ℕ × ReportBody)) (s : State) (h : IsWritten writes s
   by_command (SubPost role sub) a comes fits is = nothing_written true comes.puts_none
   by_command (SubPut role id sub) a comes fits is = nothing_written false comes.puts_none
   by_command (SubDelete role id) a comes fits is = nothing_written false comes.puts_none
+  by_command Lease a comes fits is = nothing_written false comes.puts_none
+  by_command (Sent entry lease remote) a comes fits is = nothing_written false comes.puts_none
+  by_command (Failed entry lease forget) a comes fits is = nothing_written false comes.puts_none
 
 step_written : (settings : Settings) (writes : List (ℕ × ReportBody)) (s : State) (c : ℕ × Command) → IsWritten writes s.base → IsWritten (writes ++ written_in (step_at settings s c) c.1) (state_after s (step_at settings s c)).base
 step_written settings writes s c h =
-    after_step settings s c (λ r. IsWritten (writes ++ written_in r c.1) (state_after s r).base) (λ refusal. subst (λ ws. IsWritten ws s.base) (sym (append-nil writes)) h) (λ d a fits is. by_command writes s h c.0 d c.1 a fits.is fits.fits is)
+    let same : IsWritten (writes ++ []) s.base = subst (λ ws. IsWritten ws s.base) (sym (append-nil writes)) h in
+    after_step settings s c (λ r. IsWritten (writes ++ written_in r c.1) (state_after s r).base) (λ refusal. same)
+    (λ a o is done. of_delivery (λ command. IsWritten (writes ++ written_by command a) s.base) same (λ entry lease remote. same) (λ entry lease forget. same) c.1 is)
+    (λ d a is. later_written (writes ++ written_by c.1 a) (base_after s.base c.1 d) (next_by settings s c d).1 (rises_on settings s c d) (by_command writes s h c.0 d c.1 a is.fits.is is.fits.fits is.answers))
 
 run_written : (settings : Settings) (writes : List (ℕ × ReportBody)) (s : State) (cs : List (ℕ × Command)) → IsWritten writes s.base → IsWritten (writes ++ written settings s cs) (state_of (step_at settings) s cs).base
 run_written settings writes s [] h = subst (λ ws. IsWritten ws s.base) (sym (append-nil writes)) h

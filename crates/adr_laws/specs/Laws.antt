@@ -1,5 +1,5 @@
 -- Laws over whole runs.
-use Rattle.std.specs.Prelude.{◌≡◌, ◌≢◌, ◌≤◌, ℕ, true, false, List, [], ◌∷◌, ◌++◌, map, filter, Option, Some, IsSome, IfSome, Result, Ok, Err, IfOk, IsOk}
+use Rattle.std.specs.Prelude.{◌≡◌, ◌≢◌, ◌≤◌, ℕ, true, false, List, [], ◌∷◌, ◌++◌, map, filter, Option, Some, IsSome, IfSome, Result, Ok, Err, IfOk, IfErr}
 use Rattle.std.specs.List.{All, AllPairs, AllZip, Contains}
 use Rattle.std.specs.List.Sorted.{IsStrictlySortedBy, IsNonDecreasing}
 use Rattle.std.specs.Map.{keys_of, values_of}
@@ -36,7 +36,8 @@ use Rattle.adr_machine.specs.declared.command.Command.TheVariants.{Evidence, Gon
 use Rattle.adr_view.specs.declared.sight.Sight.{Sight}
 use Rattle.adr_machine.specs.Runs.{state_after, stands, step_at, IsRun}
 use Rattle.adr_machine.specs.Edits.{edit}
-use Rattle.adr_machine.specs.Steps.{committed}
+use Rattle.adr_machine.specs.declared.outcome.Outcome.{Outcome}
+use Rattle.adr_machine.specs.Steps.{outbox_then, committed}
 use Rattle.adr_queries.specs.declared.answer.Object.{Object}
 use Rattle.adr_queries.specs.Shown.{rows_in_sight, objects_in_sight, object_shown}
 use Rattle.adr_laws.specs.Enrolled.{enrolled}
@@ -188,14 +189,18 @@ StampsAreInTime = (settings : Settings) (cs : List (ℕ × Command)) → IsNonDe
 
 -- ---- what is accepted is answered
 
--- where what is shown is stamped and rows stand in order, a command whose edit is accepted is answered: a report that is told has its stamps
+-- the commit of an edit is refused by nothing but what the entries of it are refused by, want of numbers or of room: never by want of stamps
+abbrev pub IsAnsweredWhereTold : Settings → State → ℕ → Outcome × Base → Type 0
+IsAnsweredWhereTold settings s now e = IfErr (committed settings s now e.0 e.1) (λ refusal. outbox_then settings s now e.1 ≡ Err refusal)
+
+-- where what is shown is stamped and rows stand in order, a command whose edit is accepted is answered wherever there are numbers and room for what is told of it: a report that is told has its stamps
 abbrev pub ReportsAreAnswered : Type 0
-ReportsAreAnswered = (settings : Settings) (s : State) (c : ℕ × Command) → IsStampedAsShown s → StandsInOrder s.base → IfOk (edit settings.limits c.0 s.base c.1) (λ e. IsOk (committed s c.0 e.0 e.1))
+ReportsAreAnswered = (settings : Settings) (s : State) (c : ℕ × Command) → IsStampedAsShown s → StandsInOrder s.base → IfOk (edit settings.limits c.0 s.base c.1) (IsAnsweredWhereTold settings s c.0)
 
 -- so it is after any run from an empty start
 abbrev pub ReportsAreAnsweredAfterRuns : Type 0
 ReportsAreAnsweredAfterRuns = (settings : Settings) (cs : List (ℕ × Command)) (c : ℕ × Command) →
-    IfOk (edit settings.limits c.0 (state_of (step_at settings) empty cs).base c.1) (λ e. IsOk (committed (state_of (step_at settings) empty cs) c.0 e.0 e.1))
+    IfOk (edit settings.limits c.0 (state_of (step_at settings) empty cs).base c.1) (IsAnsweredWhereTold settings (state_of (step_at settings) empty cs) c.0)
 
 -- ---- programs and events in sight
 

@@ -5,3 +5,4 @@ pub mod Told
 pub mod Reported
 pub mod Laws
 pub mod Refusals
+pub mod Entries

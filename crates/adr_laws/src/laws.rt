@@ -1,6 +1,9 @@
 //! Laws over whole runs.
 ghost use Rattle.adr_laws.specs.Laws.{MirrorIsGreatest, PortfolioIsWhole, RowsStandInOrder, ParticipantsLackNone, ShownPartsSumUp, ShownPartsSumUpAfterRuns, OnlyLiveEventsAreShown, ObjectsLackNone, ShownIsTold, ReportsAreAnswered, ReportsAreAnsweredAfterRuns, NumbersAreOwn, RevisionsAreOwn, NumbersAreDrawnOnce, StampsAreOfTheView, StampsAreInTime, RunsAreOfTheStepsThatStand};
+ghost use Rattle.adr_laws.specs.Entries.{EntriesAreCounted, EntriesHaveNumbers, EntriesAreNumberedOnce, LeasedAreFirst, EntriesLeaveInOrder, OthersLeaveWithTheirSubscription};
 ghost use Rattle.adr_laws.specs.Reported.{ReportsAreWrittenAsSent, ReportsAreLastWritten, RemovedReportsAreGone, ReportsNeverReturn, LatestIsLastReported, RollupsAreOfTheLast};
+
+use adr_state::Limits;
 
 /// After any run from an empty start, the mirror at a key is the greatest mark in all accepted evidence
 /// for it, whatever was lost, repeated or reordered.
@@ -64,8 +67,9 @@ pub fn objects_lack_none()
     ensures one { ShownIsTold }
 {}
 
-/// Where what is shown is stamped and rows stand in order, a command whose edit is accepted is answered: no report
-/// that is kept or that goes is refused for want of stamps. So it is after any run from an empty start.
+/// Where what is shown is stamped and rows stand in order, a command whose edit is accepted is answered, wherever there
+/// are numbers and room for what is told of it: no report that is kept or that goes is refused for want of stamps.
+/// So it is after any run from an empty start.
 pub fn reports_are_answered()
     ensures state { ReportsAreAnswered }
     ensures run { ReportsAreAnsweredAfterRuns }
@@ -91,6 +95,31 @@ pub fn the_last_reported_counts()
 pub fn reports_never_return()
     ensures removed { RemovedReportsAreGone }
     ensures gone { ReportsNeverReturn }
+{}
+
+/// After any run of a node with these limits from an empty start, as many entries were made as were sent, given up and
+/// dropped, and wait; and no more were made than numbers were drawn, so no count has stopped short.
+pub fn entries_are_counted(limits: Limits)
+    ensures { EntriesAreCounted limits }
+{}
+
+/// After any run from an empty start, the entries that wait have numbers from 1 up to the serial, which rise, so no two
+/// have one, and which are of no ven, no resource, no report and no subscription; and whatever commands follow, no
+/// number that is drawn by then is that of an entry that was not there: so what a command makes has greater numbers
+/// than all that were drawn before it.
+pub fn entries_are_numbered_once()
+    ensures own { EntriesHaveNumbers }
+    ensures once { EntriesAreNumberedOnce }
+{}
+
+/// After any run from an empty start, an entry that has a lease, be it one that has ended, is the first that waits of
+/// its destination. So one that a command about entries takes away, which was sent or is given up, was the first of its
+/// destination: the entries of a destination leave in the order of their numbers. And where another command takes one
+/// away, the subscription that it goes to is not there then.
+pub fn entries_leave_in_order()
+    ensures leased { LeasedAreFirst }
+    ensures order { EntriesLeaveInOrder }
+    ensures others { OthersLeaveWithTheirSubscription }
 {}
 
 /// Of whatever a run over a desk answers, the answers that stand are the machine's over the commands that

@@ -1,3 +1,5 @@
 pub mod RunLemmas
 pub mod Listed
 mod Outcomes
+mod Delivered
+mod Quiet

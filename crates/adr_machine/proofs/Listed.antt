@@ -5,7 +5,7 @@ use Rattle.std.proofs.lemmas.Bool.{cond_both}
 use Rattle.std.proofs.lemmas.Result.{IfErr-weaker}
 use Rattle.adr_text.specs.Refusals.{◌>>=◌}
 use Rattle.adr_text.specs.declared.refusal.Refusal.{Refusal}
-use Rattle.adr_text.specs.declared.refusal.Refusal.TheVariants.{Exhausted, NotFound, Conflict, Forbidden, BadShare, LimitReached, ResourceNotOfEvent, NoScan, BadShape}
+use Rattle.adr_text.specs.declared.refusal.Refusal.TheVariants.{OutboxFull, Exhausted, NotFound, Conflict, Forbidden, BadShare, LimitReached, ResourceNotOfEvent, NoScan, BadShape}
 use Rattle.adr_state.specs.declared.base.Base.{Base}
 use Rattle.adr_state.specs.declared.state.State.{State}
 use Rattle.adr_state.specs.declared.limits.Limits.{Limits}
@@ -31,19 +31,23 @@ use Rattle.adr_queries.specs.declared.answer.Answer.{Answer}
 use Rattle.adr_queries.specs.declared.answer.Answer.TheVariants as answer
 use Rattle.adr_queries.specs.declared.answer.Object.{Object}
 use Rattle.adr_machine.specs.declared.command.Command.{Command}
-use Rattle.adr_machine.specs.declared.command.Command.TheVariants.{Evidence, Gone, ScanBegin, ScanEnd, VenAdd, VenPut, VenRemove, ResourceAdd, ResourcePut, ResourceRemove, ShareSet, ReportPost, ReportPut, ReportDelete, SubPost, SubPut, SubDelete}
+use Rattle.adr_machine.specs.declared.command.Command.TheVariants.{Evidence, Gone, ScanBegin, ScanEnd, VenAdd, VenPut, VenRemove, ResourceAdd, ResourcePut, ResourceRemove, ShareSet, ReportPost, ReportPut, ReportDelete, SubPost, SubPut, SubDelete, Lease, Sent, Failed}
 use Rattle.adr_machine.specs.declared.outcome.Outcome.{Outcome}
 use Rattle.adr_machine.specs.declared.outcome.Outcome.TheVariants as outcome
 use Rattle.adr_queries.specs.declared.role.Role.{Role}
 use Rattle.adr_queries.specs.Roles.{sight_of}
-use Rattle.adr_machine.specs.Edits.{Decision, is_allowed, draws_number, counted, answered, of_portfolio, ven_outcome, resource_outcome, share_outcome, sub_outcome, post_decided, put_decided, delete_decided, sub_post_decided, sub_put_decided, sub_delete_decided, decided, edit_of, edit}
+use Rattle.adr_machine.specs.Edits.{Decision, is_allowed, draws_number, counted, answered, of_portfolio, ven_outcome, resource_outcome, share_outcome, sub_outcome, post_decided, put_decided, delete_decided, sub_post_decided, sub_put_decided, sub_delete_decided, is_delivery, is_quiet, decided, edit_of, edit}
 use Rattle.adr_queries.specs.Listed.{is_of_machine, IsListed}
 use Rattle.adr_machine.specs.Listed.{listed}
 use Rattle.adr_queries.specs.Shown.{object_at, told}
 use Rattle.adr_view.specs.declared.view.Content.TheVariants as content
 use Rattle.adr_view.specs.Reports.{reported, fits, report_on, report_with_id, may_report, may_change, report_post, report_put, report_delete}
 use Rattle.adr_machine.specs.Runs.{AreListed}
-use Rattle.adr_machine.specs.Steps.{answered_by, changed, committed, step}
+use Rattle.adr_machine.specs.Steps.{answered_by, changed, outbox_then, committed, delivery_step, edit_step, step}
+use Rattle.adr_machine.specs.Deliveries.{delivered}
+use Rattle.adr_machine.proofs.Delivered.{delivered_listed}
+use Rattle.adr_machine.proofs.Quiet.{IsQuiet, scan_is_quiet, put_is_quiet, drop_is_quiet, room_so, quiet_so}
+use Rattle.adr_view.specs.Views.{view}
 use Rattle.adr_subscription.specs.declared.subscription.SubIn.{SubIn}
 use Rattle.adr_subscription.specs.Callbacks.{settled}
 use Rattle.adr_subscription.proofs.Unsettled.{settled_refused}
@@ -155,6 +159,9 @@ decided_listed limits now n base (ReportDelete role id) = delete_so (Contains (l
 decided_listed limits now n base (SubPost role sub) = sub_post_so (Contains (listed (SubPost role sub))) base (1, omega arith, refl) (0, omega arith, refl) limits now n role sub (2, omega arith, refl)
 decided_listed limits now n base (SubPut role id sub) = sub_put_so (Contains (listed (SubPut role id sub))) base (1, omega arith, refl) (0, omega arith, refl) now role id sub (2, omega arith, refl)
 decided_listed limits now n base (SubDelete role id) = sub_delete_so (Contains (listed (SubDelete role id))) base (0, omega arith, refl) role id (1, omega arith, refl)
+decided_listed limits now n base Lease = never _ _
+decided_listed limits now n base (Sent entry lease remote) = never _ _
+decided_listed limits now n base (Failed entry lease forget) = never _ _
 
 exhausted_listed : (c : Command) → draws_number c ≡ true → Contains (listed c) Exhausted
 exhausted_listed (VenAdd role ven) draws = (3, omega arith, refl)
@@ -175,6 +182,9 @@ forbidden_listed (ReportDelete role id) is = absurd (let yes : true ≡ false = 
 forbidden_listed (SubPost role sub) is = absurd (let yes : true ≡ false = is in cc)
 forbidden_listed (SubPut role id sub) is = absurd (let yes : true ≡ false = is in cc)
 forbidden_listed (SubDelete role id) is = absurd (let yes : true ≡ false = is in cc)
+forbidden_listed Lease is = absurd (let yes : true ≡ false = is in cc)
+forbidden_listed (Sent entry lease remote) is = absurd (let yes : true ≡ false = is in cc)
+forbidden_listed (Failed entry lease forget) is = absurd (let yes : true ≡ false = is in cc)
 forbidden_listed c is = (0, omega arith, refl)
 
 drawn_so : (P : Refusal → Type 0) (limits : Limits) (serial : ℕ) (draws : Bool) → (draws ≡ true → P Exhausted) → Refuses P (drawn limits serial draws)
@@ -253,6 +263,9 @@ decided_answered limits now n base (SubDelete role id) =
     let Q = λ (d : Decision). IsAnswered (SubDelete role id) d.outcome in
     made_with Q (λ x. Unit {0}) (sight_of base role) _ (any (λ x. Unit {0}) (sight_of base role) (λ x. tt))
     (λ sight u. made Q (sub_delete sight id base.portfolio) (λ d. record { outcome = sub_outcome d.0; change = ChangePortfolio d.1 }) (λ d before after. never (Contains (listed (SubDelete role id))) _))
+decided_answered limits now n base Lease = λ before after. never _ _
+decided_answered limits now n base (Sent entry lease remote) = λ before after. never _ _
+decided_answered limits now n base (Failed entry lease forget) = λ before after. never _ _
 
 edit_answered : (limits : Limits) (now : ℕ) (base : Base) (c : Command) → IfOk (edit limits now base c) (λ e. IsAnswered c e.0)
 unfolding edit
@@ -267,14 +280,91 @@ drawn_listed limits serial c = (drawn_so _ limits serial (draws_number c) (exhau
 pub edit_listed : (limits : Limits) (now : ℕ) (base : Base) (c : Command) → IfErr (edit limits now base c) (Contains (listed c))
 edit_listed limits now base c = (edit_so limits now base c).so
 
+-- ---- what is told
+
+abbrev Stays : Decision → Type 0
+Stays d = IsQuiet d.change
+
+-- what it makes of the base is shown as before
+abbrev ShowsAs : Base → Result (Outcome × Base) Refusal → Type 0
+ShowsAs base r = IfOk r (λ e. view e.1 ≡ view base)
+
+-- a quiet command leaves all that is shown
+pub edit_of_quiet : (limits : Limits) (now : ℕ) (base : Base) (c : Command) → is_quiet c ≡ true → ShowsAs base (edit_of limits now base c)
+edit_of_quiet limits now base c is = by c is
+  where
+    drawn_so : (c : Command) → IfOk (decided limits now (base.serial + 1) base c) Stays → ShowsAs base (edit_of limits now base c)
+    drawn_so c quiet = made_with (λ e. view e.1 ≡ view base) Stays (decided limits now (base.serial + 1) base c) _ quiet (λ d is. made (λ e. view e.1 ≡ view base) (drawn limits base.serial (draws_number c)) _ (λ serial. is base serial))
+
+    unseen : {B : Type 0} (r : Result B Refusal) (f : B → Result Decision Refusal) → ((x : B) → IfOk (f x) Stays) → IfOk (r >>= f) Stays
+    unseen r f h = made_with Stays (λ x. Unit {0}) r f (any (λ x. Unit {0}) r (λ x. tt)) (λ x u. h x)
+
+    by : (c : Command) → is_quiet c ≡ true → ShowsAs base (edit_of limits now base c)
+    by ScanBegin is = drawn_so ScanBegin (scan_is_quiet _)
+    by ScanEnd is = drawn_so ScanEnd (made_with Stays (λ d. IsQuiet d.1) (scan_end base) _ (made (λ d. IsQuiet d.1) (open_scan base.scan) _ (λ polled. scan_is_quiet None)) (λ d is. is))
+    by (SubPost role sub) is =
+        drawn_so (SubPost role sub) (unseen (settled sub) _ (λ body. unseen (sight_of base role) _ (λ sight.
+        cond_both (is_full limits.subs base.portfolio.subs) (Err LimitReached) (Ok _) (λ r. IfOk (of_portfolio sub_outcome r) Stays) (λ full. tt) (λ room. put_is_quiet _ _))))
+    by (SubPut role id sub) is =
+        drawn_so (SubPut role id sub) (unseen (settled sub) _ (λ body. unseen (sight_of base role) _ (λ sight.
+        made_with Stays (λ d. IsQuiet (ChangePortfolio d.1)) (sub_put sight now id body base.portfolio) _ (made (λ d. IsQuiet (ChangePortfolio d.1)) (sub_in_sight sight id base.portfolio) _ (λ old. put_is_quiet _ _)) (λ d is. is))))
+    by (SubDelete role id) is =
+        drawn_so (SubDelete role id) (unseen (sight_of base role) _ (λ sight.
+        made_with Stays (λ d. IsQuiet (ChangePortfolio d.1)) (sub_delete sight id base.portfolio) _ (made (λ d. IsQuiet (ChangePortfolio d.1)) (sub_in_sight sight id base.portfolio) _ (λ old. drop_is_quiet _)) (λ d is. is)))
+    by Lease is = drawn_so Lease (scan_is_quiet _)
+    by (Sent entry lease remote) is = drawn_so (Sent entry lease remote) (scan_is_quiet _)
+    by (Failed entry lease forget) is = drawn_so (Failed entry lease forget) (scan_is_quiet _)
+    by c is = absurd (let no : false ≡ true = is in cc)
+
+-- so does its edit, where who gives it may not too
+edit_quiet : (limits : Limits) (now : ℕ) (base : Base) (c : Command) → is_quiet c ≡ true → ShowsAs base (edit limits now base c)
+unfolding edit
+edit_quiet limits now base c is =
+    cond_both (is_allowed c) (edit_of limits now base c) (Err Forbidden) (ShowsAs base) (λ allowed. edit_of_quiet limits now base c is) (λ other. tt)
+
+-- what may be told of is refused for want of numbers or of room
+pub room_listed : (c : Command) → is_quiet c ≡ false → Contains (listed c) Exhausted × Contains (listed c) OutboxFull
+room_listed (Evidence founds polled) is = ((1, omega arith, refl), (2, omega arith, refl))
+room_listed (Gone kind id) is = ((1, omega arith, refl), (2, omega arith, refl))
+room_listed (VenAdd role ven) is = ((3, omega arith, refl), (4, omega arith, refl))
+room_listed (VenPut role id ven) is = ((3, omega arith, refl), (4, omega arith, refl))
+room_listed (VenRemove role id) is = ((2, omega arith, refl), (3, omega arith, refl))
+room_listed (ResourceAdd role ven resource) is = ((4, omega arith, refl), (5, omega arith, refl))
+room_listed (ResourcePut role ven id resource) is = ((3, omega arith, refl), (4, omega arith, refl))
+room_listed (ResourceRemove role ven id) is = ((2, omega arith, refl), (3, omega arith, refl))
+room_listed (ShareSet role program resource share) is = ((4, omega arith, refl), (5, omega arith, refl))
+room_listed (ReportPost role report) is = ((4, omega arith, refl), (5, omega arith, refl))
+room_listed (ReportPut role id report) is = ((3, omega arith, refl), (4, omega arith, refl))
+room_listed (ReportDelete role id) is = ((2, omega arith, refl), (3, omega arith, refl))
+room_listed c is = absurd (let yes : true ≡ false = is in cc)
+
+-- what is told of it finds numbers and room, or is refused as is listed
+then_so : (settings : Settings) (s : State) (now : ℕ) (c : Command) (e : Outcome × Base) → edit settings.limits now s.base c ≡ Ok e → Refuses (Contains (listed c)) (outbox_then settings s now e.1)
+then_so settings s now c e is = by (is_quiet c) refl
+  where
+    by : (quiet : Bool) → is_quiet c ≡ quiet → Refuses (Contains (listed c)) (outbox_then settings s now e.1)
+    by true quiet = quiet_so (Contains (listed c)) settings s now e.1 (subst (ShowsAs s.base) is (edit_quiet settings.limits now s.base c quiet))
+    by false other = let room = room_listed c other in room_so _ settings s now e.1 room.0 room.1
+
+-- ---- steps
+
+then_found : {A B : Type 0} (P : Refusal → Type 0) (r : Result B Refusal) (f : B → Result A Refusal) → Refuses P r → ((x : B) → r ≡ Ok x → Refuses P (f x)) → Refuses P (r >>= f)
+then_found P (Ok x) f first others = others x refl
+then_found P (Err e) f first others = record { so = first.so }
+
 -- the commit of what an edit makes
-pub committed_listed : (limits : Limits) (s : State) (now : ℕ) (base after : Base) (c : Command) (comes : Outcome) → edit limits now base c ≡ Ok (comes, after) → IfErr (committed s now comes after) (Contains (listed c))
-committed_listed limits s now base after c comes is =
-    (first_then _ (answered_by comes s.stamps (changed s now after)) _ (subst (λ r. IfOk r (λ e. IsAnswered c e.0)) is (edit_answered limits now base c) s.stamps (changed s now after)) (λ a. never (Contains (listed c)) _)).so
+committed_so : (settings : Settings) (s : State) (now : ℕ) (c : Command) (e : Outcome × Base) → edit settings.limits now s.base c ≡ Ok e → Refuses (Contains (listed c)) (committed settings s now e.0 e.1)
+committed_so settings s now c e is =
+    let P = Contains (listed c) in
+    first_then P (outbox_then settings s now e.1) _ (then_so settings s now c e is)
+    (λ next. first_then P (answered_by e.0 s.stamps (changed s now e.1)) _ (subst (λ (r : Result (Outcome × Base) Refusal). IfOk r (λ e. IsAnswered c e.0)) is (edit_answered settings.limits now s.base c) s.stamps (changed s now e.1)) (λ a. never P _))
 
 pub step_listed : (settings : Settings) (s : State) (now : ℕ) (c : Command) → IfErr (step settings s now c) (Contains (listed c))
 step_listed settings s now c =
-    (then_with (Contains (listed c)) (λ e. IsAnswered c e.0) (edit settings.limits now s.base c) _ (edit_so settings.limits now s.base c) (edit_answered settings.limits now s.base c) (λ e is. first_then _ _ _ (is s.stamps (changed s now e.1)) (λ a. never _ _))).so
+    let P = Contains (listed c) in
+    cond_both (is_delivery c) (delivery_step settings s now c) (edit_step settings s now c) (λ r. IfErr r P)
+    (λ is. (first_then P (delivered settings.limits now s.outbox c) _ (delivered_listed settings.limits now s.outbox c is) (λ d. never P _)).so)
+    (λ other. (then_found P (edit settings.limits now s.base c) _ (edit_so settings.limits now s.base c) (committed_so settings s now c)).so)
 
 -- ---- what is listed
 
@@ -296,6 +386,9 @@ listed_of_machine (ReportDelete role id) = refl
 listed_of_machine (SubPost role sub) = refl
 listed_of_machine (SubPut role id sub) = refl
 listed_of_machine (SubDelete role id) = refl
+listed_of_machine Lease = refl
+listed_of_machine (Sent entry lease remote) = refl
+listed_of_machine (Failed entry lease forget) = refl
 
 -- ---- runs
 

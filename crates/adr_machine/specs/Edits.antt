@@ -6,7 +6,7 @@ use Rattle.adr_text.specs.declared.refusal.Refusal.{Refusal}
 use Rattle.adr_text.specs.declared.refusal.Refusal.TheVariants.{Forbidden}
 use Rattle.adr_state.specs.declared.base.Base.{Base}
 use Rattle.adr_state.specs.declared.limits.Limits.{Limits}
-use Rattle.adr_state.specs.BaseChanges.{BaseChange, ChangePortfolio, changed}
+use Rattle.adr_state.specs.BaseChanges.{BaseChange, SetScan, ChangePortfolio, changed}
 use Rattle.adr_state.specs.Portfolios.{PortfolioChange}
 use Rattle.adr_state.specs.Serials.{drawn}
 use Rattle.adr_state.specs.declared.portfolio.Report.{Report}
@@ -27,7 +27,7 @@ use Rattle.adr_view.specs.Subs.{sub_put, sub_delete}
 use Rattle.adr_view.specs.Reports.{report_post, report_put, report_delete}
 use Rattle.adr_queries.specs.declared.role.Role.{Role}
 use Rattle.adr_machine.specs.declared.command.Command.{Command}
-use Rattle.adr_machine.specs.declared.command.Command.TheVariants.{Evidence, Gone, ScanBegin, ScanEnd, VenAdd, VenPut, VenRemove, ResourceAdd, ResourcePut, ResourceRemove, ShareSet, ReportPost, ReportPut, ReportDelete, SubPost, SubPut, SubDelete}
+use Rattle.adr_machine.specs.declared.command.Command.TheVariants.{Evidence, Gone, ScanBegin, ScanEnd, VenAdd, VenPut, VenRemove, ResourceAdd, ResourcePut, ResourceRemove, ShareSet, ReportPost, ReportPut, ReportDelete, SubPost, SubPut, SubDelete, Lease, Sent, Failed}
 use Rattle.adr_queries.specs.declared.answer.Object.TheVariants as object
 use Rattle.adr_queries.specs.declared.answer.Answer.{Answer}
 use Rattle.adr_queries.specs.declared.answer.Answer.TheVariants as answer
@@ -61,6 +61,25 @@ draws_number (ReportPost role report) = true
 draws_number (ReportPut role id report) = true
 draws_number (SubPost role sub) = true
 draws_number _ = false
+
+-- whether it is about an entry of the outbox, and leaves all else
+abbrev pub is_delivery : Command → Bool
+is_delivery Lease = true
+is_delivery (Sent entry lease remote) = true
+is_delivery (Failed entry lease forget) = true
+is_delivery _ = false
+
+-- whether it leaves all that is shown, whatever is decided: so nothing is told of it
+abbrev pub is_quiet : Command → Bool
+is_quiet ScanBegin = true
+is_quiet ScanEnd = true
+is_quiet (SubPost role sub) = true
+is_quiet (SubPut role id sub) = true
+is_quiet (SubDelete role id) = true
+is_quiet Lease = true
+is_quiet (Sent entry lease remote) = true
+is_quiet (Failed entry lease forget) = true
+is_quiet _ = false
 
 -- what comes of it, and the change of the base
 pub record Decision : Type 0 where
@@ -136,6 +155,8 @@ decided limits now n base (ReportDelete role id) = delete_decided role id base
 decided limits now n base (SubPost role sub) = sub_post_decided limits now n role sub base
 decided limits now n base (SubPut role id sub) = sub_put_decided now role id sub base
 decided limits now n base (SubDelete role id) = sub_delete_decided role id base
+-- what is about an entry leaves the base
+decided limits now n base _ = Ok (answered answer.Done (SetScan base.scan))
 
 -- what is told of what was carried out
 abbrev pub told_by : {A B : Type 0} → (A → B) → Result A Refusal → Result B Refusal

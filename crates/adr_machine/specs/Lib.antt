@@ -1,4 +1,5 @@
 pub mod Edits
+pub mod Deliveries
 pub mod Listed
 pub mod Steps
 pub mod Runs

@@ -2,7 +2,7 @@
 ghost use Rattle.std.specs.Prelude.{◌≡◌};
 ghost use Rattle.std.specs.Option.{option_copied};
 
-use adr_objects::{Found, Kind, ReportIn, ResourceIn, ShareIn, VenIn};
+use adr_objects::{Found, Kind, Number, ReportIn, ResourceIn, ShareIn, VenIn};
 use adr_queries::{Role, is_operator};
 use adr_subscription::SubIn;
 use adr_text::{ObjectId, Rows};
@@ -113,6 +113,21 @@ pub enum Command {
         role: Role,
         id: ObjectId,
     },
+    /// Leases the next entry of the outbox, where one may leave. Refused where it had as many leases as there may be.
+    Lease,
+    /// The entry was sent under that lease; the utility gave it an id, if it did. Refused where the lease is lost.
+    Sent {
+        entry: Number,
+        lease: u64,
+        remote: Option<ObjectId>,
+    },
+    /// The entry failed under that lease; the utility's id of it is to be forgotten, if it is. Refused where the lease
+    /// is lost.
+    Failed {
+        entry: Number,
+        lease: u64,
+        forget: bool,
+    },
 }
 
 impl Drop for Command {
@@ -168,12 +183,23 @@ impl Drop for Command {
                 sub: _,
             } => (),
             Command::SubDelete { role: _, id: _ } => (),
+            Command::Lease => (),
+            Command::Sent {
+                entry: _,
+                lease: _,
+                remote: _,
+            } => (),
+            Command::Failed {
+                entry: _,
+                lease: _,
+                forget: _,
+            } => (),
         }
     }
 }
 
 impl Command {
-    ghost use Rattle.adr_machine.specs.Edits.{giver_of, is_allowed, draws_number};
+    ghost use Rattle.adr_machine.specs.Edits.{giver_of, is_allowed, draws_number, is_delivery, is_quiet};
 
     /// Who gives it, where the operator alone may.
     fn giver(&self) -> Option<&Role>
@@ -189,7 +215,10 @@ impl Command {
             | Command::ReportDelete { .. }
             | Command::SubPost { .. }
             | Command::SubPut { .. }
-            | Command::SubDelete { .. } => None,
+            | Command::SubDelete { .. }
+            | Command::Lease
+            | Command::Sent { .. }
+            | Command::Failed { .. } => None,
             Command::VenAdd { role, .. }
             | Command::VenPut { role, .. }
             | Command::VenRemove { role, .. }
@@ -221,6 +250,33 @@ impl Command {
                 | Command::ReportPost { .. }
                 | Command::ReportPut { .. }
                 | Command::SubPost { .. }
+        )
+    }
+
+    /// Whether it is about an entry of the outbox, and leaves all else.
+    pub fn is_delivery(&self) -> bool
+        ensures { result ≡ is_delivery self.now }
+    {
+        matches!(
+            self,
+            Command::Lease | Command::Sent { .. } | Command::Failed { .. }
+        )
+    }
+
+    /// Whether it leaves all that is shown, whatever is decided: so nothing is told of it.
+    pub fn is_quiet(&self) -> bool
+        ensures { result ≡ is_quiet self.now }
+    {
+        matches!(
+            self,
+            Command::ScanBegin
+                | Command::ScanEnd
+                | Command::SubPost { .. }
+                | Command::SubPut { .. }
+                | Command::SubDelete { .. }
+                | Command::Lease
+                | Command::Sent { .. }
+                | Command::Failed { .. }
         )
     }
 }

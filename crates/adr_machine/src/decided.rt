@@ -144,5 +144,8 @@ pub(crate) fn carry_out(
         Command::SubPost { role, sub } => subscribed(alloc, limits, now, number, base, role, sub),
         Command::SubPut { role, id, sub } => resubscribed(alloc, now, base, role, id, sub),
         Command::SubDelete { role, id } => unsubscribed(base, role, id),
+        Command::Lease | Command::Sent { .. } | Command::Failed { .. } => {
+            Ok(Outcome::Told(Answer::Done))
+        }
     }
 }

@@ -4,6 +4,7 @@
 mod command;
 mod commit;
 mod decided;
+mod deliver;
 mod desk;
 mod edit;
 mod outcome;

@@ -13,7 +13,9 @@ use Rattle.adr_delivery.specs.Outboxes.{entry_leased, with_delivery, with_entry,
 use Rattle.adr_delivery.specs.Tallies.{plus}
 use Rattle.adr_db.specs.declared.meta.Meta.{Meta}
 use Rattle.adr_db.specs.Kept.{Kept, Keeps, with_waiting, without_waiting}
-use Rattle.adr_outbox.specs.Turned.{outbox_of, with_outbox, counting, IsTurned}
+use Rattle.adr_db.specs.Bases.{counting}
+use Rattle.adr_db.specs.Images.{outbox_of}
+use Rattle.adr_outbox.specs.Turned.{with_outbox, IsTurned}
 use Rattle.adr_outbox.specs.Told.{done}
 use Rattle.adr_outbox.specs.Settled.{after_failed, given_up, counted_failed}
 use Rattle.adr_outbox.proofs.Waiting.{as_many, one_less, leased_there}

@@ -17,7 +17,8 @@ use Rattle.adr_delivery.specs.Next.{next_entry}
 use Rattle.adr_delivery.specs.Outboxes.{with_delivery, with_entry, leased_at, lease_next, remote_for}
 use Rattle.adr_db.specs.declared.meta.Meta.{Meta}
 use Rattle.adr_db.specs.Kept.{Kept, Keeps, with_waiting}
-use Rattle.adr_outbox.specs.Turned.{outbox_of, IsTurned}
+use Rattle.adr_db.specs.Images.{outbox_of}
+use Rattle.adr_outbox.specs.Turned.{IsTurned}
 use Rattle.adr_outbox.specs.Told.{job_leased}
 use Rattle.adr_outbox.proofs.Waiting.{next_at, as_many}
 

@@ -2,3 +2,4 @@ mod Waiting
 mod Failing
 mod Leases
 mod Further
+mod Lost

@@ -12,7 +12,9 @@ use Rattle.adr_state.specs.declared.limits.Limits.{Limits}
 use Rattle.adr_notices.specs.Committed.{with_further}
 use Rattle.adr_db.specs.declared.meta.Meta.{Meta}
 use Rattle.adr_db.specs.Kept.{Kept, Keeps}
-use Rattle.adr_outbox.specs.Turned.{outbox_of, with_outbox, counting}
+use Rattle.adr_db.specs.Bases.{counting}
+use Rattle.adr_db.specs.Images.{outbox_of}
+use Rattle.adr_outbox.specs.Turned.{with_outbox}
 
 -- where there are numbers and room for all of them, each is appended at the number that is drawn next; with the serial then
 abbrev pub further : Limits → ℕ → List Entry → Outbox → Result (Outbox × ℕ) Refusal

@@ -11,7 +11,7 @@ use Rattle.adr_delivery.specs.Jobs.{job_for}
 use Rattle.adr_delivery.specs.Outboxes.{with_delivery, remote_for}
 use Rattle.adr_db.specs.declared.meta.Meta.{Meta}
 use Rattle.adr_db.specs.Kept.{Kept, Keeps, with_waiting}
-use Rattle.adr_outbox.specs.Turned.{outbox_of}
+use Rattle.adr_db.specs.Images.{outbox_of}
 
 -- the entry at a number waits with one lease more, and the job is what is to be sent of it
 pub record IsLeased (most now n : ℕ) (e : Entry) (kept : Kept) (job : Job) (s : State) : Type 0 where

@@ -3,3 +3,4 @@ pub mod Appended
 pub mod Told
 pub mod Leased
 pub mod Settled
+pub mod Dropped

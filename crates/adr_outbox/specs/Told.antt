@@ -8,7 +8,7 @@ use Rattle.adr_delivery.specs.declared.outbox.Outbox.{Outbox}
 use Rattle.adr_delivery.specs.Jobs.{job_of}
 use Rattle.adr_delivery.specs.Outboxes.{lease_next, counts_of}
 use Rattle.adr_db.specs.Kept.{Kept}
-use Rattle.adr_outbox.specs.Turned.{outbox_of}
+use Rattle.adr_db.specs.Images.{outbox_of}
 
 -- the next entry is leased, and told as what is to be sent of it
 abbrev pub job_leased : ℕ → ℕ → Outbox → Result (Option Job × Outbox) Refusal

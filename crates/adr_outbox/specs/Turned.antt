@@ -8,18 +8,12 @@ use Rattle.adr_text.specs.Refusals.{IsRefusalOf}
 use Rattle.adr_delivery.specs.declared.outbox.Outbox.{Outbox}
 use Rattle.adr_db.specs.declared.meta.Meta.{Meta}
 use Rattle.adr_db.specs.Kept.{Kept, Keeps}
-
--- the entries and the ids that the tables keep, with the counts of the numbers
-abbrev pub outbox_of : Meta → Kept → Outbox
-outbox_of numbers kept = record { entries = kept.entries; remotes = kept.remotes; counts = numbers.counts }
+use Rattle.adr_db.specs.Bases.{counting}
+use Rattle.adr_db.specs.Images.{outbox_of}
 
 -- what is kept with the entries and the ids of an outbox
 abbrev pub with_outbox : Outbox → Kept → Kept
 with_outbox o kept = record kept { entries = o.entries; remotes = o.remotes }
-
--- numbers with the counts of an outbox, which say how many of its entries wait
-abbrev pub counting : Outbox → Meta → Meta
-counting o numbers = record numbers { counts = o.counts; pending = length o.entries }
 
 -- what is decided of the outbox is an answer, and the outbox after it; the tables keep that, and the numbers count it
 pub record IsTurned {T : Type 0} (decide : Outbox → Result (T × Outbox) Refusal) (before after : Meta) (kept : Kept) (x : T) (s : State) : Type 0 where

@@ -7,8 +7,9 @@ ghost use Rattle.adr_delivery.specs.Deliveries.{leased};
 ghost use Rattle.adr_delivery.specs.Outboxes.{remote_for};
 ghost use Rattle.adr_sql.specs.Calls.{Stays};
 ghost use Rattle.adr_db.specs.declared.meta.Meta.{Meta as MetaOf};
+ghost use Rattle.adr_db.specs.Images.{outbox_of};
 ghost use Rattle.adr_db.specs.Calls.{Finds, IsOfStore};
-ghost use Rattle.adr_outbox.specs.Turned.{outbox_of, TurnsOutbox, RefusesOutbox};
+ghost use Rattle.adr_outbox.specs.Turned.{TurnsOutbox, RefusesOutbox};
 ghost use Rattle.adr_outbox.specs.Told.{job_leased};
 ghost use Rattle.adr_outbox.specs.Leased.{LeasesEntry};
 

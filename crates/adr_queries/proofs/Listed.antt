@@ -97,6 +97,7 @@ reply_so s (query.Report role id) = first_then _ _ _ (sight_so _ s.base (0, omeg
 reply_so s (query.Rollup role event) = either _ (is_operator role) _ _ (rollup_so (1, omega arith, refl) event (rollup_at s.base.mirror s.base.portfolio event)) (record { so = (0, omega arith, refl) })
 reply_so s (query.Subs role filter page) = first_then _ _ _ (sight_so _ s.base (0, omega arith, refl) role) (λ sight. never _ _)
 reply_so s (query.Sub role id) = first_then _ _ _ (sight_so _ s.base (0, omega arith, refl) role) (λ sight. first_then _ _ _ (sub_so _ s.base (0, omega arith, refl) (1, omega arith, refl) sight id) (λ sub. never _ _))
+reply_so s (query.Outbox role) = shown _ s.base (0, omega arith, refl) _ _
 reply_so s (query.Probes limit) = scan_told limit s.base s.base.scan
 
 pub reply_listed : (s : State) (q : Query) → IfErr (reply s q) (Contains (listed_for q))
@@ -119,6 +120,7 @@ listed_for_of_machine (query.Report role id) = refl
 listed_for_of_machine (query.Rollup role event) = refl
 listed_for_of_machine (query.Subs role filter page) = refl
 listed_for_of_machine (query.Sub role id) = refl
+listed_for_of_machine (query.Outbox role) = refl
 listed_for_of_machine (query.Probes limit) = refl
 
 -- ---- desks

@@ -22,6 +22,7 @@ listed_for (query.Report role id) = Forbidden ∷ NotFound ∷ []
 listed_for (query.Rollup role event) = Forbidden ∷ NotFound ∷ []
 listed_for (query.Subs role filter page) = Forbidden ∷ []
 listed_for (query.Sub role id) = Forbidden ∷ NotFound ∷ []
+listed_for (query.Outbox role) = Forbidden ∷ []
 listed_for (query.Probes limit) = NoScan ∷ []
 
 -- whether a refusal is the machine's: want of memory and the store's stand only in place of its answer, and it keeps no trail and takes no pass

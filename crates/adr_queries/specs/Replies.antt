@@ -7,11 +7,11 @@ use Rattle.adr_state.specs.declared.state.State.{State}
 use Rattle.adr_state.specs.declared.keys.MirrorKey.{MirrorKey}
 use Rattle.adr_state.specs.Scans.{probes}
 use Rattle.adr_queries.specs.declared.query.Query.{Query}
-use Rattle.adr_queries.specs.declared.query.Query.TheVariants.{Programs, Program, Events, Event, Vens, Ven, Resources, Resource, Shares, Reports, Report, Rollup, Subs, Sub, Probes}
+use Rattle.adr_queries.specs.declared.query.Query.TheVariants.{Programs, Program, Events, Event, Vens, Ven, Resources, Resource, Shares, Reports, Report, Rollup, Subs, Sub, Outbox, Probes}
 use Rattle.adr_queries.specs.declared.answer.Answer.{Answer}
 use Rattle.adr_queries.specs.declared.answer.Answer.TheVariants as answer
 use Rattle.adr_queries.specs.Reported.{reports_reply, report_reply, rollup_reply}
-use Rattle.adr_queries.specs.Subscribed.{subs_reply, sub_reply}
+use Rattle.adr_queries.specs.Subscribed.{subs_reply, sub_reply, outbox_reply}
 use Rattle.adr_queries.specs.Shown.{programs_reply, program_reply, events_reply, event_reply}
 use Rattle.adr_queries.specs.Listings.{vens_reply, ven_reply, resources_reply, resource_reply, shares_reply}
 
@@ -36,4 +36,5 @@ reply s (Report role id) = report_reply s role id
 reply s (Rollup role event) = rollup_reply s.base role event
 reply s (Subs role filter page) = subs_reply s.base role filter page
 reply s (Sub role id) = sub_reply s.base role id
+reply s (Outbox role) = outbox_reply s.outbox role
 reply s (Probes limit) = probes_reply limit s.base s.base.scan

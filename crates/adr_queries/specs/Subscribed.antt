@@ -1,7 +1,10 @@
--- What a role is told of subscriptions.
-use Rattle.std.specs.Prelude.{ℕ, List, map, filter, Result, Ok}
+-- What a role is told of subscriptions and of the outbox.
+use Rattle.std.specs.Prelude.{ℕ, List, map, filter, Result, Ok, Err, if◌then◌else◌}
 use Rattle.adr_text.specs.Refusals.{◌>>=◌}
 use Rattle.adr_text.specs.declared.refusal.Refusal.{Refusal}
+use Rattle.adr_text.specs.declared.refusal.Refusal.TheVariants.{Forbidden}
+use Rattle.adr_delivery.specs.declared.outbox.Outbox.{Outbox}
+use Rattle.adr_delivery.specs.Outboxes.{counts_of}
 use Rattle.adr_state.specs.declared.portfolio.Portfolio.{Portfolio}
 use Rattle.adr_state.specs.declared.base.Base.{Base}
 use Rattle.adr_state.specs.Subs.{sub_object}
@@ -17,7 +20,7 @@ use Rattle.adr_queries.specs.declared.answer.Answer.{Answer}
 use Rattle.adr_queries.specs.declared.answer.Answer.TheVariants as answer
 use Rattle.adr_queries.specs.Filters.{wanted_subs}
 use Rattle.adr_queries.specs.Listings.{page_of}
-use Rattle.adr_queries.specs.Roles.{sight_of}
+use Rattle.adr_queries.specs.Roles.{is_operator, sight_of}
 
 -- the subscriptions in sight, by number: a ven sees its own alone
 abbrev pub subs_in_sight : Sight → Portfolio → List Object
@@ -30,3 +33,7 @@ subs_reply base role wanted page = sight_of base role >>= λ sight. Ok (answer.L
 -- one that is out of sight is forbidden
 abbrev pub sub_reply : Base → Role → List ℕ → Result Answer Refusal
 sub_reply base role id = sight_of base role >>= λ sight. sub_in_sight sight id base.portfolio >>= λ s. Ok (answer.Object (object.Sub (sub_object s)))
+
+-- only the operator sees the outbox
+abbrev pub outbox_reply : Outbox → Role → Result Answer Refusal
+outbox_reply outbox role = if is_operator role then Ok (answer.Counts (counts_of outbox)) else Err Forbidden

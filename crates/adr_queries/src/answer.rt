@@ -1,6 +1,8 @@
 //! What the machine answers.
+use adr_delivery::Job;
 use adr_objects::{
-    EventObject, ProgramObject, ReportObject, ResourceObject, Rollup, ShareObject, VenObject,
+    EventObject, OutboxCounts, ProgramObject, ReportObject, ResourceObject, Rollup, ShareObject,
+    VenObject,
 };
 use adr_state::MirrorKey;
 use adr_subscription::SubObject;
@@ -43,6 +45,10 @@ pub enum Answer {
     Share(ShareObject),
     /// The roll-up of the upstream event of that id.
     Rollup(ObjectId, Rollup),
+    /// How many entries the outbox had, and what came of them.
+    Counts(OutboxCounts),
+    /// What is to be sent next, where something is.
+    Job(Option<Job>),
 }
 
 impl Drop for Answer {
@@ -55,6 +61,8 @@ impl Drop for Answer {
             Answer::List(_) => (),
             Answer::Share(_) => (),
             Answer::Rollup(_, _) => (),
+            Answer::Counts(_) => (),
+            Answer::Job(_) => (),
         }
     }
 }

@@ -92,6 +92,10 @@ pub enum Query {
         role: Role,
         id: ObjectId,
     },
+    /// How many entries the outbox had, and what came of them. Refused for another role than the operator.
+    Outbox {
+        role: Role,
+    },
     /// The first keys that the end of the scan would answer. Refused where no scan is open.
     Probes {
         limit: u32,
@@ -139,6 +143,7 @@ impl Drop for Query {
             } => (),
             Query::Sub { role: _, id: _ } => (),
             Query::Probes { limit: _ } => (),
+            Query::Outbox { role: _ } => (),
         }
     }
 }

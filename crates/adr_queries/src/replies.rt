@@ -12,7 +12,7 @@ use crate::reported::{report_reply, reports_reply, rollup_reply};
 use crate::resource::{resource_reply, resources_reply};
 use crate::scan::probes_reply;
 use crate::share::shares_reply;
-use crate::subscribed::{sub_reply, subs_reply};
+use crate::subscribed::{outbox_reply, sub_reply, subs_reply};
 use crate::ven::{ven_reply, vens_reply};
 use adr_state::State;
 use adr_text::Refusal;
@@ -44,6 +44,7 @@ pub fn reply(alloc: Global, state: &State, query: &Query) -> Result<Answer, Refu
             subs_reply(alloc, &state.base, role, filter, *page)
         }
         Query::Sub { role, id } => sub_reply(&state.base, role, id),
+        Query::Outbox { role } => outbox_reply(&state.outbox, role),
         Query::Probes { limit } => probes_reply(alloc, &state.base, *limit),
     }
 }

@@ -1,15 +1,16 @@
-//! What a role is told of subscriptions.
+//! What a role is told of subscriptions and of the outbox.
 ghost use Rattle.std.specs.Prelude.{◌≡◌, ◌≢◌, Ok, Err, IfOk, IfErr};
 ghost use Rattle.adr_text.specs.declared.refusal.Refusal.TheVariants.{Store};
 ghost use Rattle.adr_text.specs.Refusals.{IsRefusalOf};
-ghost use Rattle.adr_queries.specs.Subscribed.{subs_in_sight, subs_reply, sub_reply};
+ghost use Rattle.adr_queries.specs.Subscribed.{subs_in_sight, subs_reply, sub_reply, outbox_reply};
 
 use crate::answer::{Answer, Object};
 use crate::filter::{ReportFilter, wanted_subs};
 use crate::page::page_of;
 use crate::query::Page;
-use crate::role::Role;
+use crate::role::{Role, is_operator};
 use crate::sight::sight_of;
+use adr_delivery::Outbox;
 use adr_state::{Base, Portfolio};
 use adr_text::{ObjectId, Refusal, Rows};
 use adr_view::{Sight, sees_owner, sub_in_sight, sub_object};
@@ -59,4 +60,14 @@ pub(crate) fn sub_reply(base: &Base, role: &Role, id: &ObjectId) -> Result<Answe
     let sight = sight_of(base, role)?;
     let (number, sub) = sub_in_sight(sight, id, &base.portfolio)?;
     Ok(Answer::Object(Object::Sub(sub_object(number, &sub)?)))
+}
+
+/// How many entries the outbox had; `Forbidden` for another role than the operator.
+pub(crate) fn outbox_reply(outbox: &Outbox, role: &Role) -> Result<Answer, Refusal>
+    ensures { result ≡ outbox_reply outbox.now role.now }
+{
+    if !is_operator(role) {
+        return Err(Refusal::Forbidden);
+    }
+    Ok(Answer::Counts(outbox.counts()))
 }

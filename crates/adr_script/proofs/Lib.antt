@@ -1,4 +1,5 @@
 pub mod Utf8
+pub mod Numbers
 pub mod Turns
 pub mod Lines
 pub mod Scripts

@@ -1,14 +1,19 @@
 -- What is printed: the texts of answers, and of refusals.
-use Rattle.std.specs.Prelude.{ℕ, Bool, true, false, List, [], ◌∷◌, ◌++◌, codes, bytes_eq, Result, Ok, Err, if◌then◌else◌}
+use Rattle.std.specs.Prelude.{ℕ, ◌==◌, Bool, true, false, List, [], ◌∷◌, ◌++◌, codes, bytes_eq, Option, None, Some, Result, Ok, Err, if◌then◌else◌}
 use Rattle.std.specs.List.{flat_map}
 use Rattle.std.specs.Fmt.{decimal}
 use Rattle.adr_text.specs.Refusals.{number_of, title_of, status_of}
 use Rattle.adr_text.specs.declared.refusal.Refusal.{Refusal}
 use Rattle.adr_written.specs.Objects.{program_text, event_text, ven_text, resource_text, share_text, problem_text}
+use Rattle.adr_written.specs.Counts.{counts_text}
+use Rattle.adr_written.specs.Ids.{sub_id}
 use Rattle.adr_written.specs.WrittenReports.{report_text, rollup_text}
 use Rattle.adr_written.specs.WrittenSubs.{sub_text}
 use Rattle.adr_objects.specs.declared.kind.Kind.{Kind}
 use Rattle.adr_objects.specs.declared.kind.Kind.TheVariants as kind
+use Rattle.adr_delivery.specs.declared.job.Job.{Job}
+use Rattle.adr_delivery.specs.declared.job.JobMethod.{JobMethod}
+use Rattle.adr_delivery.specs.declared.job.JobMethod.TheVariants.{Post, Put}
 use Rattle.adr_state.specs.declared.keys.MirrorKey.{MirrorKey}
 use Rattle.adr_machine.specs.declared.command.Command.{Command}
 use Rattle.adr_machine.specs.declared.command.Command.TheVariants.{VenAdd, ResourceAdd, ReportPost, SubPost}
@@ -38,7 +43,7 @@ abbrev pub list_text : List Object → List ℕ
 list_text [] = codes "[]"
 list_text (o ∷ objects) = codes "[" ++ object_text o ++ behind_commas objects ++ codes "]"
 
--- the body of an answer; a count of changes is told to nobody, nor is what a scan missed; a roll-up stands under the node's name and the id of its event
+-- the body of an answer; a count of changes is told to nobody, nor is what a scan missed, nor what is to be sent; a roll-up stands under the node's name and the id of its event
 unfoldable pub answer_text : List ℕ → Answer → List ℕ
 answer_text client answer.Done = codes "{}"
 answer_text client (answer.Probes keys) = codes "{}"
@@ -46,6 +51,8 @@ answer_text client (answer.Changes n) = codes "{}"
 answer_text client (answer.Object o) = object_text o
 answer_text client (answer.List objects) = list_text objects
 answer_text client (answer.Share s) = share_text s
+answer_text client (answer.Counts counts) = counts_text counts
+answer_text client (answer.Job job) = codes "{}"
 answer_text client (answer.Rollup event rollup) = rollup_text (record { client = client; event = event; rollup = rollup })
 
 -- whether a command posts an object
@@ -102,6 +109,31 @@ keys_text keys = flat_map key_text keys
 unfoldable pub probes_line : List MirrorKey → List ℕ
 probes_line keys = codes "probes" ++ keys_text keys ++ codes "\n"
 
+-- where a job goes to: the subscription of a number, or the utility, which has 0
+unfoldable pub destination_word : ℕ → List ℕ
+destination_word destination = if destination == 0 then codes "upstream" else sub_id destination
+
+unfoldable pub method_word : JobMethod → List ℕ
+method_word Post = codes "POST"
+method_word Put = codes "PUT"
+
+-- `DEST METHOD TARGET`
+unfoldable pub sending_words : Job → List ℕ
+sending_words job = destination_word job.destination ++ (codes " " ++ (method_word job.method ++ (codes " " ++ job.target)))
+
+-- `job ENTRY LEASE DEST METHOD TARGET BODY`; a token is not printed
+unfoldable pub job_line : Job → List ℕ
+job_line job =
+    codes "job " ++ (decimal job.entry ++ (codes " " ++ (decimal job.lease ++ (codes " " ++ (sending_words job ++ (codes " " ++ (job.body ++ codes "\n")))))))
+
+unfoldable pub no_job_line : List ℕ
+no_job_line = codes "job none\n"
+
+-- what is to be sent next, where something is
+abbrev pub next_line : Option Job → List ℕ
+next_line None = no_job_line
+next_line (Some job) = job_line job
+
 -- how many keys changed; of a page also how many elements were skipped
 abbrev pub count_text : ℕ → Asked → List ℕ
 count_text n (asked.Page command skipped) = changes_line n skipped
@@ -111,6 +143,7 @@ count_text n _ = count_line n
 abbrev pub step_line : Asked → Answer → List ℕ
 step_line a (answer.Changes n) = count_text n a
 step_line a (answer.Probes keys) = probes_line keys
+step_line a (answer.Job job) = next_line job
 step_line a _ = done_line
 
 -- what is printed of a refusal: to the node itself, or to a role

@@ -1,7 +1,7 @@
 -- Paths, and the ids in them.
 use Rattle.std.specs.Prelude.{ℕ, List, codes, Option, Some, None, option_map, option_and_then, bytes_eq, if◌then◌else◌}
 use Rattle.adr_script.specs.declared.paths.Path.{Path}
-use Rattle.adr_script.specs.declared.paths.Path.TheVariants.{Programs, Program, Events, Event, Reports, Report, Rollup, Subs, Sub, Notifications, Vens, Ven, Resources, Resource, Shares, Share}
+use Rattle.adr_script.specs.declared.paths.Path.TheVariants.{Programs, Program, Events, Event, Reports, Report, Rollup, Subs, Sub, Notifications, Outbox, Vens, Ven, Resources, Resource, Shares, Share}
 use Rattle.adr_script.specs.Cuts.{cut, behind}
 use Rattle.adr_script.specs.Words.{id_from}
 
@@ -62,4 +62,5 @@ path_of path =
     else (if bytes_eq path (codes "/subscriptions") then Some Subs
     else (if bytes_eq path (codes "/notifications") then Some Notifications
     else (if bytes_eq path (codes "/vens") then Some Vens
-    else longer_path path)))))
+    else (if bytes_eq path (codes "/outbox") then Some Outbox
+    else longer_path path))))))

@@ -12,7 +12,7 @@ use Rattle.adr_schema.specs.Notices.{notice_of}
 use Rattle.adr_queries.specs.declared.role.Role.{Role}
 use Rattle.adr_queries.specs.declared.role.Role.TheVariants.{Utility}
 use Rattle.adr_machine.specs.declared.command.Command.TheVariants.{Evidence, Gone, VenAdd, VenPut, VenRemove, ResourceAdd, ResourcePut, ResourceRemove, ShareSet, ReportPost, ReportPut, ReportDelete, SubPost, SubPut, SubDelete}
-use Rattle.adr_queries.specs.declared.query.Query.TheVariants.{Programs, Program, Events, Event, Vens, Ven, Resources, Resource, Shares, Reports, Report, Rollup, Subs, Sub}
+use Rattle.adr_queries.specs.declared.query.Query.TheVariants.{Programs, Program, Events, Event, Vens, Ven, Resources, Resource, Shares, Reports, Report, Rollup, Subs, Sub, Outbox}
 use Rattle.adr_script.specs.declared.asked.Asked.{Asked}
 use Rattle.adr_script.specs.declared.asked.Asked.TheVariants as asked
 use Rattle.adr_script.specs.Cuts.{cut}
@@ -43,6 +43,7 @@ asked_by_get role (path.Ven id) query = Ok (Some (asked.Query (Ven role id)))
 asked_by_get role (path.Resources ven) query = page_asked query >>= λ page. Ok (Some (asked.Query (Resources role ven page)))
 asked_by_get role (path.Resource ven id) query = Ok (Some (asked.Query (Resource role ven id)))
 asked_by_get role (path.Shares program) query = Ok (Some (asked.Query (Shares role program)))
+asked_by_get role path.Outbox query = Ok (Some (asked.Query (Outbox role)))
 asked_by_get role path query = listing_asked role path query
 
 -- what a notification asks, if it asks anything

@@ -1,10 +1,12 @@
--- The words of a line: moments, ids and roles.
-use Rattle.std.specs.Prelude.{ℕ, List, codes, Option, Some, None, option_map, option_and_then, bytes_eq, Result, Ok, if◌then◌else◌}
+-- The words of a line: moments, numbers, ids and roles.
+use Rattle.std.specs.Prelude.{ℕ, ◌==◌, nat_le, not, ◌&&◌, List, length, codes, Option, Some, None, option_map, option_and_then, bytes_eq, Result, Ok, if◌then◌else◌}
+use Rattle.std.specs.List.{list_all}
 use Rattle.std.specs.Result.{result_ok}
 use Rattle.std.specs.Str.{is_utf8}
 use Rattle.adr_text.specs.declared.refusal.Refusal.{Refusal}
 use Rattle.adr_text.specs.Ids.{id_of}
 use Rattle.adr_text.specs.Moments.{moment_of}
+use Rattle.adr_state.specs.Digits.{is_digit, read_on}
 use Rattle.adr_queries.specs.declared.role.Role.{Role}
 use Rattle.adr_queries.specs.declared.role.Role.TheVariants.{Operator, Ven, Utility}
 use Rattle.adr_script.specs.Cuts.{behind}
@@ -16,6 +18,10 @@ text_from bytes = if is_utf8 bytes then Some bytes else None
 -- the moment that the bytes say
 unfoldable pub moment_from : List ℕ → Option ℕ
 moment_from bytes = option_and_then (λ text. result_ok (moment_of text)) (text_from bytes)
+
+-- the number that 1 to 16 plain digits write
+unfoldable pub number_from : List ℕ → Option ℕ
+number_from digits = if not (length digits == 0) && nat_le (length digits) 16 && list_all is_digit digits then Some (read_on 0 digits) else None
 
 -- the object id that the bytes are
 unfoldable pub id_from : List ℕ → Option (List ℕ)

@@ -1,16 +1,17 @@
 //! The texts of answers and refusals.
 ghost use Rattle.std.specs.Prelude.{◌≡◌, ◌++◌, IfOk, OnOk, string_bytes};
 ghost use Rattle.adr_written.specs.WrittenReports.{rollup_text as text_of_rollup};
-ghost use Rattle.adr_script.specs.Bodies.{object_text, list_text, answer_text, reply_line, changes_line, bad_line, problem_line, refused_line, count_line, done_line, kind_word, key_text, probes_line, step_line, want_by, outcome_text};
+ghost use Rattle.adr_script.specs.Bodies.{object_text, list_text, answer_text, reply_line, changes_line, bad_line, problem_line, refused_line, count_line, done_line, kind_word, key_text, probes_line, destination_word, method_word, sending_words, job_line, no_job_line, next_line, step_line, want_by, outcome_text};
 
 use crate::asked::{Asked, status_for};
+use adr_delivery::{Job, JobMethod};
 use adr_machine::{Answer, Object};
-use adr_objects::{Kind, Rollup, RollupObject};
+use adr_objects::{Kind, Number, Rollup, RollupObject};
 use adr_state::MirrorKey;
 use adr_text::{Name, ObjectId, Refusal};
 use adr_written::{
-    write_event, write_problem, write_program, write_report, write_resource, write_rollup,
-    write_share, write_sub, write_ven,
+    sub_id, write_counts, write_event, write_problem, write_program, write_report, write_resource,
+    write_rollup, write_share, write_sub, write_ven,
 };
 use std::alloc::{AllocError, Global};
 
@@ -68,11 +69,14 @@ fn answer_text(alloc: Global, client: &Name, answer: &Answer) -> Result<String, 
     ensures { IfOk result (λ text. string_bytes text ≡ answer_text client.now answer.now) }
 {
     match answer {
-        Answer::Done | Answer::Changes(_) | Answer::Probes(_) => String::from_str(alloc, "{}"),
+        Answer::Done | Answer::Changes(_) | Answer::Probes(_) | Answer::Job(_) => {
+            String::from_str(alloc, "{}")
+        }
         Answer::Object(object) => object_text(alloc, object),
         Answer::List(objects) => list_text(alloc, objects.as_slice()),
         Answer::Share(share) => write_share(alloc, share),
         Answer::Rollup(event, rollup) => rollup_text(alloc, client, event, rollup),
+        Answer::Counts(counts) => write_counts(alloc, counts),
     }
 }
 
@@ -170,6 +174,71 @@ fn probes_line(alloc: Global, keys: &[MirrorKey]) -> Result<String, AllocError>
     Ok(text)
 }
 
+/// Where a job goes to: `s6`, as the subscription of that number is called, or `upstream`, which is the utility.
+#[tactic(auto, unfolding(crate::specs::Bodies::destination_word))]
+fn destination_word(alloc: Global, destination: Number) -> Result<String, AllocError>
+    ensures { IfOk result (λ word. string_bytes word ≡ destination_word destination) }
+{
+    if destination.get() == 0 {
+        String::from_str(alloc, "upstream")
+    } else {
+        sub_id(alloc, destination)
+    }
+}
+
+#[tactic(auto, unfolding(crate::specs::Bodies::method_word))]
+fn method_word(method: JobMethod) -> &'static str
+    ensures { result.now ≡ method_word method }
+{
+    match method {
+        JobMethod::Post => "POST",
+        JobMethod::Put => "PUT",
+    }
+}
+
+/// `DEST METHOD TARGET`: to whom a job goes, how, and where.
+#[tactic(auto, unfolding(crate::specs::Bodies::sending_words))]
+fn sending_words(alloc: Global, job: &Job) -> Result<String, AllocError>
+    ensures { IfOk result (λ words. string_bytes words ≡ sending_words job.now) }
+{
+    let destination = destination_word(alloc, job.destination)?;
+    let destination = destination.as_str();
+    let method = method_word(job.method);
+    let target = job.target.as_str();
+    format!(in alloc; "{destination} {method} {target}")
+}
+
+/// `job ENTRY LEASE DEST METHOD TARGET BODY`. A token is not printed.
+#[tactic(auto, unfolding(crate::specs::Bodies::job_line))]
+fn job_line(alloc: Global, job: &Job) -> Result<String, AllocError>
+    ensures { IfOk result (λ text. string_bytes text ≡ job_line job.now) }
+{
+    let entry = job.entry.get();
+    let lease = job.lease;
+    let sending = sending_words(alloc, job)?;
+    let sending = sending.as_str();
+    let body = job.body.as_str();
+    format!(in alloc; "job {entry} {lease} {sending} {body}\n")
+}
+
+/// `job none`.
+#[tactic(auto, unfolding(crate::specs::Bodies::no_job_line))]
+fn no_job_line(alloc: Global) -> Result<String, AllocError>
+    ensures { IfOk result (λ text. string_bytes text ≡ no_job_line) }
+{
+    String::from_str(alloc, "job none\n")
+}
+
+/// What is to be sent next, where something is.
+fn next_line(alloc: Global, job: &Option<Job>) -> Result<String, AllocError>
+    ensures { IfOk result (λ text. string_bytes text ≡ next_line job.now) }
+{
+    match job {
+        Some(job) => job_line(alloc, job),
+        None => no_job_line(alloc),
+    }
+}
+
 /// `bad line`.
 #[tactic(auto, unfolding(crate::specs::Bodies::bad_line))]
 pub(crate) fn bad_line(alloc: Global) -> Result<String, AllocError>
@@ -188,6 +257,7 @@ fn step_line(alloc: Global, asked: &Asked, answer: &Answer) -> Result<String, Al
             _ => count_line(alloc, *changes),
         },
         Answer::Probes(keys) => probes_line(alloc, keys.as_slice()),
+        Answer::Job(job) => next_line(alloc, job),
         _ => done_line(alloc),
     }
 }

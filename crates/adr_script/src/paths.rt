@@ -31,6 +31,8 @@ pub enum Path {
     Sub(ObjectId),
     /// `/notifications`
     Notifications,
+    /// `/outbox`
+    Outbox,
     /// `/vens`
     Vens,
     /// `/vens/{venID}`
@@ -177,6 +179,8 @@ pub(crate) fn path_of(alloc: Global, path: &[u8]) -> Result<Option<Path>, AllocE
         Ok(Some(Path::Notifications))
     } else if path == b"/vens".as_slice() {
         Ok(Some(Path::Vens))
+    } else if path == b"/outbox".as_slice() {
+        Ok(Some(Path::Outbox))
     } else {
         longer_path(alloc, path)
     }

@@ -80,6 +80,7 @@ fn asked_by_get(
         Path::Ven(id) => Query::Ven { role, id },
         Path::Resource { ven, id } => Query::Resource { role, ven, id },
         Path::Shares(program) => Query::Shares { role, program },
+        Path::Outbox => Query::Outbox { role },
         listing => return listing_asked(alloc, role, &listing, query),
     };
     Ok(Some(Asked::Query(query)))

@@ -1,7 +1,8 @@
-//! The words of a line: moments, ids and roles.
+//! The words of a line: moments, numbers, ids and roles.
 ghost use Rattle.std.specs.Prelude.{◌≡◌, IfOk};
 ghost use Rattle.std.specs.Option.{option_copied};
-ghost use Rattle.adr_script.specs.Words.{text_from, moment_from, id_from, role_from};
+ghost use Rattle.adr_state.specs.Digits.{is_digit};
+ghost use Rattle.adr_script.specs.Words.{text_from, moment_from, number_from, id_from, role_from};
 
 use crate::cuts::behind;
 use adr_machine::Role;
@@ -27,6 +28,30 @@ pub(crate) fn moment_from(bytes: &[u8]) -> Option<Moment>
 {
     let text = text_from(bytes)?;
     Moment::read(text).ok()
+}
+
+fn is_digit(byte: u8) -> bool
+    ensures { result ≡ is_digit byte }
+{
+    48 <= byte && byte <= 57
+}
+
+/// The number that 1 to 16 digits write. Leading zeros are allowed.
+#[tactic(auto, using(crate::proofs::Numbers::one_more), unfolding(crate::specs::Words::number_from))]
+pub(crate) fn number_from(digits: &[u8]) -> Option<u64>
+    ensures { result ≡ number_from digits.now }
+{
+    if digits.is_empty() || 16 < digits.len() {
+        return None;
+    }
+    let mut number = 0u64;
+    for byte in digits {
+        if !is_digit(*byte) {
+            return None;
+        }
+        number = number * 10 + (*byte - 48) as u64;
+    }
+    Some(number)
 }
 
 /// The object id that the bytes are.

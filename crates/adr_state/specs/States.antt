@@ -1,7 +1,8 @@
 -- The state at first.
 use Rattle.std.specs.Prelude.{[], None}
+use Rattle.adr_delivery.specs.Outboxes.{no_entries}
 use Rattle.adr_state.specs.Portfolios.{nobody}
 use Rattle.adr_state.specs.declared.state.State.{State}
 
 abbrev pub empty : State
-empty = record { base = record { mirror = []; scan = None; portfolio = nobody; serial = 0 }; stamps = [] }
+empty = record { base = record { mirror = []; scan = None; portfolio = nobody; serial = 0 }; stamps = []; outbox = no_entries }

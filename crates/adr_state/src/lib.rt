@@ -1,5 +1,5 @@
-//! What the node keeps, as plain maps: the mirror of the utility's objects, vens, resources, shares,
-//! reports and subscriptions; and what is decided of it.
+//! What the node keeps, as plain maps: the mirror of the utility's objects, vens, resources, shares, reports,
+//! subscriptions and the outbox; and what is decided of it.
 #![tactic(auto)]
 
 mod base;

@@ -5,19 +5,25 @@ use crate::base::Base;
 use crate::keys::ViewKey;
 use crate::portfolio::Portfolio;
 use crate::serial::Serial;
+use adr_delivery::Outbox;
 use adr_objects::Stamps;
 use adr_text::Table;
 use std::alloc::{AllocError, Global};
 
-/// The base, and the stamps of what is shown.
+/// The base, the stamps of what is shown, and the outbox.
 pub struct State {
     pub base: Base,
     pub stamps: Table<ViewKey, Stamps>,
+    pub outbox: Outbox,
 }
 
 impl Drop for State {
     fn drop(self) {
-        let State { base: _, stamps: _ } = self;
+        let State {
+            base: _,
+            stamps: _,
+            outbox: _,
+        } = self;
     }
 }
 
@@ -53,6 +59,7 @@ impl State {
                 serial: Serial::new(),
             },
             stamps: Table::new(alloc),
+            outbox: Outbox::new(alloc),
         }
     }
 
@@ -63,6 +70,7 @@ impl State {
         Ok(State {
             base: self.base.copy()?,
             stamps: self.stamps.clone()?,
+            outbox: self.outbox.copy()?,
         })
     }
 }

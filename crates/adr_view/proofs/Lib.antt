@@ -10,3 +10,4 @@ pub mod LawLemmas
 pub mod LatestLemmas
 pub mod ReportedLemmas
 pub mod RollupLemmas
+pub mod Quiet

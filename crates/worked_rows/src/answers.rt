@@ -1,5 +1,6 @@
 //! Whether two answers are the same, with all that they hold.
 use crate::portfolio::is_same_report;
+use crate::same_outbox::are_same_jobs;
 use crate::subs::is_same_sub;
 use adr_machine::{Answer, Object};
 use adr_objects::{EventObject, ReportObject, Rollup, RollupInterval, ShownEvent};
@@ -90,6 +91,8 @@ fn is_same_reply(answer: &Answer, other: &Answer) -> bool {
         (Answer::Rollup(event, rollup), Answer::Rollup(id, other)) => {
             event == id && is_same_rollup(rollup, other)
         }
+        (Answer::Counts(counts), Answer::Counts(other)) => counts == other,
+        (Answer::Job(job), Answer::Job(other)) => are_same_jobs(job, other),
         _ => false,
     }
 }

@@ -19,11 +19,10 @@
 //! The commands of each row are then told as a list to a plain desk and to tables, which have to answer them alike and hold what the row led to.
 //!
 //! Who takes part in an event is read from tables of its own, by number and weight, since no line of a script asks for
-//! that. The calls on reports and roll-ups, and those on the outbox, are made on such tables too, without a desk.
+//! that. The calls on reports and roll-ups are made on such tables too, without a desk.
 #![tactic(auto)]
 
 mod answers;
-mod outbox;
 mod participants;
 mod play;
 mod portfolio;
@@ -31,13 +30,13 @@ mod reader;
 mod report;
 mod row;
 mod same;
+mod same_outbox;
 mod site_reports;
 mod subs;
 mod texts;
 mod twin;
 mod whole_run;
 
-use crate::outbox::run_outbox;
 use crate::participants::run_participants;
 use crate::play::play;
 use crate::report::{report, report_both, report_list};
@@ -196,8 +195,7 @@ fn run_all<R: Env + Files + Print + AllocGlobal + Clone + Drop>(rt: &R) -> Resul
     let texts = run_texts_of(rt, folder.as_str())?;
     let participants = run_participants(rt)?;
     let reports = run_reports(rt)?;
-    let outbox = run_outbox(rt)?;
-    Ok(rows && texts && participants && reports && outbox)
+    Ok(rows && texts && participants && reports)
 }
 
 fn main(rt: HostRuntime) -> Result<ExitCode> {

@@ -1,5 +1,6 @@
 //! Whether two images hold the same state.
 use crate::portfolio::is_same_portfolio;
+use crate::same_outbox::is_same_outbox;
 use adr_machine::Desk;
 use adr_objects::{Body, Stamps, canonical};
 use adr_state::{Base, Image, Mark, MirrorKey, Polled, ViewKey};
@@ -73,10 +74,11 @@ fn are_same_stamps(stamps: &Table<ViewKey, Stamps>, others: &Table<ViewKey, Stam
             .all(|(key, stamps)| others.get(key) == Some(stamps))
 }
 
-/// Whether both hold the same base and the same stamps of what is shown.
+/// Whether both hold the same base, the same stamps of what is shown, and the same outbox.
 fn is_same(alloc: Global, image: &Image, other: &Image) -> Result<bool, AllocError> {
     let base = is_same_base(alloc, &image.base, &other.base)?;
-    Ok(base && are_same_stamps(&image.stamps, &other.stamps))
+    let stamps = are_same_stamps(&image.stamps, &other.stamps);
+    Ok(base && stamps && is_same_outbox(&image.outbox, &other.outbox))
 }
 
 /// Whether a desk holds the state of an image.

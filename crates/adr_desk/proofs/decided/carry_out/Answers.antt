@@ -1,11 +1,11 @@
 use Rattle.std.proofs.Common.{[], ◌∷◌, refl, arith}
 use Rattle.adr_db.proofs.Common.{ven_add, ven_put, ven_remove, resource_add, resource_put, resource_remove, evidence, gone, Forbidden, LimitReached, NoScan}
-use Rattle.adr_text.specs.declared.refusal.Refusal.TheVariants.{NotFound, Conflict, BadShare, Exhausted}
+use Rattle.adr_text.specs.declared.refusal.Refusal.TheVariants.{NotFound, Conflict, BadShare, Exhausted, OutboxFull}
 use Rattle.adr_state.specs.Shares.{share_set}
 use Rattle.adr_queries.specs.declared.answer.Answer.TheVariants as answer
 use Rattle.adr_machine.specs.declared.outcome.Outcome.TheVariants as outcome
 use Rattle.adr_machine.specs.Edits.{ven_outcome, resource_outcome, share_outcome}
-use Rattle.adr_desk.proofs.DecisionLemmas.{portfolio_carries, counted_carries, begun_carries, ended_carries}
+use Rattle.adr_desk.proofs.DecisionLemmas.{portfolio_carries, counted_carries, begun_carries, ended_carries, delivery_carries}
 use Rattle.adr_desk.proofs.AnswerLemmas.{all_answered}
 use Rattle.adr_desk.proofs.ListedLemmas.{told_store, told_either, told_one_of}
 use Rattle.adr_desk.proofs.decided.carry_out.Goals as goal
@@ -16,7 +16,7 @@ returns-in-VenAdd-clause-carries g c =
 
 pub returns-in-VenAdd-clause-listed : goal.returns-in-VenAdd-clause-listed
 returns-in-VenAdd-clause-listed g c =
-    rw (c.in-VenAdd.is, c.of_ven.ensures) (told_one_of (Forbidden ∷ Conflict ∷ LimitReached ∷ Exhausted ∷ []) ven_outcome (Conflict ∷ LimitReached ∷ []) ((1, omega arith, refl), ((2, omega arith, refl), tt)) c.ven_add.result c.ven_add.ensures.refused)
+    rw (c.in-VenAdd.is, c.of_ven.ensures) (told_one_of (Forbidden ∷ Conflict ∷ LimitReached ∷ Exhausted ∷ OutboxFull ∷ []) ven_outcome (Conflict ∷ LimitReached ∷ []) ((1, omega arith, refl), ((2, omega arith, refl), tt)) c.ven_add.result c.ven_add.ensures.refused)
 
 pub returns-in-VenPut-clause-carries : goal.returns-in-VenPut-clause-carries
 returns-in-VenPut-clause-carries g c =
@@ -24,7 +24,7 @@ returns-in-VenPut-clause-carries g c =
 
 pub returns-in-VenPut-clause-listed : goal.returns-in-VenPut-clause-listed
 returns-in-VenPut-clause-listed g c =
-    rw (c.in-VenPut.is, c.of_ven-in-VenPut.ensures) (told_one_of (Forbidden ∷ NotFound ∷ Conflict ∷ []) ven_outcome (NotFound ∷ Conflict ∷ []) ((1, omega arith, refl), ((2, omega arith, refl), tt)) c.ven_put.result c.ven_put.ensures.refused)
+    rw (c.in-VenPut.is, c.of_ven-in-VenPut.ensures) (told_one_of (Forbidden ∷ NotFound ∷ Conflict ∷ Exhausted ∷ OutboxFull ∷ []) ven_outcome (NotFound ∷ Conflict ∷ []) ((1, omega arith, refl), ((2, omega arith, refl), tt)) c.ven_put.result c.ven_put.ensures.refused)
 
 pub returns-in-VenRemove-clause-carries : goal.returns-in-VenRemove-clause-carries
 returns-in-VenRemove-clause-carries g c =
@@ -32,7 +32,7 @@ returns-in-VenRemove-clause-carries g c =
 
 pub returns-in-VenRemove-clause-listed : goal.returns-in-VenRemove-clause-listed
 returns-in-VenRemove-clause-listed g c =
-    rw (c.in-VenRemove.is, c.of_ven-in-VenRemove.ensures) (told_one_of (Forbidden ∷ NotFound ∷ []) ven_outcome (NotFound ∷ []) ((1, omega arith, refl), tt) c.ven_remove.result c.ven_remove.ensures.refused)
+    rw (c.in-VenRemove.is, c.of_ven-in-VenRemove.ensures) (told_one_of (Forbidden ∷ NotFound ∷ Exhausted ∷ OutboxFull ∷ []) ven_outcome (NotFound ∷ []) ((1, omega arith, refl), tt) c.ven_remove.result c.ven_remove.ensures.refused)
 
 pub returns-in-ResourceAdd-clause-carries : goal.returns-in-ResourceAdd-clause-carries
 returns-in-ResourceAdd-clause-carries g c =
@@ -40,7 +40,7 @@ returns-in-ResourceAdd-clause-carries g c =
 
 pub returns-in-ResourceAdd-clause-listed : goal.returns-in-ResourceAdd-clause-listed
 returns-in-ResourceAdd-clause-listed g c =
-    rw (c.in-ResourceAdd.is, c.of_resource.ensures) (told_one_of (Forbidden ∷ NotFound ∷ Conflict ∷ LimitReached ∷ Exhausted ∷ []) resource_outcome (NotFound ∷ Conflict ∷ LimitReached ∷ []) ((1, omega arith, refl), ((2, omega arith, refl), ((3, omega arith, refl), tt))) c.resource_add.result c.resource_add.ensures.refused)
+    rw (c.in-ResourceAdd.is, c.of_resource.ensures) (told_one_of (Forbidden ∷ NotFound ∷ Conflict ∷ LimitReached ∷ Exhausted ∷ OutboxFull ∷ []) resource_outcome (NotFound ∷ Conflict ∷ LimitReached ∷ []) ((1, omega arith, refl), ((2, omega arith, refl), ((3, omega arith, refl), tt))) c.resource_add.result c.resource_add.ensures.refused)
 
 pub returns-in-ResourcePut-clause-carries : goal.returns-in-ResourcePut-clause-carries
 returns-in-ResourcePut-clause-carries g c =
@@ -48,7 +48,7 @@ returns-in-ResourcePut-clause-carries g c =
 
 pub returns-in-ResourcePut-clause-listed : goal.returns-in-ResourcePut-clause-listed
 returns-in-ResourcePut-clause-listed g c =
-    rw (c.in-ResourcePut.is, c.of_resource-in-ResourcePut.ensures) (told_one_of (Forbidden ∷ NotFound ∷ Conflict ∷ []) resource_outcome (NotFound ∷ Conflict ∷ []) ((1, omega arith, refl), ((2, omega arith, refl), tt)) c.resource_put.result c.resource_put.ensures.refused)
+    rw (c.in-ResourcePut.is, c.of_resource-in-ResourcePut.ensures) (told_one_of (Forbidden ∷ NotFound ∷ Conflict ∷ Exhausted ∷ OutboxFull ∷ []) resource_outcome (NotFound ∷ Conflict ∷ []) ((1, omega arith, refl), ((2, omega arith, refl), tt)) c.resource_put.result c.resource_put.ensures.refused)
 
 pub returns-in-ResourceRemove-clause-carries : goal.returns-in-ResourceRemove-clause-carries
 returns-in-ResourceRemove-clause-carries g c =
@@ -56,7 +56,7 @@ returns-in-ResourceRemove-clause-carries g c =
 
 pub returns-in-ResourceRemove-clause-listed : goal.returns-in-ResourceRemove-clause-listed
 returns-in-ResourceRemove-clause-listed g c =
-    rw (c.in-ResourceRemove.is, c.of_resource-in-ResourceRemove.ensures) (told_one_of (Forbidden ∷ NotFound ∷ []) resource_outcome (NotFound ∷ []) ((1, omega arith, refl), tt) c.resource_remove.result c.resource_remove.ensures.refused)
+    rw (c.in-ResourceRemove.is, c.of_resource-in-ResourceRemove.ensures) (told_one_of (Forbidden ∷ NotFound ∷ Exhausted ∷ OutboxFull ∷ []) resource_outcome (NotFound ∷ []) ((1, omega arith, refl), tt) c.resource_remove.result c.resource_remove.ensures.refused)
 
 pub returns-in-ShareSet-clause-carries : goal.returns-in-ShareSet-clause-carries
 returns-in-ShareSet-clause-carries g c =
@@ -64,21 +64,21 @@ returns-in-ShareSet-clause-carries g c =
 
 pub returns-in-ShareSet-clause-listed : goal.returns-in-ShareSet-clause-listed
 returns-in-ShareSet-clause-listed g c =
-    rw (c.in-ShareSet.is, c.of_share.ensures) (told_one_of (Forbidden ∷ NotFound ∷ BadShare ∷ LimitReached ∷ []) share_outcome (NotFound ∷ BadShare ∷ LimitReached ∷ []) ((1, omega arith, refl), ((2, omega arith, refl), ((3, omega arith, refl), tt))) c.share_set.result c.share_set.ensures.refused)
+    rw (c.in-ShareSet.is, c.of_share.ensures) (told_one_of (Forbidden ∷ NotFound ∷ BadShare ∷ LimitReached ∷ Exhausted ∷ OutboxFull ∷ []) share_outcome (NotFound ∷ BadShare ∷ LimitReached ∷ []) ((1, omega arith, refl), ((2, omega arith, refl), ((3, omega arith, refl), tt))) c.share_set.result c.share_set.ensures.refused)
 
 pub returns-in-Evidence-clause-carries : goal.returns-in-Evidence-clause-carries
 returns-in-Evidence-clause-carries g c =
     rw (c.in-Evidence.is, c.counted.ensures) (counted_carries g.S.Store c.args.tx.now.conn.now c.put_evidence.new.tx.conn.now (evidence c.args.limits.now c.in-Evidence.found c.in-Evidence.polled) c.args.meta.now c.put_evidence.new.meta _ c.put_evidence.result (rw c.as_slice.ensures at c.put_evidence.ensures.makes) (rw c.as_slice.ensures at c.put_evidence.ensures.refuses))
 
 pub returns-in-Evidence-clause-listed : goal.returns-in-Evidence-clause-listed
-returns-in-Evidence-clause-listed g c = rw (c.in-Evidence.is, c.counted.ensures) (told_either (LimitReached ∷ []) (λ _. outcome.Counted) LimitReached (0, omega arith, refl) c.put_evidence.result c.put_evidence.ensures.refused)
+returns-in-Evidence-clause-listed g c = rw (c.in-Evidence.is, c.counted.ensures) (told_either (LimitReached ∷ Exhausted ∷ OutboxFull ∷ []) (λ _. outcome.Counted) LimitReached (0, omega arith, refl) c.put_evidence.result c.put_evidence.ensures.refused)
 
 pub returns-in-Gone-clause-carries : goal.returns-in-Gone-clause-carries
 returns-in-Gone-clause-carries g c =
     rw (c.in-Gone.is, c.counted-in-Gone.ensures) (counted_carries g.S.Store c.args.tx.now.conn.now c.gone.new.tx.conn.now (gone c.args.limits.now (record { kind = c.in-Gone.kind; id = c.in-Gone.id })) c.args.meta.now c.gone.new.meta _ c.gone.result c.gone.ensures.makes c.gone.ensures.refuses)
 
 pub returns-in-Gone-clause-listed : goal.returns-in-Gone-clause-listed
-returns-in-Gone-clause-listed g c = rw (c.in-Gone.is, c.counted-in-Gone.ensures) (told_either (LimitReached ∷ []) (λ _. outcome.Counted) LimitReached (0, omega arith, refl) c.gone.result c.gone.ensures.refused)
+returns-in-Gone-clause-listed g c = rw (c.in-Gone.is, c.counted-in-Gone.ensures) (told_either (LimitReached ∷ Exhausted ∷ OutboxFull ∷ []) (λ _. outcome.Counted) LimitReached (0, omega arith, refl) c.gone.result c.gone.ensures.refused)
 
 pub returns-in-ScanBegin-clause-carries : goal.returns-in-ScanBegin-clause-carries
 returns-in-ScanBegin-clause-carries g c =
@@ -180,3 +180,6 @@ returns-in-SubDelete-clause-answered g c = rw c.in-SubDelete.is c.sub_delete.ens
 
 pub returns-in-SubDelete-clause-listed : goal.returns-in-SubDelete-clause-listed
 returns-in-SubDelete-clause-listed g c = rw c.in-SubDelete.is c.sub_delete.ensures.listed
+
+pub returns-in-Lease-clause-carries : goal.returns-in-Lease-clause-carries
+returns-in-Lease-clause-carries g c = rw c.done-in-Lease.ensures (delivery_carries g.S.Store c.args.tx.now.conn.now c.args.limits.now c.args.now c.args.number c.args.meta.now c.args.command.now c.in-Lease.is)

@@ -1,7 +1,7 @@
 use Rattle.std.proofs.Common.{[], ◌∷◌, refl, arith}
 use Rattle.adr_db.proofs.Common.{Forbidden}
 use Rattle.adr_db.proofs.Results.{handed_on}
-use Rattle.adr_text.specs.declared.refusal.Refusal.TheVariants.{NotFound}
+use Rattle.adr_text.specs.declared.refusal.Refusal.TheVariants.{NotFound, Exhausted, OutboxFull}
 use Rattle.adr_view.specs.Reports.{report_delete}
 use Rattle.adr_machine.specs.declared.command.Command.TheVariants as command
 use Rattle.adr_machine.specs.Edits.{report_gone}
@@ -18,7 +18,7 @@ returns-in_err-sight-clause-carries g c meta =
 
 pub returns-in_err-sight-clause-listed : goal.returns-in_err-sight-clause-listed
 returns-in_err-sight-clause-listed g c =
-    let these = Forbidden ∷ NotFound ∷ [] in
+    let these = Forbidden ∷ NotFound ∷ Exhausted ∷ OutboxFull ∷ [] in
     let e = c.in_err-sight.field-0.0 in
     handed_on (Listed these) c.from_residual.result e c.from_residual.ensures.1 (one_of_listed these (Forbidden ∷ []) ((0, omega arith, refl), tt) e c.in_err-sight.ensures.refused)
 
@@ -33,4 +33,4 @@ returns-clause-answered g c = let it = command.ReportDelete c.args.role.now c.ar
 
 pub returns-clause-listed : goal.returns-clause-listed
 returns-clause-listed g c =
-    rw c.of_report_gone.ensures (told_one_of (Forbidden ∷ NotFound ∷ []) report_gone (Forbidden ∷ NotFound ∷ []) ((0, omega arith, refl), ((1, omega arith, refl), tt)) c.delete.result c.delete.ensures.refused)
+    rw c.of_report_gone.ensures (told_one_of (Forbidden ∷ NotFound ∷ Exhausted ∷ OutboxFull ∷ []) report_gone (Forbidden ∷ NotFound ∷ []) ((0, omega arith, refl), ((1, omega arith, refl), tt)) c.delete.result c.delete.ensures.refused)

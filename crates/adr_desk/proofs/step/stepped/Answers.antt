@@ -1,26 +1,42 @@
-use Rattle.std.proofs.Common.{◌≡◌, Bool, true, false, cond, Err, refl, sym, subst, ◌∙◌}
-use Rattle.adr_db.proofs.Common.{state, Forbidden}
-use Rattle.adr_machine.specs.Edits.{is_allowed, edit_of, edit}
-use Rattle.adr_machine.proofs.Listed.{forbidden_listed}
-use Rattle.adr_desk.specs.Steps.{step_of, StepsTables, RefusesAs}
+use Rattle.std.proofs.Common.{arith, refl, subst}
+use Rattle.std.proofs.lemmas.Result.{IfErr-weaker}
+use Rattle.adr_db.proofs.Common.{state, HasCleanDisk}
+use Rattle.adr_db.specs.declared.meta.Meta.{Meta}
+use Rattle.adr_db.specs.Kept.{Keeps, with_meta}
+use Rattle.adr_db.specs.Bases.{kept_of}
+use Rattle.adr_db.specs.Calls.{IsOfStore}
+use Rattle.adr_db.proofs.Results.{handed_on, on_then}
+use Rattle.adr_machine.specs.Listed.{listed}
+use Rattle.adr_desk.specs.Steps.{step_by}
+use Rattle.adr_desk.proofs.After.{after_made, after_refused}
+use Rattle.adr_desk.proofs.DecisionLemmas.{of_store}
+use Rattle.adr_desk.proofs.ListedLemmas.{told_store}
 use Rattle.adr_desk.proofs.step.stepped.Goals as goal
 
--- another may not give it
-pub returns-then-not-is_allowed-clause-refuses : goal.returns-then-not-is_allowed-clause-refuses
-unfolding edit
-returns-then-not-is_allowed-clause-refuses g c clean held was = let no : is_allowed c.args.command.now ≡ false = sym c.is_allowed.ensures ∙ c.if-not-is_allowed.true in rw no refl
-
-pub returns-then-not-is_allowed-clause-listed : goal.returns-then-not-is_allowed-clause-listed
-returns-then-not-is_allowed-clause-listed g c = forbidden_listed c.args.command.now (sym c.is_allowed.ensures ∙ c.if-not-is_allowed.true)
+pub returns-in_err-answer-clause-refuses : goal.returns-in_err-answer-clause-refuses
+returns-in_err-answer-clause-refuses g c clean =
+    let first : HasCleanDisk (state g.S.Store c.read_meta.new.tx.conn.now) = omega (arith, clean, c.acted.ensures.stays.crash.clean) in
+    let e = c.in_err-answer.field-0.0 in
+    handed_on _ c.from_residual-in_err-answer.result e c.from_residual-in_err-answer.ensures.1 (λ held was.
+    let found = c.in_ok-before.ensures.finds first (kept_of held) was in
+    c.in_err-answer.ensures.refuses clean held found.1 found.0)
 
 pub returns-clause-makes : goal.returns-clause-makes
-unfolding edit
-returns-clause-makes g c =
-    let yes : is_allowed c.args.command.now ≡ true = sym c.is_allowed.ensures ∙ c.if-not-is_allowed.false in
-    subst (λ (b : Bool). StepsTables (step_of (λ base. cond b (edit_of c.args.limits.now c.args.now base c.args.command.now) (Err Forbidden)) c.args.now) (state g.S.Store c.args.tx.now.conn.now) (state g.S.Store c.committed.new.tx.conn.now) c.committed.result) (sym yes) c.committed.ensures.makes
+returns-clause-makes g c clean =
+    let second : HasCleanDisk (state g.S.Store c.acted.new.tx.conn.now) = omega (arith, c.put_changed.ensures.stays.crash.clean) in
+    let first : HasCleanDisk (state g.S.Store c.read_meta.new.tx.conn.now) = omega (arith, second, c.acted.ensures.stays.crash.clean) in
+    rw c.after.ensures (after_made c.in_ok-answer.answer _ c.put_changed.result (on_then c.put_changed.result (λ leaves held was.
+    let found = c.in_ok-before.ensures.finds first (kept_of held) was in
+    let it = c.in_ok-answer.ensures.makes second held found.1 found.0 in
+    record {
+      after = it.next;
+      stepped = it.stepped;
+      holds = subst (λ (m : Meta). Keeps (with_meta m (kept_of it.next)) (state g.S.Store c.put_changed.new.tx.conn.now)) it.counted (leaves (with_meta c.in_ok-before.before (kept_of it.next)) it.holds refl);
+    }) (c.put_changed.ensures.leaves clean)))
 
 pub returns-clause-refuses : goal.returns-clause-refuses
-unfolding edit
-returns-clause-refuses g c =
-    let yes : is_allowed c.args.command.now ≡ true = sym c.is_allowed.ensures ∙ c.if-not-is_allowed.false in
-    subst (λ (b : Bool). RefusesAs (step_of (λ base. cond b (edit_of c.args.limits.now c.args.now base c.args.command.now) (Err Forbidden)) c.args.now) (state g.S.Store c.args.tx.now.conn.now) (state g.S.Store c.committed.new.tx.conn.now) c.committed.result) (sym yes) c.committed.ensures.refuses
+returns-clause-refuses g c clean =
+    rw c.after.ensures (after_refused c.in_ok-answer.answer _ c.put_changed.result (IfErr-weaker c.put_changed.result IsOfStore _ (λ e h held was. of_store e (step_by c.args.settings.now c.args.now c.args.command.now held) h) c.put_changed.ensures.refused))
+
+pub returns-clause-listed : goal.returns-clause-listed
+returns-clause-listed g c = rw c.after.ensures (told_store (listed c.args.command.now) (λ u. c.in_ok-answer.answer) c.put_changed.result c.put_changed.ensures.refused)

@@ -6,7 +6,7 @@ use Rattle.adr_delivery.specs.Outboxes.{check_room, appended}
 use Rattle.adr_delivery.specs.Tallies.{plus}
 use Rattle.adr_notices.specs.Committed.{numbered, with_further}
 use Rattle.adr_db.specs.declared.meta.Meta.{Meta}
-use Rattle.adr_outbox.specs.Turned.{outbox_of}
+use Rattle.adr_db.specs.Images.{outbox_of}
 use Rattle.adr_outbox.specs.Appended.{with_drawn}
 use Rattle.adr_outbox.proofs.appending.append.Goals as goal
 

@@ -4,7 +4,7 @@ use Rattle.adr_delivery.specs.Jobs.{job_for}
 use Rattle.adr_delivery.specs.Outboxes.{with_delivery, remote_for}
 use Rattle.adr_db.proofs.Common.{state, HasCleanDisk}
 use Rattle.adr_db.specs.Kept.{Keeps, with_waiting}
-use Rattle.adr_outbox.specs.Turned.{outbox_of}
+use Rattle.adr_db.specs.Images.{outbox_of}
 use Rattle.adr_outbox.proofs.Leases.{same_ids}
 use Rattle.adr_outbox.proofs.leasing.lease_entry.Goals as goal
 

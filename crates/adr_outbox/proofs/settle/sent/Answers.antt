@@ -3,7 +3,7 @@ use Rattle.std.specs.Option.{option_copied}
 use Rattle.adr_text.specs.Refusals.{◌>>=◌}
 use Rattle.adr_delivery.specs.Outboxes.{with_remote, sent_at}
 use Rattle.adr_db.proofs.Common.{state, HasCleanDisk}
-use Rattle.adr_outbox.specs.Turned.{outbox_of}
+use Rattle.adr_db.specs.Images.{outbox_of}
 use Rattle.adr_outbox.specs.Told.{done}
 use Rattle.adr_outbox.proofs.Waiting.{one_less, leased_there}
 use Rattle.adr_outbox.proofs.settle.sent.Goals as goal
