@@ -1,0 +1,9 @@
+pub mod Fronts
+pub mod PartByPart
+pub mod White
+pub mod LastCodings
+pub mod Lengths
+pub mod ChunkLines
+pub mod TrailerSections
+pub mod ChunkSteps
+pub mod Readings

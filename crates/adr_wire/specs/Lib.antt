@@ -1,0 +1,7 @@
+pub mod Cuts
+pub mod Pieces
+pub mod Fields
+pub mod Codings
+pub mod Extents
+pub mod Lengths
+pub mod Chunks
