@@ -3,7 +3,7 @@ use Rattle.std.specs.Prelude.{ℕ, nat_le, List, [], ◌∷◌, length, codes, b
 use Rattle.adr_state.specs.Digits.{most_number, number_within}
 use Rattle.adr_state.specs.Limits.{largest, limits_set}
 use Rattle.adr_state.specs.declared.limits.Limits.{Limits}
-use Rattle.adr_script.specs.Cuts.{cut}
+use Rattle.adr_wire.specs.Cuts.{cut}
 
 -- the number that at most 16 digits write, where it is one that a limit may have: the largest is that of the serial
 abbrev pub number_at : List ℕ → Option ℕ

@@ -17,7 +17,7 @@ fn number_at(digits: &[u8]) -> Option<u64>
 }
 
 /// The limits with that of one argument, `NAME=NUMBER`, set.
-#[tactic(auto, unfolding(crate::specs::Arguments::limit_set, adr_script::specs::Cuts::cut))]
+#[tactic(auto, unfolding(crate::specs::Arguments::limit_set, adr_wire::specs::Cuts::cut))]
 fn limit_set(mut limits: Limits, argument: &str) -> Option<Limits>
     ensures { result ≡ limit_set limits argument.now }
 {

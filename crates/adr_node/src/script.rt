@@ -3,7 +3,7 @@ ghost use Rattle.std.specs.Prelude.{◌≡◌, ◌≢◌, ◌+◌, ◌<◌, ◌�
 ghost use Rattle.adr_state.specs.States.{empty};
 ghost use Rattle.adr_script.specs.declared.fault.ScriptFault.TheVariants as fault;
 ghost use Rattle.adr_script.specs.Lines.{HasLongLine, HasManyLines, most_reads};
-ghost use Rattle.adr_script.specs.Scripts.{NoneFails, LastFails, RunsOut};
+ghost use Rattle.adr_wire.specs.Calls.{NoneFails, LastFails, RunsOut};
 ghost use Rattle.adr_node.specs.declared.ending.NodeFault.TheVariants.{Script, Store};
 ghost use Rattle.adr_node.specs.Endings.{IsOfOpening};
 ghost use Rattle.adr_node.specs.Script.{settings_of, RunsFromEmpty, StopsFromEmpty, EndsAtLongLine, EndsAtManyLines};
@@ -11,8 +11,8 @@ ghost use Rattle.adr_node.specs.Script.{settings_of, RunsFromEmpty, StopsFromEmp
 use crate::ending::NodeFault;
 use adr_desk::MemoryDesk;
 use adr_desk::laws::memory_is_sound;
+use adr_http::{ScriptFault, run_script};
 use adr_machine::Desk;
-use adr_script::{ScriptFault, run_script};
 use adr_state::{Limits, Settings};
 use adr_text::{Name, Reader, Sink, Source, Writer};
 use std::alloc::Global;
@@ -47,7 +47,7 @@ fn run_from_empty<S: Source, W: Sink>(
 ) -> Result<u64, NodeFault>
     ensures all { IfOk result (λ n. IfSome (S.left source.old) (λ text. RunsFromEmpty limits text (W.written sink.old) (W.written sink.new) n)) }
     ensures some { OnErr result (IfSome (S.left source.old) (λ text. StopsFromEmpty limits text (W.written sink.old) (W.written sink.new))) }
-    ensures read_fault { result ≡ Err (Script fault.Read) → LastFails (S.calls source.old) (S.calls source.new) ⊎ RunsOut (S.calls source.old) (S.calls source.new) }
+    ensures read_fault { result ≡ Err (Script fault.Read) → LastFails (S.calls source.old) (S.calls source.new) ⊎ RunsOut most_reads (S.calls source.old) (S.calls source.new) }
     ensures no_read_fault { result ≢ Err (Script fault.Read) → NoneFails (S.calls source.old) (S.calls source.new) }
     ensures write_fault { result ≡ Err (Script fault.Write) → LastFails (W.calls sink.old) (W.calls sink.new) }
     ensures no_write_fault { result ≢ Err (Script fault.Write) → NoneFails (W.calls sink.old) (W.calls sink.new) }

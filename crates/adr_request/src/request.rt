@@ -1,6 +1,7 @@
 //! Requests.
 ghost use Rattle.std.specs.Prelude.{◌≡◌, ◌≢◌, ◌+◌, ◌⊎◌, ◌≤◌, ℕ, List, Some, Err};
-ghost use Rattle.adr_wire.specs.Pieces.{IsReading, NoneFails, LastFails, RunsOut};
+ghost use Rattle.adr_wire.specs.Calls.{NoneFails, LastFails, RunsOut};
+ghost use Rattle.adr_wire.specs.Pieces.{IsReading};
 ghost use Rattle.adr_wire.specs.declared.end.ReadEnd.TheVariants.{Reader};
 ghost use Rattle.adr_request.specs.Requests.{request_parts, IsRequest};
 

@@ -1,4 +1,4 @@
-pub mod Utf8
+pub mod Asking
 pub mod Numbers
 pub mod Turns
 pub mod Lines

@@ -76,3 +76,8 @@ whatever_follows None mid new xs ys P c d h = tt
 whatever_follows (Some text) None new xs ys P c d h = absurd c
 whatever_follows (Some text) (Some left) None xs ys P c d h = absurd d
 whatever_follows (Some text) (Some left) (Some rest) xs ys P c d h = subst P (sym (c ∙ ap (λ (l : List ℕ). xs ++ l) d)) (h rest)
+
+-- what holds of anything holds of what is there
+pub of_any : {A : Type 0} {P : A → Type 0} (o : Option A) → ((x : A) → P x) → IfSome o P
+of_any None all = tt
+of_any (Some x) all = all x

@@ -2,9 +2,9 @@
 use Rattle.std.specs.Prelude.{ℕ, ◌==◌, Bool, true, false, List, [], ◌∷◌, ◌++◌, codes, bytes_eq, Option, None, Some, Result, Ok, Err, if◌then◌else◌}
 use Rattle.std.specs.List.{flat_map}
 use Rattle.std.specs.Fmt.{decimal}
-use Rattle.adr_text.specs.Refusals.{number_of, title_of, status_of}
+use Rattle.adr_text.specs.Refusals.{number_of, title_of}
 use Rattle.adr_text.specs.declared.refusal.Refusal.{Refusal}
-use Rattle.adr_written.specs.Objects.{program_text, event_text, ven_text, resource_text, share_text, problem_text}
+use Rattle.adr_written.specs.Objects.{program_text, event_text, ven_text, resource_text, share_text}
 use Rattle.adr_written.specs.Counts.{counts_text}
 use Rattle.adr_written.specs.Ids.{sub_id}
 use Rattle.adr_written.specs.WrittenReports.{report_text, rollup_text}
@@ -21,6 +21,11 @@ use Rattle.adr_queries.specs.declared.answer.Object.{Object}
 use Rattle.adr_queries.specs.declared.answer.Object.TheVariants.{Program, Event, Report, Ven, Resource, Share, Sub}
 use Rattle.adr_queries.specs.declared.answer.Answer.{Answer}
 use Rattle.adr_queries.specs.declared.answer.Answer.TheVariants as answer
+use Rattle.adr_reply.specs.Replies.{ReplyParts}
+use Rattle.adr_reply.specs.Problems.{problem_reply}
+use Rattle.adr_reply.specs.declared.reply.Extra.TheVariants.{Nothing}
+use Rattle.adr_reply.specs.declared.problem.Problem.{Problem}
+use Rattle.adr_reply.specs.declared.problem.Problem.TheVariants.{Refused}
 use Rattle.adr_script.specs.declared.asked.Asked.{Asked}
 use Rattle.adr_script.specs.declared.asked.Asked.TheVariants as asked
 
@@ -68,9 +73,14 @@ abbrev pub status_for : Asked → ℕ
 status_for (asked.Command c) = if posts c then 201 else 200
 status_for _ = 200
 
--- `STATUS BODY`
-abbrev pub reply_line : ℕ → List ℕ → List ℕ
-reply_line status body = decimal status ++ (codes " " ++ (body ++ codes "\n"))
+-- what is replied to what was asked, by a node of that name
+abbrev pub reply_of : List ℕ → Asked → Result Answer Refusal → ReplyParts
+reply_of client a (Ok answer) = record { status = status_for a; extra = Nothing; body = answer_text client answer }
+reply_of client a (Err refusal) = problem_reply (Refused refusal)
+
+-- a reply as a line: `STATUS BODY`
+unfoldable pub reply_line : ReplyParts → List ℕ
+reply_line reply = decimal reply.status ++ (codes " " ++ (reply.body ++ codes "\n"))
 
 -- `changes N skipped M`
 unfoldable pub changes_line : ℕ → ℕ → List ℕ
@@ -78,10 +88,6 @@ changes_line changes skipped = codes "changes " ++ (decimal changes ++ (codes " 
 
 unfoldable pub bad_line : List ℕ
 bad_line = codes "bad line\n"
-
--- a refused request: its status and the problem
-unfoldable pub problem_line : Refusal → List ℕ
-problem_line r = reply_line (status_of r) (problem_text r)
 
 -- a refused step of the node: `refused N TITLE`
 unfoldable pub refused_line : Refusal → List ℕ
@@ -146,11 +152,24 @@ step_line a (answer.Probes keys) = probes_line keys
 step_line a (answer.Job job) = next_line job
 step_line a _ = done_line
 
--- what is printed of a refusal: to the node itself, or to a role
-unfoldable pub want_by : List ℕ → Refusal → List ℕ
-want_by role refusal = if bytes_eq role (codes "node") then refused_line refusal else problem_line refusal
+-- what is printed to the node itself where it asks nothing
+abbrev pub node_line : Problem → List ℕ
+node_line (Refused refusal) = refused_line refusal
+node_line problem = reply_line (problem_reply problem)
+
+-- what is printed of a problem: to the node itself, or to a role
+unfoldable pub told_by : List ℕ → Problem → List ℕ
+told_by role problem = if bytes_eq role (codes "node") then node_line problem else reply_line (problem_reply problem)
+
+-- what is printed of a refusal
+abbrev pub want_by : List ℕ → Refusal → List ℕ
+want_by role refusal = told_by role (Refused refusal)
+
+-- what is printed to the node itself of the machine's answer
+abbrev pub step_text : Asked → Result Answer Refusal → List ℕ
+step_text a (Ok answer) = step_line a answer
+step_text a (Err refusal) = refused_line refusal
 
 -- what is printed of the machine's answer to what was asked, under the node's name
-abbrev pub outcome_text : List ℕ → List ℕ → Asked → Result Answer Refusal → List ℕ
-outcome_text client role a (Ok answer) = if bytes_eq role (codes "node") then step_line a answer else reply_line (status_for a) (answer_text client answer)
-outcome_text client role a (Err refusal) = want_by role refusal
+unfoldable pub outcome_text : List ℕ → List ℕ → Asked → Result Answer Refusal → List ℕ
+outcome_text client role a outcome = if bytes_eq role (codes "node") then step_text a outcome else reply_line (reply_of client a outcome)

@@ -1,8 +1,6 @@
-pub mod Cuts
 pub mod Words
 pub mod Queries
 pub mod Filters
-pub mod Paths
 pub mod Requests
 pub mod Steps
 pub mod Bodies

@@ -1,5 +1,5 @@
--- What the words of a request ask of the machine: none where they ask for nothing that there is.
-use Rattle.std.specs.Prelude.{ℕ, List, [], ◌∷◌, false, codes, Option, Some, None, unwrap_or, bytes_eq, Result, Ok, Err, if◌then◌else◌}
+-- What a request asks of the machine.
+use Rattle.std.specs.Prelude.{ℕ, Bool, true, List, [], ◌∷◌, false, codes, Option, Some, None, option_and_then, unwrap_or, bytes_eq, Result, Ok, Err, if◌then◌else◌}
 use Rattle.adr_text.specs.Refusals.{◌>>=◌}
 use Rattle.adr_text.specs.declared.refusal.Refusal.{Refusal}
 use Rattle.adr_schema.specs.Sites.{ven_of, resource_of, share_of}
@@ -15,13 +15,19 @@ use Rattle.adr_machine.specs.declared.command.Command.TheVariants.{Evidence, Gon
 use Rattle.adr_queries.specs.declared.query.Query.TheVariants.{Programs, Program, Events, Event, Vens, Ven, Resources, Resource, Shares, Reports, Report, Rollup, Subs, Sub, Outbox}
 use Rattle.adr_script.specs.declared.asked.Asked.{Asked}
 use Rattle.adr_script.specs.declared.asked.Asked.TheVariants as asked
-use Rattle.adr_script.specs.Cuts.{cut}
-use Rattle.adr_script.specs.Words.{text_from, role_from, if_there}
+use Rattle.adr_wire.specs.Cuts.{cut}
+use Rattle.adr_script.specs.Words.{role_from, if_there}
 use Rattle.adr_script.specs.Filters.{filter_asked, report_filter_asked}
 use Rattle.adr_script.specs.Queries.{page_asked}
-use Rattle.adr_script.specs.declared.paths.Path.{Path}
-use Rattle.adr_script.specs.declared.paths.Path.TheVariants as path
-use Rattle.adr_script.specs.Paths.{path_of}
+use Rattle.adr_routes.specs.declared.methods.Methods.{Methods}
+use Rattle.adr_routes.specs.declared.path.Path.{Path}
+use Rattle.adr_routes.specs.declared.path.Path.TheVariants as path
+use Rattle.adr_routes.specs.Methods.{has}
+use Rattle.adr_routes.specs.Places.{methods_of}
+use Rattle.adr_routes.specs.Paths.{path_of, place_of}
+use Rattle.adr_routes.specs.Words.{text_from}
+use Rattle.adr_reply.specs.declared.problem.Problem.{Problem}
+use Rattle.adr_reply.specs.declared.problem.Problem.TheVariants.{Refused, NoPath, NoMethod}
 
 -- the listings of paths with no id in them
 unfoldable pub listing_asked : Role → Path → List ℕ → Result (Option Asked) Refusal
@@ -97,12 +103,40 @@ asked_by role method path query body =
     else (if bytes_eq method (codes "DELETE") then Ok (asked_by_delete role path)
     else Ok None)))
 
--- a role, a method, a path, behind `?` a query, and a body
-unfoldable pub asked_of : List ℕ → List ℕ → List ℕ → List ℕ → Result (Option Asked) Refusal
-asked_of role method target body =
-    if_there (text_from target) (λ text. if_there (role_from role) (λ role.
-    if_there (path_of (cut 63 target).0) (λ path. asked_by role method path (unwrap_or (cut 63 target).1 []) body)))
+-- what was asked, or why nothing is: a method that the path hasn't is none
+abbrev pub asked_or : Methods → Result (Option Asked) Refusal → Result Asked Problem
+asked_or methods (Ok (Some a)) = Ok a
+asked_or methods (Ok None) = Err (NoMethod methods)
+asked_or methods (Err refusal) = Err (Refused refusal)
+
+-- what is asked at a path
+abbrev pub asked_at : Role → List ℕ → Path → List ℕ → List ℕ → Result Asked Problem
+asked_at role method path query body = asked_or (methods_of (place_of path)) (asked_by role method path query body)
+
+-- the path that the bytes are
+abbrev pub path_in : List ℕ → Option Path
+path_in bytes = option_and_then path_of (text_from bytes)
+
+abbrev pub at_path : Role → List ℕ → Option Path → List ℕ → List ℕ → Result Asked Problem
+at_path role method None query body = Err NoPath
+at_path role method (Some path) query body = asked_at role method path query body
+
+-- what a role asks by a method, a path, behind `?` a query, and a body, or why it asks nothing
+unfoldable pub asked_of : Role → List ℕ → List ℕ → List ℕ → Result Asked Problem
+asked_of role method target body = at_path role method (path_in (cut 63 target).0) (unwrap_or (cut 63 target).1 []) body
+
+-- ---- lines
+
+-- one of the four methods
+abbrev pub is_method : List ℕ → Bool
+is_method word = has (record { get = true; post = true; put = true; delete = true }) word
+
+-- what the words of a line ask: nothing, where they are of another form
+abbrev pub line_asked : List ℕ → List ℕ → List ℕ → List ℕ → Result (Option Asked) Problem
+line_asked role method target body =
+    if is_method method then (if_there (text_from target) (λ text. if_there (role_from role) (λ r. asked_of r method target body >>= λ a. Ok (Some a))))
+    else Ok None
 
 -- a role, and then `METHOD TARGET` or `METHOD TARGET BODY`
-unfoldable pub request_of : List ℕ → List ℕ → Result (Option Asked) Refusal
-request_of role rest = if_there (cut 32 rest).1 (λ words. asked_of role (cut 32 rest).0 (cut 32 words).0 (unwrap_or (cut 32 words).1 []))
+unfoldable pub request_of : List ℕ → List ℕ → Result (Option Asked) Problem
+request_of role rest = if_there (cut 32 rest).1 (λ words. line_asked role (cut 32 rest).0 (cut 32 words).0 (unwrap_or (cut 32 words).1 []))

@@ -73,22 +73,3 @@ pub record StopsAtManyLines (IsSound may_refuse : Type 0) (settings : Settings) 
   pub as_many : seen + length before ≡ most_lines
   pub more : 0 < length others
   pub runs : IsSound → (n : ℕ) × RunsScript may_refuse settings s before t old new printed n
-
--- ---- calls of the source and the sink
-
--- no call failed
-abbrev pub NoneFails : Calls → Calls → Type 0
-NoneFails old new = new.failed ≡ old.failed
-
--- the last call failed, and no other
-abbrev pub LastFails : Calls → Calls → Type 0
-LastFails old new = (new.failed ≡ old.failed + 1) × (new.has_failed ≡ true)
-
--- as many reads were made as may be, and none failed
-abbrev pub RunsOut : Calls → Calls → Type 0
-RunsOut old new = (new.made ≡ old.made + most_reads) × NoneFails old new
-
--- a part of the bytes was written
-pub record WritesPart (old new : Option (List ℕ)) (bytes : List ℕ) : Type 0 where
-  pub part : ℕ
-  pub written : Appends old new (take part bytes)

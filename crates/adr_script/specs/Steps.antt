@@ -10,8 +10,9 @@ use Rattle.adr_queries.specs.declared.query.Query.TheVariants.{Probes}
 use Rattle.adr_state.specs.Digits.{number_within}
 use Rattle.adr_script.specs.declared.asked.Asked.{Asked}
 use Rattle.adr_script.specs.declared.asked.Asked.TheVariants as asked
-use Rattle.adr_script.specs.Cuts.{cut}
-use Rattle.adr_script.specs.Words.{number_from, id_from, if_there}
+use Rattle.adr_wire.specs.Cuts.{cut}
+use Rattle.adr_routes.specs.Words.{id_from}
+use Rattle.adr_script.specs.Words.{number_from, if_there}
 
 -- the kind that a word names
 abbrev pub kind_from : List ℕ → Option Kind

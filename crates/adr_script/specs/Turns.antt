@@ -12,11 +12,13 @@ use Rattle.adr_machine.specs.Steps.{step}
 use Rattle.adr_machine.specs.Runs.{told, state_after}
 use Rattle.adr_script.specs.declared.asked.Asked.{Asked}
 use Rattle.adr_script.specs.declared.asked.Asked.TheVariants as asked
-use Rattle.adr_script.specs.Cuts.{cut}
+use Rattle.adr_wire.specs.Cuts.{cut}
 use Rattle.adr_script.specs.Words.{moment_from}
 use Rattle.adr_script.specs.Requests.{request_of}
 use Rattle.adr_script.specs.Steps.{step_of}
-use Rattle.adr_script.specs.Bodies.{bad_line, want_by, outcome_text}
+use Rattle.adr_reply.specs.Problems.{as_problem}
+use Rattle.adr_reply.specs.declared.problem.Problem.{Problem}
+use Rattle.adr_script.specs.Bodies.{bad_line, told_by, want_by, outcome_text}
 
 -- the machine's answer to what is asked, and the state after it; a query leaves the state
 abbrev pub asked_step : Settings → State → ℕ → Asked → Result (Answer × State) Refusal
@@ -45,14 +47,14 @@ abbrev pub turn_by : (Result Answer Refusal → List ℕ) → State → Result (
 turn_by text s r asks = record { text = text (told r); state = state_after s r; asks = asks }
 
 -- what the words of a role, or of the node itself, ask
-unfoldable pub words_asked : List ℕ → List ℕ → Result (Option Asked) Refusal
-words_asked role rest = if bytes_eq role (codes "node") then step_of rest else request_of role rest
+unfoldable pub words_asked : List ℕ → List ℕ → Result (Option Asked) Problem
+words_asked role rest = if bytes_eq role (codes "node") then as_problem (step_of rest) else request_of role rest
 
 -- the turn of a role, or of the node itself, as those words were read
-abbrev pub turn_of : Settings → State → ℕ → List ℕ → Result (Option Asked) Refusal → Turn
+abbrev pub turn_of : Settings → State → ℕ → List ℕ → Result (Option Asked) Problem → Turn
 turn_of settings s now role (Ok None) = at_once bad_line s
 turn_of settings s now role (Ok (Some a)) = turn_by (outcome_text settings.client role a) s (asked_step settings s now a) (asks_desk a)
-turn_of settings s now role (Err refusal) = at_once (want_by role refusal) s
+turn_of settings s now role (Err problem) = at_once (told_by role problem) s
 
 -- ---- lines
 

@@ -1,19 +1,13 @@
--- The words of a line: moments, numbers, ids and roles.
+-- The words of a line: moments, numbers and roles.
 use Rattle.std.specs.Prelude.{ℕ, ◌==◌, nat_le, not, ◌&&◌, List, length, codes, Option, Some, None, option_map, option_and_then, bytes_eq, Result, Ok, if◌then◌else◌}
 use Rattle.std.specs.List.{list_all}
 use Rattle.std.specs.Result.{result_ok}
-use Rattle.std.specs.Str.{is_utf8}
-use Rattle.adr_text.specs.declared.refusal.Refusal.{Refusal}
-use Rattle.adr_text.specs.Ids.{id_of}
 use Rattle.adr_text.specs.Moments.{moment_of}
+use Rattle.adr_routes.specs.Words.{text_from, id_from}
 use Rattle.adr_state.specs.Digits.{is_digit, read_on}
 use Rattle.adr_queries.specs.declared.role.Role.{Role}
 use Rattle.adr_queries.specs.declared.role.Role.TheVariants.{Operator, Ven, Utility}
-use Rattle.adr_script.specs.Cuts.{behind}
-
--- the bytes, where they are text
-unfoldable pub text_from : List ℕ → Option (List ℕ)
-text_from bytes = if is_utf8 bytes then Some bytes else None
+use Rattle.adr_wire.specs.Cuts.{behind}
 
 -- the moment that the bytes say
 unfoldable pub moment_from : List ℕ → Option ℕ
@@ -23,10 +17,6 @@ moment_from bytes = option_and_then (λ text. result_ok (moment_of text)) (text_
 unfoldable pub number_from : List ℕ → Option ℕ
 number_from digits = if not (length digits == 0) && nat_le (length digits) 16 && list_all is_digit digits then Some (read_on 0 digits) else None
 
--- the object id that the bytes are
-unfoldable pub id_from : List ℕ → Option (List ℕ)
-id_from bytes = option_and_then (λ text. result_ok (id_of text)) (text_from bytes)
-
 -- `operator`, `utility` or `ven:` and an id
 unfoldable pub role_from : List ℕ → Option Role
 role_from bytes =
@@ -35,6 +25,6 @@ role_from bytes =
     else option_map Ven (option_and_then id_from (behind (codes "ven:") bytes)))
 
 -- what is asked by what is there, and nothing where it isn't
-abbrev pub if_there : {A B : Type 0} → Option A → (A → Result (Option B) Refusal) → Result (Option B) Refusal
+abbrev pub if_there : {A B E : Type 0} → Option A → (A → Result (Option B) E) → Result (Option B) E
 if_there None ask = Ok None
 if_there (Some x) ask = ask x

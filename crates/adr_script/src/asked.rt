@@ -1,5 +1,5 @@
 //! What a line asks of the machine.
-ghost use Rattle.std.specs.Prelude.{◌≡◌};
+ghost use Rattle.std.specs.Prelude.{◌≡◌, ◌≤◌, ◌<◌};
 ghost use Rattle.adr_script.specs.Bodies.{posts, status_for};
 
 use adr_machine::{Command, Query};
@@ -39,7 +39,8 @@ fn posts(command: &Command) -> bool
 
 /// The status of a reply that is no refusal: 201 where an object was posted, else 200.
 pub(crate) fn status_for(asked: &Asked) -> u16
-    ensures { result ≡ status_for asked.now }
+    ensures status { result ≡ status_for asked.now }
+    ensures is_code { (100 ≤ result) × (result < 1000) }
 {
     match asked {
         Asked::Command(command) if posts(command) => 201,

@@ -1,17 +1,20 @@
 //! The texts of answers and refusals.
 ghost use Rattle.std.specs.Prelude.{◌≡◌, ◌++◌, IfOk, OnOk, string_bytes};
 ghost use Rattle.adr_written.specs.WrittenReports.{rollup_text as text_of_rollup};
-ghost use Rattle.adr_script.specs.Bodies.{object_text, list_text, answer_text, reply_line, changes_line, bad_line, problem_line, refused_line, count_line, done_line, kind_word, key_text, probes_line, destination_word, method_word, sending_words, job_line, no_job_line, next_line, step_line, want_by, outcome_text};
+ghost use Rattle.adr_script.specs.Bodies.{object_text, list_text, answer_text, reply_of, reply_line, changes_line, bad_line, refused_line, count_line, done_line, kind_word, key_text, probes_line, destination_word, method_word, sending_words, job_line, no_job_line, next_line, step_line, node_line, told_by, step_text, outcome_text};
+ghost use Rattle.adr_reply.specs.Replies.{reply_parts};
+ghost use Rattle.adr_reply.specs.Problems.{problem_reply};
 
 use crate::asked::{Asked, status_for};
 use adr_delivery::{Job, JobMethod};
 use adr_machine::{Answer, Object};
 use adr_objects::{Kind, Number, Rollup, RollupObject};
+use adr_reply::{Extra, Problem, Reply};
 use adr_state::MirrorKey;
 use adr_text::{Name, ObjectId, Refusal};
 use adr_written::{
-    sub_id, write_counts, write_event, write_problem, write_program, write_report, write_resource,
-    write_rollup, write_share, write_sub, write_ven,
+    sub_id, write_counts, write_event, write_program, write_report, write_resource, write_rollup,
+    write_share, write_sub, write_ven,
 };
 use std::alloc::{AllocError, Global};
 
@@ -80,20 +83,41 @@ fn answer_text(alloc: Global, client: &Name, answer: &Answer) -> Result<String, 
     }
 }
 
-/// `STATUS BODY`.
-fn reply_line(alloc: Global, status: u16, body: &str) -> Result<String, AllocError>
-    ensures { IfOk result (λ text. string_bytes text ≡ reply_line status body.now) }
+/// What is replied to what was asked, by a node of that name.
+pub fn reply_to(
+    alloc: Global,
+    client: &Name,
+    asked: &Asked,
+    outcome: &Result<Answer, Refusal>,
+) -> Result<Reply, AllocError>
+    ensures { IfOk result (λ reply. reply_parts reply ≡ reply_of client.now asked.now outcome.now) }
 {
+    match outcome {
+        Ok(answer) => Ok(Reply {
+            status: status_for(asked),
+            extra: Extra::Nothing,
+            body: answer_text(alloc, client, answer)?,
+        }),
+        Err(refusal) => Problem::Refused(*refusal).reply(alloc),
+    }
+}
+
+/// A reply as a line: `STATUS BODY`.
+#[tactic(auto, unfolding(crate::specs::Bodies::reply_line))]
+fn reply_line(alloc: Global, reply: &Reply) -> Result<String, AllocError>
+    ensures { IfOk result (λ text. string_bytes text ≡ reply_line (reply_parts reply.now)) }
+{
+    let status = reply.status;
+    let body = reply.body.as_str();
     format!(in alloc; "{status} {body}\n")
 }
 
-/// The line of a refused request: its status and the problem.
-#[tactic(auto, unfolding(crate::specs::Bodies::problem_line))]
-fn problem_line(alloc: Global, refusal: Refusal) -> Result<String, AllocError>
-    ensures { IfOk result (λ text. string_bytes text ≡ problem_line refusal) }
+/// The line of a problem.
+fn problem_line(alloc: Global, problem: Problem) -> Result<String, AllocError>
+    ensures { IfOk result (λ text. string_bytes text ≡ reply_line (problem_reply problem)) }
 {
-    let body = write_problem(alloc, refusal)?;
-    reply_line(alloc, refusal.status(), body.as_str())
+    let reply = problem.reply(alloc)?;
+    reply_line(alloc, &reply)
 }
 
 /// `refused N TITLE`.
@@ -106,15 +130,25 @@ fn refused_line(alloc: Global, refusal: Refusal) -> Result<String, AllocError>
     format!(in alloc; "refused {number} {title}\n")
 }
 
-/// What is printed of a refusal: to the node itself, or to a role.
-#[tactic(auto, unfolding(crate::specs::Bodies::want_by))]
-pub(crate) fn want_by(alloc: Global, role: &[u8], refusal: Refusal) -> Result<String, AllocError>
-    ensures { IfOk result (λ text. string_bytes text ≡ want_by role.now refusal) }
+/// What is printed to the node itself where it asks nothing.
+fn node_line(alloc: Global, problem: Problem) -> Result<String, AllocError>
+    ensures { IfOk result (λ text. string_bytes text ≡ node_line problem) }
+{
+    match problem {
+        Problem::Refused(refusal) => refused_line(alloc, refusal),
+        problem => problem_line(alloc, problem),
+    }
+}
+
+/// What is printed of a problem: to the node itself, or to a role.
+#[tactic(auto, unfolding(crate::specs::Bodies::told_by))]
+pub(crate) fn told_by(alloc: Global, role: &[u8], problem: Problem) -> Result<String, AllocError>
+    ensures { IfOk result (λ text. string_bytes text ≡ told_by role.now problem) }
 {
     if role == b"node".as_slice() {
-        refused_line(alloc, refusal)
+        node_line(alloc, problem)
     } else {
-        problem_line(alloc, refusal)
+        problem_line(alloc, problem)
     }
 }
 
@@ -262,7 +296,22 @@ fn step_line(alloc: Global, asked: &Asked, answer: &Answer) -> Result<String, Al
     }
 }
 
+/// What is printed to the node itself of the machine's answer.
+fn step_text(
+    alloc: Global,
+    asked: &Asked,
+    outcome: &Result<Answer, Refusal>,
+) -> Result<String, AllocError>
+    ensures { IfOk result (λ text. string_bytes text ≡ step_text asked.now outcome.now) }
+{
+    match outcome {
+        Ok(answer) => step_line(alloc, asked, answer),
+        Err(refusal) => refused_line(alloc, *refusal),
+    }
+}
+
 /// What is printed of the machine's answer to what was asked, by a node of that name.
+#[tactic(auto, unfolding(crate::specs::Bodies::outcome_text))]
 pub(crate) fn outcome_text(
     alloc: Global,
     client: &Name,
@@ -272,13 +321,9 @@ pub(crate) fn outcome_text(
 ) -> Result<String, AllocError>
     ensures { IfOk result (λ text. string_bytes text ≡ outcome_text client.now role.now asked.now outcome.now) }
 {
-    match outcome {
-        Ok(answer) if role == b"node".as_slice() => step_line(alloc, asked, answer),
-        Ok(answer) => reply_line(
-            alloc,
-            status_for(asked),
-            answer_text(alloc, client, answer)?.as_str(),
-        ),
-        Err(refusal) => want_by(alloc, role, *refusal),
+    if role == b"node".as_slice() {
+        return step_text(alloc, asked, outcome);
     }
+    let reply = reply_to(alloc, client, asked, outcome)?;
+    reply_line(alloc, &reply)
 }

@@ -3,12 +3,9 @@
 
 mod asked;
 mod bodies;
-mod cuts;
 mod fault;
 mod filter;
 pub mod laws;
-mod output;
-mod paths;
 mod progress;
 mod query;
 mod request;
@@ -18,6 +15,8 @@ mod turn;
 mod words;
 
 pub use asked::Asked;
+pub use bodies::reply_to;
 pub use fault::ScriptFault;
+pub use request::asked_of;
 pub use script::{MOST_BYTES, MOST_LINES, MOST_READS, run_script};
-pub use turn::answer_line;
+pub use turn::{answer_line, take_asked, without};

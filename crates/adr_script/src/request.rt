@@ -2,19 +2,23 @@
 ghost use Rattle.std.specs.Prelude.{◌≡◌, unwrap_or, IfOk};
 ghost use Rattle.std.specs.Option.{option_copied};
 ghost use Rattle.adr_text.specs.Refusals.{Gives};
-ghost use Rattle.adr_script.specs.Requests.{told_asked, notified, listing_asked, asked_by_get, asked_by_post, asked_by_put, asked_by_delete, asked_by, asked_of, request_of};
+ghost use Rattle.adr_routes.specs.Paths.{place_of};
+ghost use Rattle.adr_routes.specs.Places.{methods_of};
+ghost use Rattle.adr_reply.specs.Problems.{Tells};
+ghost use Rattle.adr_script.specs.Requests.{told_asked, notified, listing_asked, asked_by_get, asked_by_post, asked_by_put, asked_by_delete, asked_by, asked_or, asked_at, path_in, asked_of, is_method, line_asked, request_of};
 
 use crate::asked::Asked;
-use crate::cuts::cut;
 use crate::filter::{filter_asked, report_filter_asked};
-use crate::paths::{Path, path_of};
 use crate::query::page_asked;
-use crate::words::{role_from, text_from};
+use crate::words::role_from;
 use adr_machine::{Command, Query, Role};
 use adr_objects::ShareIn;
+use adr_reply::Problem;
+use adr_routes::{Methods, Path, Routes, methods_of, place_of, text_from};
 use adr_schema::{NoticeIn, read_notice, read_report, read_resource, read_share, read_ven};
 use adr_subscription::read_sub;
 use adr_text::{Refusal, Rows};
+use adr_wire::cut;
 use std::alloc::{AllocError, Global};
 
 /// The listings of paths with no id in them. The path is looked at by reference: taken apart, each kind of path would be
@@ -246,39 +250,112 @@ fn asked_by(
     }
 }
 
-/// A role, a method, a path, behind `?` a query, and a body.
-#[tactic(auto, unfolding(crate::specs::Requests::asked_of))]
-fn asked_of(
+/// What was asked, or why nothing is: a method that the path hasn't is none.
+fn asked_or(methods: Methods, asked: Result<Option<Asked>, Refusal>) -> Result<Asked, Problem>
+    ensures { result ≡ asked_or methods asked }
+{
+    match asked {
+        Ok(Some(asked)) => Ok(asked),
+        Ok(None) => Err(Problem::NoMethod(methods)),
+        Err(refusal) => Err(Problem::Refused(refusal)),
+    }
+}
+
+/// What is asked at a path.
+#[tactic(auto, using(crate::proofs::Asking::asked_or_gives))]
+fn asked_at(
     alloc: Global,
+    role: Role,
+    method: &[u8],
+    path: Path,
+    query: &[u8],
+    body: &[u8],
+) -> Result<Asked, Problem>
+    ensures { Tells (λ a. a) result (asked_at role method.now path query.now body.now) }
+{
+    let methods = methods_of(place_of(&path));
+    asked_or(methods, asked_by(alloc, role, method, path, query, body))
+}
+
+/// The path that the bytes are.
+fn path_in(alloc: Global, routes: &Routes, bytes: &[u8]) -> Result<Option<Path>, AllocError>
+    ensures { IfOk result (λ path. path ≡ path_in bytes.now) }
+{
+    match text_from(bytes) {
+        Some(text) => routes.find(alloc, text),
+        None => Ok(None),
+    }
+}
+
+/// What a role asks by a method, a path, behind `?` a query, and a body, or why it asks nothing: there is no such path,
+/// the path hasn't the method, or the query or the body is of another form.
+#[tactic(auto, unfolding(crate::specs::Requests::asked_of))]
+pub fn asked_of(
+    alloc: Global,
+    routes: &Routes,
+    role: Role,
+    method: &[u8],
+    target: &[u8],
+    body: &[u8],
+) -> Result<Asked, Problem>
+    ensures { Tells (λ a. a) result (asked_of role method.now target.now body.now) }
+{
+    let (path, query) = cut(b'?', target);
+    let Some(path) = path_in(alloc, routes, path)? else {
+        return Err(Problem::NoPath);
+    };
+    asked_at(alloc, role, method, path, query.unwrap_or(&[]), body)
+}
+
+/// Whether the word is one of the four methods.
+fn is_method(word: &[u8]) -> bool
+    ensures { result ≡ is_method word.now }
+{
+    let all = Methods {
+        get: true,
+        post: true,
+        put: true,
+        delete: true,
+    };
+    all.has(word)
+}
+
+/// What the words of a line ask, or none where they are of another form.
+fn line_asked(
+    alloc: Global,
+    routes: &Routes,
     role: &[u8],
     method: &[u8],
     target: &[u8],
     body: &[u8],
-) -> Result<Option<Asked>, Refusal>
-    ensures { Gives (λ a. a) result (asked_of role.now method.now target.now body.now) }
+) -> Result<Option<Asked>, Problem>
+    ensures { Tells (λ a. a) result (line_asked role.now method.now target.now body.now) }
 {
+    if !is_method(method) {
+        return Ok(None);
+    }
     if text_from(target).is_none() {
         return Ok(None);
     }
     let Some(role) = role_from(alloc, role)? else {
         return Ok(None);
     };
-    let (path, query) = cut(b'?', target);
-    let Some(path) = path_of(alloc, path)? else {
-        return Ok(None);
-    };
-    asked_by(alloc, role, method, path, query.unwrap_or(&[]), body)
+    Ok(Some(asked_of(alloc, routes, role, method, target, body)?))
 }
 
-/// What a role asks by `METHOD TARGET` or `METHOD TARGET BODY`, or none where it asks for nothing that
-/// there is; `BadShape` and `NotWhole` where a query or a body is of another form.
+/// What a role asks by `METHOD TARGET` or `METHOD TARGET BODY`, or none where the words are of another form.
 #[tactic(auto, unfolding(crate::specs::Requests::request_of))]
-pub(crate) fn request_of(alloc: Global, role: &[u8], rest: &[u8]) -> Result<Option<Asked>, Refusal>
-    ensures { Gives (λ a. a) result (request_of role.now rest.now) }
+pub(crate) fn request_of(
+    alloc: Global,
+    routes: &Routes,
+    role: &[u8],
+    rest: &[u8],
+) -> Result<Option<Asked>, Problem>
+    ensures { Tells (λ a. a) result (request_of role.now rest.now) }
 {
     let (method, Some(rest)) = cut(b' ', rest) else {
         return Ok(None);
     };
     let (target, body) = cut(b' ', rest);
-    asked_of(alloc, role, method, target, body.unwrap_or(&[]))
+    line_asked(alloc, routes, role, method, target, body.unwrap_or(&[]))
 }

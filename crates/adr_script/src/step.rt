@@ -2,16 +2,17 @@
 ghost use Rattle.std.specs.Prelude.{◌≡◌, IfOk, option_map};
 ghost use Rattle.std.specs.Option.{option_copied};
 ghost use Rattle.adr_text.specs.Refusals.{Gives};
-ghost use Rattle.adr_script.specs.Cuts.{cut};
+ghost use Rattle.adr_wire.specs.Cuts.{cut};
 ghost use Rattle.adr_script.specs.Steps.{kind_from, page_step, gone_step, scan_step, probes_step, lease_named, sent_step, failed_step, word_step, step_of};
 
 use crate::asked::Asked;
-use crate::cuts::cut;
-use crate::words::{id_from, number_from};
+use crate::words::number_from;
 use adr_machine::{Command, Query, number_within};
 use adr_objects::{Kind, Number};
+use adr_routes::id_from;
 use adr_schema::read_page;
 use adr_text::Refusal;
+use adr_wire::cut;
 use std::alloc::{AllocError, Global};
 
 fn kind_from(word: &[u8]) -> Option<Kind>

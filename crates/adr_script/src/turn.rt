@@ -1,22 +1,24 @@
 //! One line's turn: it is read, taken as a step on a desk, and answered.
 ghost use Rattle.std.specs.Prelude.{◌≡◌, Ok, Some, ℕ, List, IfOk, OnErr, string_bytes};
-ghost use Rattle.adr_text.specs.Refusals.{Gives};
+ghost use Rattle.adr_reply.specs.Problems.{Tells};
 ghost use Rattle.adr_text.specs.declared.refusal.Refusal.TheVariants.{OutOfMemory};
 ghost use Rattle.adr_script.specs.Bodies.{want_by};
 ghost use Rattle.adr_script.specs.Turns.{asked_step, asks_desk, words_asked, turn_of, line_turn, want_line, Outcome, Takes, MayLeave, IsTurn};
 
 use crate::asked::Asked;
-use crate::bodies::{bad_line, outcome_text, want_by};
-use crate::cuts::cut;
+use crate::bodies::{bad_line, outcome_text, told_by};
 use crate::request::request_of;
 use crate::step::step_of;
 use crate::words::moment_from;
 use adr_machine::{Answer, Desk};
+use adr_reply::Problem;
+use adr_routes::Routes;
 use adr_text::{Moment, Refusal};
+use adr_wire::cut;
 use std::alloc::{AllocError, Global};
 
 /// Takes the step that is asked for.
-fn take_asked<D: Desk>(desk: &mut D, now: Moment, asked: &Asked) -> Result<Answer, Refusal>
+pub fn take_asked<D: Desk>(desk: &mut D, now: Moment, asked: &Asked) -> Result<Answer, Refusal>
     ensures outcome { D.is_sound desk.new → Outcome D.may_refuse (asks_desk asked.now) (D.state desk.old) (asked_step (D.settings desk.old) (D.state desk.old) now asked.now) result (D.state desk.new) }
     ensures was_sound { D.is_sound desk.new → D.is_sound desk.old }
     ensures same_settings { D.settings desk.new ≡ D.settings desk.old }
@@ -47,13 +49,18 @@ fn answer_asked<D: Desk>(
 
 /// What the words of a role, or of the node itself, ask.
 #[tactic(auto, unfolding(crate::specs::Turns::words_asked))]
-fn words_asked(alloc: Global, role: &[u8], rest: &[u8]) -> Result<Option<Asked>, Refusal>
-    ensures { Gives (λ a. a) result (words_asked role.now rest.now) }
+fn words_asked(
+    alloc: Global,
+    routes: &Routes,
+    role: &[u8],
+    rest: &[u8],
+) -> Result<Option<Asked>, Problem>
+    ensures { Tells (λ a. a) result (words_asked role.now rest.now) }
 {
     if role == b"node".as_slice() {
-        step_of(alloc, rest)
+        Ok(step_of(alloc, rest)?)
     } else {
-        request_of(alloc, role, rest)
+        request_of(alloc, routes, role, rest)
     }
 }
 
@@ -63,7 +70,7 @@ fn answer_words<D: Desk>(
     desk: &mut D,
     now: Moment,
     role: &[u8],
-    words: &Result<Option<Asked>, Refusal>,
+    words: &Result<Option<Asked>, Problem>,
 ) -> Result<String, AllocError>
     ensures ok { IfOk result (λ out. D.is_sound desk.new → Takes D.may_refuse (want_by role.now) (D.state desk.old) (turn_of (D.settings desk.old) (D.state desk.old) now role.now words.now) (string_bytes out) (D.state desk.new)) }
     ensures err { OnErr result (D.is_sound desk.new → MayLeave (D.state desk.old) (turn_of (D.settings desk.old) (D.state desk.old) now role.now words.now) (D.state desk.new)) }
@@ -73,21 +80,22 @@ fn answer_words<D: Desk>(
     match words {
         Ok(Some(asked)) => answer_asked(alloc, desk, now, role, asked),
         Ok(None) => bad_line(alloc),
-        Err(refusal) => want_by(alloc, role, *refusal),
+        Err(problem) => told_by(alloc, role, *problem),
     }
 }
 
-/// The text alone, when what it answers is done with. Over any type, since that is dropped here: where its type is known,
-/// each kind of what is asked would be a path of its own.
-fn without<T: Drop>(_answered: T, text: Result<String, AllocError>) -> Result<String, AllocError>
-    ensures { result ≡ text }
+/// What is left when a value is done with. Over any type, since that is dropped here: where its type is known, each kind
+/// of what is asked would be a path of its own.
+pub fn without<T: Drop, U>(_done_with: T, left: U) -> U
+    ensures { result ≡ left }
 {
-    text
+    left
 }
 
 /// The turn of a role, or of the node itself.
 fn answer_role<D: Desk>(
     alloc: Global,
+    routes: &Routes,
     desk: &mut D,
     now: Moment,
     role: &[u8],
@@ -99,14 +107,19 @@ fn answer_role<D: Desk>(
     ensures same_settings { D.settings desk.new ≡ D.settings desk.old }
 {
     // The words are looked at by reference: taken apart, each kind of what is asked would be a path of its own here.
-    let words = words_asked(alloc, role, rest);
+    let words = words_asked(alloc, routes, role, rest);
     let text = answer_words(alloc, desk, now, role, &words);
     without(words, text)
 }
 
 /// The turn of a line.
 #[tactic(auto, unfolding(crate::specs::Turns::line_turn, crate::specs::Turns::want_line))]
-fn take_line<D: Desk>(alloc: Global, desk: &mut D, line: &[u8]) -> Result<String, AllocError>
+fn take_line<D: Desk>(
+    alloc: Global,
+    routes: &Routes,
+    desk: &mut D,
+    line: &[u8],
+) -> Result<String, AllocError>
     ensures ok { IfOk result (λ out. D.is_sound desk.new → IsTurn D.may_refuse (D.settings desk.old) (D.state desk.old) line.now (string_bytes out) (D.state desk.new)) }
     ensures err { OnErr result (D.is_sound desk.new → MayLeave (D.state desk.old) (line_turn (D.settings desk.old) (D.state desk.old) line.now) (D.state desk.new)) }
     ensures was_sound { D.is_sound desk.new → D.is_sound desk.old }
@@ -122,7 +135,7 @@ fn take_line<D: Desk>(alloc: Global, desk: &mut D, line: &[u8]) -> Result<String
     let Some(rest) = rest else {
         return bad_line(alloc);
     };
-    answer_role(alloc, desk, now, role, rest)
+    answer_role(alloc, routes, desk, now, role, rest)
 }
 
 /// What a line prints where memory ran out.
@@ -131,20 +144,29 @@ fn want_of_memory(alloc: Global, line: &[u8]) -> Result<String, AllocError>
     ensures { IfOk result (λ out. string_bytes out ≡ want_line line.now OutOfMemory) }
 {
     match cut(b' ', line) {
-        (_, Some(rest)) => want_by(alloc, cut(b' ', rest).0, Refusal::OutOfMemory),
-        (_, None) => want_by(alloc, &[], Refusal::OutOfMemory),
+        (_, Some(rest)) => told_by(
+            alloc,
+            cut(b' ', rest).0,
+            Problem::Refused(Refusal::OutOfMemory),
+        ),
+        (_, None) => told_by(alloc, &[], Problem::Refused(Refusal::OutOfMemory)),
     }
 }
 
 /// Takes the turn of a line that isn't empty, and gives what it prints, with its LF. Where memory runs
 /// out for the reply, that refusal is printed in its place.
-pub fn answer_line<D: Desk>(alloc: Global, desk: &mut D, line: &[u8]) -> Result<String, AllocError>
+pub fn answer_line<D: Desk>(
+    alloc: Global,
+    routes: &Routes,
+    desk: &mut D,
+    line: &[u8],
+) -> Result<String, AllocError>
     ensures ok { IfOk result (λ out. D.is_sound desk.new → IsTurn D.may_refuse (D.settings desk.old) (D.state desk.old) line.now (string_bytes out) (D.state desk.new)) }
     ensures err { OnErr result (D.is_sound desk.new → MayLeave (D.state desk.old) (line_turn (D.settings desk.old) (D.state desk.old) line.now) (D.state desk.new)) }
     ensures was_sound { D.is_sound desk.new → D.is_sound desk.old }
     ensures same_settings { D.settings desk.new ≡ D.settings desk.old }
 {
-    match take_line(alloc, desk, line) {
+    match take_line(alloc, routes, desk, line) {
         Ok(text) => Ok(text),
         Err(_) => want_of_memory(alloc, line),
     }

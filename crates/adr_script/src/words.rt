@@ -1,25 +1,13 @@
-//! The words of a line: moments, numbers, ids and roles.
+//! The words of a line: moments, numbers and roles.
 ghost use Rattle.std.specs.Prelude.{◌≡◌, IfOk};
-ghost use Rattle.std.specs.Option.{option_copied};
 ghost use Rattle.adr_state.specs.Digits.{is_digit};
-ghost use Rattle.adr_script.specs.Words.{text_from, moment_from, number_from, id_from, role_from};
+ghost use Rattle.adr_script.specs.Words.{moment_from, number_from, role_from};
 
-use crate::cuts::behind;
 use adr_machine::Role;
-use adr_text::{Moment, ObjectId, Refusal};
+use adr_routes::{id_from, text_from};
+use adr_text::Moment;
+use adr_wire::behind;
 use std::alloc::{AllocError, Global};
-use std::str::from_utf8;
-
-/// The bytes, where they are text.
-#[tactic(auto, using(crate::proofs::Utf8::utf8_tests), unfolding(crate::specs::Words::text_from))]
-pub(crate) fn text_from(bytes: &[u8]) -> Option<&str>
-    ensures { option_copied result ≡ text_from bytes.now }
-{
-    match from_utf8(bytes) {
-        Ok(text) => Some(text),
-        Err(_) => None,
-    }
-}
 
 /// The moment that the bytes say.
 #[tactic(auto, unfolding(crate::specs::Words::moment_from))]
@@ -52,21 +40,6 @@ pub(crate) fn number_from(digits: &[u8]) -> Option<u64>
         number = number * 10 + (*byte - 48) as u64;
     }
     Some(number)
-}
-
-/// The object id that the bytes are.
-#[tactic(auto, unfolding(crate::specs::Words::id_from))]
-pub(crate) fn id_from(alloc: Global, bytes: &[u8]) -> Result<Option<ObjectId>, AllocError>
-    ensures { IfOk result (λ id. id ≡ id_from bytes.now) }
-{
-    let Some(text) = text_from(bytes) else {
-        return Ok(None);
-    };
-    match ObjectId::new(alloc, text) {
-        Ok(id) => Ok(Some(id)),
-        Err(Refusal::OutOfMemory) => Err(AllocError),
-        Err(_) => Ok(None),
-    }
 }
 
 /// The role that the bytes say: `operator`, `utility`, or `ven:` and an id.

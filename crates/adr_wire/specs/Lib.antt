@@ -1,4 +1,5 @@
 pub mod Cuts
+pub mod Calls
 pub mod Pieces
 pub mod Fields
 pub mod Codings

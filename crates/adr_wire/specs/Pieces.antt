@@ -1,6 +1,7 @@
 -- Bytes that come in pieces: what is ahead of a source, and what is left in it.
 use Rattle.std.specs.Prelude.{◌≡◌, ℕ, ◌+◌, ◌⊎◌, ⊤, Bool, true, false, IsTrue, IsFalse, List, ◌++◌, Option, Some, None, Result, Ok, Err}
 use Rattle.adr_text.specs.Calls.{Calls}
+use Rattle.adr_wire.specs.Calls.{NoneFails, LastFails}
 use Rattle.adr_wire.specs.declared.end.ReadEnd.{ReadEnd}
 use Rattle.adr_wire.specs.declared.end.Refused.{Refused}
 use Rattle.adr_wire.specs.declared.end.ReadEnd.TheVariants.{Bytes, Reader, OutOfMemory}
@@ -21,20 +22,6 @@ reader_failed (Ok a) = false
 reader_failed (Err (Bytes f)) = false
 reader_failed (Err Reader) = true
 reader_failed (Err OutOfMemory) = false
-
--- ---- calls of a source or a sink
-
--- no call failed
-abbrev pub NoneFails : Calls → Calls → Type 0
-NoneFails old new = new.failed ≡ old.failed
-
--- the last call failed, and no other
-abbrev pub LastFails : Calls → Calls → Type 0
-LastFails old new = (new.failed ≡ old.failed + 1) × (new.has_failed ≡ true)
-
--- as many calls were made as may be, and none failed
-abbrev pub RunsOut : ℕ → Calls → Calls → Type 0
-RunsOut most old new = (new.made ≡ old.made + most) × NoneFails old new
 
 -- Each call takes one from those that may be made; a reader's fault follows at once where one failed, or where none may be made any more, and nothing else does.
 pub record IsCounted (old : Calls) (may : ℕ) (new : Calls) (may_after : ℕ) (fault : Bool) : Type 0 where

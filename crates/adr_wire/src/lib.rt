@@ -12,6 +12,7 @@ mod fields;
 mod front;
 mod length;
 mod lines;
+mod output;
 mod trailers;
 
 pub use ahead::Ahead;
@@ -23,3 +24,4 @@ pub use fields::{is_same_letters, values};
 pub use front::{Front, MOST_FIELDS, MOST_FRONT, NeverFound, await_front};
 pub use length::read_length;
 pub use lines::has_empty_line;
+pub use output::write_all;

@@ -1,5 +1,5 @@
 use Rattle.std.proofs.Common.{◌≡◌, take}
-use Rattle.adr_script.specs.Scripts.{NoneFails}
+use Rattle.adr_wire.specs.Calls.{NoneFails}
 use Rattle.adr_script.specs.Readings.{HasRead}
 use Rattle.adr_script.proofs.script.take_piece.Given as goal
 

@@ -1,0 +1,19 @@
+//! The node as a server: a request is read, taken as a step on a desk, and answered, all as bytes.
+#![tactic(auto)]
+
+mod answering;
+mod fault;
+mod outgoing;
+mod planning;
+mod roles;
+mod serve;
+
+pub use adr_reply::{MEMORY_REPLY, Problem, Reply, render};
+pub use adr_request::{HttpRequest, read_request};
+pub use adr_routes::Routes;
+pub use adr_script::{Asked, ScriptFault, run_script};
+pub use answering::answer;
+pub use fault::ServeFault;
+pub use planning::plan;
+pub use roles::{Grant, Roles};
+pub use serve::serve_one;

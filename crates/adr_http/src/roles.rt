@@ -1,0 +1,64 @@
+//! The tokens of a node, and what each allows.
+ghost use Rattle.std.specs.Prelude.{◌≡◌, ◌<◌, IfSome, IfOk, map, length};
+ghost use Rattle.std.specs.Option.{option_copied};
+ghost use Rattle.adr_http.specs.Roles.{granted, role_of, roles_of};
+
+use adr_machine::Role;
+use adr_text::Refusal;
+use std::marker::Model;
+
+/// A token, and the role of who shows it.
+#[derive(Drop)]
+pub struct Grant {
+    pub token: Vec<u8>,
+    pub role: Role,
+}
+
+/// Who may ask: tokens, none of them twice, each with a role.
+#[derive(Drop)]
+pub struct Roles {
+    grants: Vec<Grant>,
+}
+
+impl Model for Roles {
+    ghost use Rattle.std.specs.Prelude.{ℕ, List, map};
+    ghost use Rattle.adr_queries.specs.declared.role.Role.{Role};
+    ghost use Rattle.adr_http.specs.Roles.{granted};
+
+    ghost Value = { List (List ℕ × Role) };
+
+    ghost view = { λ r. map granted r.grants.items };
+}
+
+/// The role of the first of these with that token.
+fn role_in<'g>(grants: &'g [Grant], token: &[u8]) -> Option<&'g Role>
+    ensures { option_copied result ≡ role_of (map granted grants.now) token.now }
+{
+    for grant in grants {
+        if grant.token.as_slice() == token {
+            return Some(&grant.role);
+        }
+    }
+    None
+}
+
+impl Roles {
+    /// The roles of these tokens; `BadShape` where a token stands twice.
+    pub fn new(grants: Vec<Grant>) -> Result<Roles, Refusal>
+        ensures { result ≡ roles_of (map granted grants.items) }
+    {
+        for i in 0..grants.len() {
+            if role_in(&grants[i + 1..], &grants[i].token).is_some() {
+                return Err(Refusal::BadShape);
+            }
+        }
+        Ok(Roles { grants })
+    }
+
+    /// The role of the token, where it is known. It takes no memory.
+    pub fn find(&self, token: &[u8]) -> Option<&Role>
+        ensures { option_copied result ≡ role_of self.now token.now }
+    {
+        role_in(&self.grants, token)
+    }
+}

@@ -1,0 +1,3 @@
+pub mod RenderedPieces
+pub mod MemoryReply
+pub mod Codes

@@ -1,0 +1,7 @@
+pub mod Words
+pub mod Methods
+pub mod Places
+pub mod Shapes
+pub mod Tables
+pub mod Paths
+pub mod Laws
