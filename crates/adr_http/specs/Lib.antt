@@ -1,3 +1,4 @@
 pub mod Roles
 pub mod Plans
 pub mod Serving
+pub mod Laws

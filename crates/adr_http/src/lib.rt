@@ -3,6 +3,7 @@
 
 mod answering;
 mod fault;
+pub mod laws;
 mod outgoing;
 mod planning;
 mod roles;

@@ -32,7 +32,7 @@ fn fault_problem(fault: Refused) -> Problem
 }
 
 /// What is replied to a request.
-#[tactic(auto, using(crate::proofs::Served::left_without_text))]
+#[tactic(auto, using(crate::proofs::Served::left_without_text, crate::proofs::Served::built_is_taken))]
 fn reply_to_request<D: Desk>(
     alloc: Global,
     desk: &mut D,
