@@ -13,7 +13,7 @@ use Rattle.adr_wire.specs.Pieces.{OnFault, IsReading}
 use Rattle.adr_request.specs.declared.request.HttpRequest.{HttpRequest}
 use Rattle.adr_request.specs.Requests.{RequestParts, request_parts, IsRequest}
 use Rattle.adr_script.specs.Turns.{Turn, Takes, as_defined, without_memory, refused_by_store, without_text, MayLeave, no_step, step_taken}
-use Rattle.adr_http.specs.Serving.{want_bytes, Answers, of_turn, of_memory, of_store, IsTold, IsToldAtEnd, IsServed, as_read, not_read}
+use Rattle.adr_http.specs.Serving.{want_bytes, IsBuilt, of_turn, of_memory, of_store, IsTold, IsToldAtEnd, IsServed, as_read, not_read}
 
 -- a turn whose text could not be built is told by want of memory
 pub left_without_text : {may_refuse : Type 0} (want : Refusal → List ℕ) {s t : State} {turn : Turn} → MayLeave s turn t → Takes may_refuse want s turn (want OutOfMemory) t
@@ -21,7 +21,7 @@ left_without_text want (no_step same) = without_memory refl same
 left_without_text want (step_taken taken) = without_text refl taken
 
 -- a reply that was built is that of a turn that was taken
-pub built_is_taken : {may_refuse : Type 0} {s t : State} {turn : Turn} {out : List ℕ} → Answers may_refuse s turn out t → Takes may_refuse want_bytes s turn out t
+pub built_is_taken : {may_refuse : Type 0} {s t : State} {turn : Turn} {out : List ℕ} → IsBuilt may_refuse s turn out t → Takes may_refuse want_bytes s turn out t
 built_is_taken (of_turn told same) = as_defined told same
 built_is_taken (of_memory told same) = without_memory told same
 built_is_taken (of_store may asks told same) = refused_by_store may asks told same

@@ -46,13 +46,13 @@ abbrev pub request_turn : Settings → List (List ℕ × Role) → State → ℕ
 request_turn settings roles s now r = plan_turn settings s now (plan_of roles r)
 
 -- a reply that was built, over a desk whose store may refuse, or that has none that may
-pub data Answers (may_refuse : Type 0) (s : State) (turn : Turn) (out : List ℕ) (t : State) : Type 0 where
+pub data IsBuilt (may_refuse : Type 0) (s : State) (turn : Turn) (out : List ℕ) (t : State) : Type 0 where
   -- that of the turn, and the state of its step
-  of_turn : out ≡ turn.text → t ≡ turn.state → Answers may_refuse s turn out t
+  of_turn : out ≡ turn.text → t ≡ turn.state → IsBuilt may_refuse s turn out t
   -- want of memory in its place, and no step
-  of_memory : out ≡ want_bytes OutOfMemory → t ≡ s → Answers may_refuse s turn out t
+  of_memory : out ≡ want_bytes OutOfMemory → t ≡ s → IsBuilt may_refuse s turn out t
   -- the store's refusal in its place, where the desk is asked and its store may refuse, and no step
-  of_store : may_refuse → turn.asks ≡ true → out ≡ want_bytes Store → t ≡ s → Answers may_refuse s turn out t
+  of_store : may_refuse → turn.asks ≡ true → out ≡ want_bytes Store → t ≡ s → IsBuilt may_refuse s turn out t
 
 -- the problem of bytes that are no request
 abbrev pub fault_problem : Refused → Problem

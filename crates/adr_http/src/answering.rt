@@ -2,7 +2,7 @@
 ghost use Rattle.std.specs.Prelude.{◌≡◌, Ok, IfOk, OnErr};
 ghost use Rattle.adr_request.specs.Requests.{request_parts};
 ghost use Rattle.adr_script.specs.Turns.{MayLeave};
-ghost use Rattle.adr_http.specs.Serving.{problem_bytes, plan_turn, request_turn, Answers};
+ghost use Rattle.adr_http.specs.Serving.{problem_bytes, plan_turn, request_turn, IsBuilt};
 
 use crate::planning::plan;
 use crate::roles::Roles;
@@ -29,7 +29,7 @@ fn answer_asked<D: Desk>(
     now: Moment,
     asked: &Asked,
 ) -> Result<Vec<u8>, AllocError>
-    ensures ok { IfOk result (λ out. D.is_sound desk.new → Answers D.may_refuse (D.state desk.old) (plan_turn (D.settings desk.old) (D.state desk.old) now (Ok asked.now)) out.items (D.state desk.new)) }
+    ensures ok { IfOk result (λ out. D.is_sound desk.new → IsBuilt D.may_refuse (D.state desk.old) (plan_turn (D.settings desk.old) (D.state desk.old) now (Ok asked.now)) out.items (D.state desk.new)) }
     ensures err { OnErr result (D.is_sound desk.new → MayLeave (D.state desk.old) (plan_turn (D.settings desk.old) (D.state desk.old) now (Ok asked.now)) (D.state desk.new)) }
     ensures was_sound { D.is_sound desk.new → D.is_sound desk.old }
     ensures same_settings { D.settings desk.new ≡ D.settings desk.old }
@@ -46,7 +46,7 @@ fn answer_plan<D: Desk>(
     now: Moment,
     plan: &Result<Asked, Problem>,
 ) -> Result<Vec<u8>, AllocError>
-    ensures ok { IfOk result (λ out. D.is_sound desk.new → Answers D.may_refuse (D.state desk.old) (plan_turn (D.settings desk.old) (D.state desk.old) now plan.now) out.items (D.state desk.new)) }
+    ensures ok { IfOk result (λ out. D.is_sound desk.new → IsBuilt D.may_refuse (D.state desk.old) (plan_turn (D.settings desk.old) (D.state desk.old) now plan.now) out.items (D.state desk.new)) }
     ensures err { OnErr result (D.is_sound desk.new → MayLeave (D.state desk.old) (plan_turn (D.settings desk.old) (D.state desk.old) now plan.now) (D.state desk.new)) }
     ensures was_sound { D.is_sound desk.new → D.is_sound desk.old }
     ensures same_settings { D.settings desk.new ≡ D.settings desk.old }
@@ -67,7 +67,7 @@ pub fn answer<D: Desk>(
     request: &HttpRequest,
     now: Moment,
 ) -> Result<Vec<u8>, AllocError>
-    ensures ok { IfOk result (λ out. D.is_sound desk.new → Answers D.may_refuse (D.state desk.old) (request_turn (D.settings desk.old) roles.now (D.state desk.old) now (request_parts request.now)) out.items (D.state desk.new)) }
+    ensures ok { IfOk result (λ out. D.is_sound desk.new → IsBuilt D.may_refuse (D.state desk.old) (request_turn (D.settings desk.old) roles.now (D.state desk.old) now (request_parts request.now)) out.items (D.state desk.new)) }
     ensures err { OnErr result (D.is_sound desk.new → MayLeave (D.state desk.old) (request_turn (D.settings desk.old) roles.now (D.state desk.old) now (request_parts request.now)) (D.state desk.new)) }
     ensures was_sound { D.is_sound desk.new → D.is_sound desk.old }
     ensures same_settings { D.settings desk.new ≡ D.settings desk.old }
