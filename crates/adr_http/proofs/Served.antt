@@ -8,7 +8,7 @@ use Rattle.adr_queries.specs.declared.role.Role.{Role}
 use Rattle.adr_wire.specs.declared.end.ReadEnd.{ReadEnd}
 use Rattle.adr_wire.specs.declared.end.ReadEnd.TheVariants.{Bytes, Reader}
 use Rattle.adr_wire.specs.declared.end.ReadEnd.TheVariants as end
-use Rattle.adr_wire.specs.declared.end.Refused.{Refused}
+use Rattle.adr_wire.specs.declared.end.MessageFault.{MessageFault}
 use Rattle.adr_wire.specs.Pieces.{OnFault, IsReading}
 use Rattle.adr_request.specs.declared.request.HttpRequest.{HttpRequest}
 use Rattle.adr_request.specs.Requests.{RequestParts, request_parts, IsRequest}
@@ -28,7 +28,7 @@ built_is_taken (of_store may asks told same) = refused_by_store may asks told sa
 
 -- what is told where no request was read is the reply to these bytes
 module _ {may_refuse : Type 0} (settings : Settings) (roles : List (List ℕ × Role)) (s : State) (now : ℕ) (bytes out : List ℕ) where
-  fault_served : (f : Refused) → IsRequest bytes (Err f) → IsTold out f → IsServed may_refuse settings roles s now bytes out s
+  fault_served : (f : MessageFault) → IsRequest bytes (Err f) → IsTold out f → IsServed may_refuse settings roles s now bytes out s
   fault_served f is (inl told) = as_read (Err f) is (as_defined told refl)
   fault_served f is (inr none) = not_read none refl
 

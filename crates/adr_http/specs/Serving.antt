@@ -6,8 +6,8 @@ use Rattle.adr_text.specs.declared.refusal.Refusal.TheVariants.{OutOfMemory, Sto
 use Rattle.adr_wire.specs.Calls.{WritesPart}
 use Rattle.adr_wire.specs.declared.end.ReadEnd.{ReadEnd}
 use Rattle.adr_wire.specs.declared.end.ReadEnd.TheVariants as end
-use Rattle.adr_wire.specs.declared.end.Refused.{Refused}
-use Rattle.adr_wire.specs.declared.end.Refused.TheVariants as fault
+use Rattle.adr_wire.specs.declared.end.MessageFault.{MessageFault}
+use Rattle.adr_wire.specs.declared.end.MessageFault.TheVariants as fault
 use Rattle.adr_state.specs.declared.state.State.{State}
 use Rattle.adr_state.specs.declared.limits.Settings.{Settings}
 use Rattle.adr_queries.specs.declared.role.Role.{Role}
@@ -55,18 +55,18 @@ pub data IsBuilt (may_refuse : Type 0) (s : State) (turn : Turn) (out : List ℕ
   of_store : may_refuse → turn.asks ≡ true → out ≡ want_bytes Store → t ≡ s → IsBuilt may_refuse s turn out t
 
 -- the problem of bytes that are no request
-abbrev pub fault_problem : Refused → Problem
+abbrev pub fault_problem : MessageFault → Problem
 fault_problem fault.Malformed = problem.BadRequest
 fault_problem fault.TooLarge = problem.TooLarge
 fault_problem fault.NoCoding = problem.NoCoding
 
 -- the turn of what was read: bytes that are no request take no step
-abbrev pub reading_turn : Settings → List (List ℕ × Role) → State → ℕ → Result RequestParts Refused → Turn
+abbrev pub reading_turn : Settings → List (List ℕ × Role) → State → ℕ → Result RequestParts MessageFault → Turn
 reading_turn settings roles s now (Ok r) = request_turn settings roles s now r
 reading_turn settings roles s now (Err f) = at_once (problem_bytes (fault_problem f)) s
 
 -- what is told of bytes that are no request: their problem, or want of memory in its place
-abbrev pub IsTold : List ℕ → Refused → Type 0
+abbrev pub IsTold : List ℕ → MessageFault → Type 0
 IsTold out f = (out ≡ problem_bytes (fault_problem f)) ⊎ (out ≡ want_bytes OutOfMemory)
 
 -- what is told where no request was read: nothing, where a read failed
@@ -78,7 +78,7 @@ IsToldAtEnd out end.OutOfMemory = out ≡ want_bytes OutOfMemory
 -- what is replied to bytes, and the state behind it, over a desk whose store may refuse, or that has none that may
 pub data IsServed (may_refuse : Type 0) (settings : Settings) (roles : List (List ℕ × Role)) (s : State) (now : ℕ) (bytes out : List ℕ) (t : State) : Type 0 where
   -- the reply to what the bytes are read as, and the state of its step
-  as_read : (read : Result RequestParts Refused) → IsRequest bytes read → Takes may_refuse want_bytes s (reading_turn settings roles s now read) out t → IsServed may_refuse settings roles s now bytes out t
+  as_read : (read : Result RequestParts MessageFault) → IsRequest bytes read → Takes may_refuse want_bytes s (reading_turn settings roles s now read) out t → IsServed may_refuse settings roles s now bytes out t
   -- memory ran out while they were read, and no step is taken
   not_read : out ≡ want_bytes OutOfMemory → t ≡ s → IsServed may_refuse settings roles s now bytes out t
 

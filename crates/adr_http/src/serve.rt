@@ -1,9 +1,9 @@
 //! One request, from its bytes to those of its reply.
-ghost use Rattle.std.specs.Prelude.{◌≡◌, ◌≢◌, ◌⊎◌, ◌≤◌, ◌+◌, IfSome, IfOk, OnOk, Some, Err, ℕ, List};
+ghost use Rattle.std.specs.Prelude.{◌≡◌, ◌≢◌, ◌⊎◌, ◌≤◌, ◌+◌, IfSome, IfOk, OnOk, Some, Ok, Err, ℕ, List, []};
 ghost use Rattle.adr_wire.specs.Calls.{NoneFails, LastFails, RunsOut};
-ghost use Rattle.adr_wire.specs.Pieces.{IsReading};
+ghost use Rattle.adr_wire.specs.Pieces.{OfWhatCame, IsReading};
 ghost use Rattle.adr_wire.specs.declared.end.ReadEnd.TheVariants as read_end;
-ghost use Rattle.adr_request.specs.Requests.{request_parts, IsRequest};
+ghost use Rattle.adr_request.specs.Requests.{RequestParts, request_parts, IsRequest};
 ghost use Rattle.adr_script.specs.Turns.{Takes};
 ghost use Rattle.adr_http.specs.Serving.{problem_bytes, want_bytes, fault_problem, request_turn, outgoing_bytes, IsTold, IsToldAtEnd, IsServed, Serves, ServesPart};
 ghost use Rattle.adr_http.specs.declared.fault.ServeFault.TheVariants.{Read, Write};
@@ -17,17 +17,17 @@ use adr_reply::Problem;
 use adr_request::{HttpRequest, MOST_READS, read_request};
 use adr_routes::Routes;
 use adr_text::{Moment, Sink, Source};
-use adr_wire::{ReadEnd, Refused, write_all};
+use adr_wire::{MessageFault, ReadEnd, write_all};
 use std::alloc::Global;
 
 /// The problem of bytes that are no request.
-fn fault_problem(fault: Refused) -> Problem
+fn fault_problem(fault: MessageFault) -> Problem
     ensures { result ≡ fault_problem fault }
 {
     match fault {
-        Refused::Malformed => Problem::BadRequest,
-        Refused::TooLarge => Problem::TooLarge,
-        Refused::NoCoding => Problem::NoCoding,
+        MessageFault::Malformed => Problem::BadRequest,
+        MessageFault::TooLarge => Problem::TooLarge,
+        MessageFault::NoCoding => Problem::NoCoding,
     }
 }
 
@@ -52,7 +52,7 @@ fn reply_to_request<D: Desk>(
 }
 
 /// What is replied to bytes that are no request.
-fn reply_to_fault(alloc: Global, fault: Refused) -> Outgoing
+fn reply_to_fault(alloc: Global, fault: MessageFault) -> Outgoing
     ensures { IsTold (outgoing_bytes result) fault }
 {
     match problem_bytes(alloc, fault_problem(fault)) {
@@ -115,6 +115,8 @@ pub fn serve_one<D: Desk, S: Source, W: Sink>(
     ensures part { result ≡ Err Write → IfSome (S.left source.old) (λ bytes. D.is_sound desk.new → ServesPart D.may_refuse (D.settings desk.old) roles.now (D.state desk.old) now bytes (D.state desk.new) (W.written sink.old) (W.written sink.new)) }
     ensures nothing { result ≡ Err Read → (sink.new ≡ sink.old) × (D.is_sound desk.new → D.state desk.new ≡ D.state desk.old) }
     ensures reads { (S.calls source.new).made ≤ (S.calls source.old).made + MOST_READS }
+    // Where a read failed, what had come was no whole request: nothing is asked for behind one.
+    ensures unfinished { result ≡ Err Read → OfWhatCame (S.left source.old) [] (S.left source.new) (λ came. (request : RequestParts) → ¬ (IsRequest came (Ok request))) }
     ensures read_fault { result ≡ Err Read → LastFails (S.calls source.old) (S.calls source.new) ⊎ RunsOut MOST_READS (S.calls source.old) (S.calls source.new) }
     ensures no_read_fault { result ≢ Err Read → NoneFails (S.calls source.old) (S.calls source.new) }
     ensures write_fault { result ≡ Err Write → LastFails (W.calls sink.old) (W.calls sink.new) }

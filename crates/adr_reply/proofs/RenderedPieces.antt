@@ -1,7 +1,8 @@
 -- Pieces put one after another.
 use Rattle.std.proofs.Common.{◌≡◌, ℕ, List, [], ◌++◌, sym, ap, ◌∙◌, Some, None, Option, append_assoc, unwrap_or, length, codes, decimal, subst}
 use Rattle.http.specs.StatusCode.{reason_phrase}
-use Rattle.adr_reply.specs.Replies.{phrase, line}
+use Rattle.adr_wire.specs.Written.{line}
+use Rattle.adr_reply.specs.Replies.{phrase}
 
 pub assembled : (o0 o1 o2 o3 o4 o5 o6 o7 s t x k e c b : List ℕ) (n : ℕ) → o0 ≡ [] → o1 ≡ o0 ++ s → o2 ≡ o1 ++ t → o3 ≡ o2 ++ line (codes "Content-Length", decimal n) → o4 ≡ o3 ++ x → o5 ≡ o4 ++ k → o6 ≡ o5 ++ e → o7 ≡ o6 ++ c
     → n ≡ length b → c ≡ b → o7 ≡ s ++ (t ++ (line (codes "Content-Length", decimal (length b)) ++ (x ++ (k ++ (e ++ b)))))

@@ -2,6 +2,7 @@
 use Rattle.std.specs.Prelude.{ℕ, Bool, List, [], ◌∷◌, ◌++◌, length, codes, decimal, if◌then◌else◌, unwrap_or, string_bytes}
 use Rattle.std.specs.List.{flat_map}
 use Rattle.http.specs.StatusCode.{reason_phrase}
+use Rattle.adr_wire.specs.Written.{crlf, line}
 use Rattle.adr_routes.specs.declared.methods.Methods.{Methods}
 use Rattle.adr_reply.specs.declared.reply.Extra.{Extra}
 use Rattle.adr_reply.specs.declared.reply.Extra.TheVariants.{Nothing, Challenge, Allow}
@@ -19,13 +20,6 @@ reply_parts r = record { status = r.status; extra = r.extra; body = string_bytes
 -- the phrase of a status
 abbrev pub phrase : ℕ → List ℕ
 phrase status = unwrap_or (reason_phrase status) []
-
-abbrev pub crlf : List ℕ
-crlf = 13 ∷ 10 ∷ []
-
--- a field, by its name and its value
-abbrev pub line : List ℕ × List ℕ → List ℕ
-line field = field.0 ++ (codes ": " ++ (field.1 ++ crlf))
 
 abbrev pub start_line : ℕ → List ℕ
 start_line status = codes "HTTP/1.1 " ++ (decimal status ++ (codes " " ++ (phrase status ++ crlf)))

@@ -1,23 +1,15 @@
 //! The fields of a reply, one after another.
 ghost use Rattle.std.specs.Prelude.{◌≡◌, ◌++◌, ◌≤◌, ◌<◌, decimal, IfOk, OnOk, codes};
 ghost use Rattle.std.specs.List.{flat_map};
-ghost use Rattle.adr_reply.specs.Replies.{phrase, line, start_line, with_method, allow_text, extra_fields};
+ghost use Rattle.adr_wire.specs.Written.{line};
+ghost use Rattle.adr_reply.specs.Replies.{phrase, start_line, with_method, allow_text, extra_fields};
 
 use crate::reply::Extra;
 use adr_routes::Methods;
+use adr_wire::put_line;
 use http::StatusCode;
 use itoa::Buffer;
 use std::alloc::{AllocError, Global};
-
-/// Puts one field.
-pub(crate) fn put_line(out: &mut Vec<u8>, name: &[u8], value: &[u8]) -> Result<(), AllocError>
-    ensures { OnOk result (out.new.items ≡ out.old.items ++ line (name.now, value.now)) }
-{
-    out.extend_from_slice(name)?;
-    out.extend_from_slice(b": ")?;
-    out.extend_from_slice(value)?;
-    out.extend_from_slice(b"\r\n")
-}
 
 /// The phrase of a status (RFC 9110, section 15).
 #[tactic(auto, using(crate::proofs::RenderedPieces::phrase_is, crate::proofs::RenderedPieces::no_phrase))]
@@ -46,14 +38,6 @@ pub(crate) fn put_start(out: &mut Vec<u8>, status: u16) -> Result<(), AllocError
     out.extend_from_slice(phrase_of(status).as_bytes())?;
     out.extend_from_slice(b"\r\n")?;
     Ok(())
-}
-
-/// Puts the length of the body.
-pub(crate) fn put_length(out: &mut Vec<u8>, n: usize) -> Result<(), AllocError>
-    ensures { OnOk result (out.new.items ≡ out.old.items ++ line (codes "Content-Length", decimal n)) }
-{
-    let mut buffer = Buffer::new();
-    put_line(out, b"Content-Length", buffer.format(n).as_bytes())
 }
 
 fn put_method(text: &mut Vec<u8>, is_there: bool, word: &[u8]) -> Result<(), AllocError>

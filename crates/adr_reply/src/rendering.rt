@@ -3,8 +3,9 @@ ghost use Rattle.std.specs.Prelude.{◌≡◌, IfOk};
 ghost use Rattle.adr_reply.specs.Problems.{memory_problem};
 ghost use Rattle.adr_reply.specs.Replies.{reply_parts, reply_bytes};
 
-use crate::fields::{put_extra, put_length, put_line, put_start};
+use crate::fields::{put_extra, put_start};
 use crate::reply::Reply;
+use adr_wire::{put_length, put_line};
 use std::alloc::{AllocError, Global};
 
 /// The reply where memory ran out.

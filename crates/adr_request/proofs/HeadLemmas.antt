@@ -1,12 +1,15 @@
 -- When bytes begin with no head, from what the parser says of a part of them.
-use Rattle.std.proofs.Common.{◌≡◌, ℕ, ◌≤◌, List, ◌++◌, length, drop, refl, sym, subst, arith, Option, None, Some}
-use Rattle.httparse.specs.Grammar.{RequestHead, print_request, ReadsRequest, HasNoRequest}
+use Rattle.std.proofs.Common.{◌≡◌, ◌⊎◌, inl, inr, ℕ, ◌<◌, ◌≤◌, true, false, leb, List, ◌∷◌, ◌++◌, length, take, drop, refl, sym, ◌∙◌, ap, subst, arith, Option, None, Some}
+use Rattle.std.proofs.lemmas.Bool.Decides.{leb_tells}
+use Rattle.httparse.specs.Grammar.{RequestHead, print_request, print_blank, print_version, print_end, print_section, ReadsRequest, HasNoRequest}
 use Rattle.httparse.specs.Spans.{IsRequestAt, RequestOverflows}
 use Rattle.httparse.specs.declared.spans.HeaderSpan.{HeaderSpan}
 use Rattle.httparse.specs.declared.spans.RequestSpans.{RequestSpans}
 use Rattle.httparse.proofs.GrammarLemmas.{ReadsRequest-append}
 use Rattle.adr_wire.specs.Pieces.{Holds}
+use Rattle.adr_wire.specs.Lines.{is_empty_line_at}
 use Rattle.adr_wire.proofs.Fronts.{front_of, few_fields}
+use Rattle.adr_wire.proofs.LineEnds.{EndsLine, ends_with_end, front_within, some_section, no_section_end}
 use Rattle.adr_request.specs.Heads.{HeadAt, HasNoHead, HeadFound}
 
 -- an error: whatever follows, there are more fields than there is room for
@@ -26,6 +29,33 @@ no_head_full ahead more none full = λ h rest at.
     let small : length (print_request h) ≤ length ahead = let w = at.within in omega arith in
     let m = front_of (print_request h) ahead more rest at.reads.1 small in
     none h m.0 (at.reads.0, m.1)
+
+-- what stands before the fields ends a line
+request_front : (h : RequestHead) → (a : List ℕ) × EndsLine a × (print_request h ≡ a ++ print_section h.fields h.last)
+unfolding print_request
+request_front h =
+    let a : List ℕ = ((print_blank h.blank ++ h.method) ++ 32 ∷ h.target) ++ 32 ∷ print_version h.minor in
+    (a ++ print_end h.line_end, ends_with_end a h.line_end, refl)
+
+-- no empty line ends behind the first from bytes, and there is no head in these: so there is none
+pub no_head_yet : (bytes : List ℕ) (from : ℕ) → ((place : ℕ) → from ≤ place → place < length bytes → is_empty_line_at place bytes ≡ false)
+    → (0 < from → HasNoHead (take from bytes)) → HasNoHead bytes
+no_head_yet bytes from ended before = λ h rest at. by h rest at (leb_tells (length (print_request h)) from)
+  where
+    by : (h : RequestHead) (rest : List ℕ) → HeadAt bytes h rest
+        → ((leb (length (print_request h)) from ≡ true) × (length (print_request h) ≤ from)) ⊎ ((leb (length (print_request h)) from ≡ false) × (from < length (print_request h))) → ⊥
+    by h rest at (inl is) =
+        let m = front_within bytes (print_request h) rest from at.reads.1 is.1 in
+        let front = request_front h in
+        let long = ap length front.2 in
+        let some = some_section front.0 h.fields h.last in
+        let small = is.1 in
+        before (omega (arith, long, some)) h m.0 (record { reads = (at.reads.0, m.1); within = at.within; few = at.few })
+    by h rest at (inr is) =
+        let front = request_front h in
+        let large = is.1 in
+        let long = ap length front.2 in
+        no_section_end bytes front.0 h.fields h.last rest from front.1 (at.reads.1 ∙ ap (λ z. z ++ rest) front.2) (omega (arith, long)) ended
 
 -- the head that was found, and what follows it
 pub head_at : (left : Option (List ℕ)) (ahead bytes : List ℕ) (headers : List HeaderSpan) (spans : RequestSpans) (h : RequestHead)

@@ -4,8 +4,8 @@ use Rattle.httparse.specs.Spans.{name_and_value, IsRequestWithin, IsRequestOf}
 use Rattle.httparse.specs.Grammar.{RequestHead, print_request, ReadsRequest}
 use Rattle.httparse.specs.declared.spans.HeaderSpan.{HeaderSpan}
 use Rattle.httparse.specs.declared.spans.RequestSpans.{RequestSpans}
-use Rattle.adr_wire.specs.declared.end.Refused.{Refused}
-use Rattle.adr_wire.specs.declared.end.Refused.TheVariants.{Malformed}
+use Rattle.adr_wire.specs.declared.end.MessageFault.{MessageFault}
+use Rattle.adr_wire.specs.declared.end.MessageFault.TheVariants.{Malformed}
 use Rattle.adr_wire.specs.declared.extent.Extent.{Extent}
 use Rattle.adr_wire.specs.Fields.{values}
 use Rattle.adr_wire.specs.Extents.{extent_in}
@@ -45,15 +45,15 @@ fits_version minor fields =
     else length (values (codes "host") fields) == 1
 
 -- where the body ends, which has at most 1 MiB
-unfoldable pub request_extent : ℕ → List (List ℕ × List ℕ) → Result Extent Refused
+unfoldable pub request_extent : ℕ → List (List ℕ × List ℕ) → Result Extent MessageFault
 request_extent minor fields = if fits_version minor fields then extent_in 1048576 fields else Err Malformed
 
 -- the head, with what its fields say
-abbrev pub head_with : RequestHead → Result Extent Refused → Result HeadParts Refused
+abbrev pub head_with : RequestHead → Result Extent MessageFault → Result HeadParts MessageFault
 head_with h (Ok extent) = Ok (record { method = h.method; target = h.target; token = token_in (map name_and_value h.fields); extent = extent })
 head_with h (Err f) = Err f
 
-abbrev pub head_in : RequestHead → Result HeadParts Refused
+abbrev pub head_in : RequestHead → Result HeadParts MessageFault
 head_in h = head_with h (request_extent h.minor (map name_and_value h.fields))
 
 -- the bytes begin with a head that says this, and rest follows it
@@ -61,6 +61,6 @@ abbrev pub IsHead : List ℕ → HeadParts → List ℕ → Type 0
 IsHead bytes head rest = (h : RequestHead) × HeadAt bytes h rest × (head_in h ≡ Ok head)
 
 -- the bytes begin with no head, or with one that is refused
-abbrev pub IsRefusedHead : List ℕ → Refused → Type 0
+abbrev pub IsRefusedHead : List ℕ → MessageFault → Type 0
 IsRefusedHead bytes f =
     (HasNoHead bytes × (f ≡ Malformed)) ⊎ ((h : RequestHead) × (rest : List ℕ) × HeadAt bytes h rest × (head_in h ≡ Err f))

@@ -1,6 +1,6 @@
 -- What the bytes of a request are read as.
 use Rattle.std.specs.Prelude.{◌≡◌, [], List, ℕ, option_map, Option, Result, Ok, Err}
-use Rattle.adr_wire.specs.declared.end.Refused.{Refused}
+use Rattle.adr_wire.specs.declared.end.MessageFault.{MessageFault}
 use Rattle.adr_wire.specs.declared.extent.Extent.{Extent}
 use Rattle.adr_wire.specs.declared.extent.Extent.TheVariants.{Unsaid, Length, Chunked}
 use Rattle.adr_wire.specs.Lengths.{body_of_length}
@@ -9,7 +9,7 @@ use Rattle.adr_request.specs.Heads.{HeadParts, IsHead, IsRefusedHead}
 use Rattle.adr_request.specs.declared.request.HttpRequest.{HttpRequest}
 
 -- what the body is, where the bytes are those after the head
-abbrev pub IsBody : Extent → List ℕ → Result (List ℕ) Refused → Type 0
+abbrev pub IsBody : Extent → List ℕ → Result (List ℕ) MessageFault → Type 0
 IsBody Unsaid bytes read = read ≡ Ok []
 IsBody (Length n) bytes read = read ≡ body_of_length n bytes
 IsBody Chunked bytes read = IsChunks 1048576 0 bytes read
@@ -25,14 +25,14 @@ abbrev pub request_parts : HttpRequest → RequestParts
 request_parts r = record { method = r.method.items; target = r.target.items; token = option_map (λ v. v.items) r.token; body = r.body.items }
 
 -- the head with its body
-abbrev pub request_with : HeadParts → Result (List ℕ) Refused → Result RequestParts Refused
+abbrev pub request_with : HeadParts → Result (List ℕ) MessageFault → Result RequestParts MessageFault
 request_with head (Ok body) = Ok (record { method = head.method; target = head.target; token = head.token; body = body })
 request_with head (Err f) = Err f
 
 -- A head goes first, with its faults, and then the body.
-pub data IsRequest (bytes : List ℕ) : Result RequestParts Refused → Type 0 where
+pub data IsRequest (bytes : List ℕ) : Result RequestParts MessageFault → Type 0 where
   -- there is no head, or it is refused
-  refused : (f : Refused) → IsRefusedHead bytes f → IsRequest bytes (Err f)
+  refused : (f : MessageFault) → IsRefusedHead bytes f → IsRequest bytes (Err f)
   -- a head, and what the bytes behind it are as its body
-  request : (head : HeadParts) (rest : List ℕ) (body : Result (List ℕ) Refused) → IsHead bytes head rest → IsBody head.extent rest body
+  request : (head : HeadParts) (rest : List ℕ) (body : Result (List ℕ) MessageFault) → IsHead bytes head rest → IsBody head.extent rest body
       → IsRequest bytes (request_with head body)

@@ -1,6 +1,6 @@
 //! The body of a request (RFC 9112, section 6).
-ghost use Rattle.std.specs.Prelude.{◌≤◌, ℕ, List, length};
-ghost use Rattle.adr_wire.specs.Pieces.{Holds, IsReading, IsCounted, reader_failed};
+ghost use Rattle.std.specs.Prelude.{◌≤◌, ℕ, List, length, Ok, IsTrue};
+ghost use Rattle.adr_wire.specs.Pieces.{Holds, OfWhatCame, IsReading, IsCounted, reader_failed};
 ghost use Rattle.adr_request.specs.Requests.{IsBody};
 
 use crate::head::MOST_BODY;
@@ -18,6 +18,8 @@ pub(crate) fn read_body<S: Source>(
     requires { length ahead.old.bytes ≤ 16384 }
     ensures reading { IsReading (λ v. v.items) result (λ read. (bytes : List ℕ) → Holds (S.left source.old) ahead.old.bytes bytes
         → IsBody extent bytes read) }
+    ensures unfinished { IsTrue (reader_failed result) → OfWhatCame (S.left source.old) ahead.old.bytes (S.left source.new)
+        (λ came. (body : List ℕ) → ¬ (IsBody extent came (Ok body))) }
     ensures counted { IsCounted (S.calls source.old) ahead.old.reads_left (S.calls source.new) ahead.new.reads_left (reader_failed result) }
 {
     match extent {

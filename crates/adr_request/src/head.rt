@@ -1,14 +1,14 @@
 //! What the head of a request says.
-ghost use Rattle.std.specs.Prelude.{◌≡◌, ◌≤◌, ℕ, List, length, map, All, OnOk, IfOk, IsFalse};
+ghost use Rattle.std.specs.Prelude.{◌≡◌, ◌≤◌, ℕ, List, length, map, All, OnOk, IfOk, IsTrue, IsFalse};
 ghost use Rattle.httparse.specs.Grammar.{RequestHead};
 ghost use Rattle.httparse.specs.Spans.{IsHeaderWithin, IsRequestWithin, IsRequestAt, header_bytes};
-ghost use Rattle.adr_wire.specs.Pieces.{Holds, IfRefused, IsReading, IsCounted, reader_failed};
-ghost use Rattle.adr_request.specs.Heads.{fits_version, request_extent, head_parts, head_in, IsHead, IsRefusedHead};
+ghost use Rattle.adr_wire.specs.Pieces.{Holds, OfWhatCame, IfRefused, IsReading, IsCounted, reader_failed};
+ghost use Rattle.adr_request.specs.Heads.{HasNoHead, fits_version, request_extent, head_parts, head_in, IsHead, IsRefusedHead};
 
 use crate::authorization::token_in;
 use crate::head_front::HeadFront;
 use adr_text::Source;
-use adr_wire::{Ahead, Extent, ReadEnd, Refused, await_front, extent_of, values};
+use adr_wire::{Ahead, Extent, MessageFault, ReadEnd, await_front, extent_of, values};
 use httparse::spans::{HeaderSpan, RequestSpans};
 use std::alloc::{AllocError, Global};
 
@@ -56,7 +56,7 @@ fn request_extent(
     ensures only { IsFalse (reader_failed result) }
 {
     if !fits_version(alloc, version, buf, headers)? {
-        return Err(ReadEnd::Bytes(Refused::Malformed));
+        return Err(ReadEnd::Bytes(MessageFault::Malformed));
     }
     extent_of(alloc, buf, headers, MOST_BODY)
 }
@@ -98,6 +98,7 @@ pub(crate) fn read_head<S: Source>(
     ensures refused { IfRefused result (λ f. (bytes : List ℕ) → Holds (S.left source.old) ahead.old.bytes bytes
         → IsRefusedHead bytes f) }
     ensures limit { OnOk result (length ahead.new.bytes ≤ 16384) }
+    ensures unfinished { IsTrue (reader_failed result) → OfWhatCame (S.left source.old) ahead.old.bytes (S.left source.new) HasNoHead }
     ensures counted { IsCounted (S.calls source.old) ahead.old.reads_left (S.calls source.new) ahead.new.reads_left (reader_failed result) }
 {
     let mut front = HeadFront::new();

@@ -1,9 +1,9 @@
 //! Requests.
-ghost use Rattle.std.specs.Prelude.{◌≡◌, ◌≢◌, ◌+◌, ◌⊎◌, ◌≤◌, ℕ, List, Some, Err};
+ghost use Rattle.std.specs.Prelude.{◌≡◌, ◌≢◌, ◌+◌, ◌⊎◌, ◌≤◌, ℕ, List, [], Some, Ok, Err};
 ghost use Rattle.adr_wire.specs.Calls.{NoneFails, LastFails, RunsOut};
-ghost use Rattle.adr_wire.specs.Pieces.{IsReading};
+ghost use Rattle.adr_wire.specs.Pieces.{OfWhatCame, IsReading};
 ghost use Rattle.adr_wire.specs.declared.end.ReadEnd.TheVariants.{Reader};
-ghost use Rattle.adr_request.specs.Requests.{request_parts, IsRequest};
+ghost use Rattle.adr_request.specs.Requests.{RequestParts, request_parts, IsRequest};
 
 use crate::body::read_body;
 use crate::head::read_head;
@@ -32,6 +32,8 @@ pub struct HttpRequest {
 pub fn read_request<S: Source>(alloc: Global, source: &mut S) -> Result<HttpRequest, ReadEnd>
     ensures reading { IsReading request_parts result (λ read. (bytes : List ℕ) → S.left source.old ≡ Some bytes → IsRequest bytes read) }
     ensures reads { (S.calls source.new).made ≤ (S.calls source.old).made + MOST_READS }
+    // Where the reader failed, what had come was no whole request: nothing is asked for behind one.
+    ensures unfinished { result ≡ Err Reader → OfWhatCame (S.left source.old) [] (S.left source.new) (λ came. (request : RequestParts) → ¬ (IsRequest came (Ok request))) }
     ensures read_fault { result ≡ Err Reader → LastFails (S.calls source.old) (S.calls source.new) ⊎ RunsOut MOST_READS (S.calls source.old) (S.calls source.new) }
     ensures no_read_fault { result ≢ Err Reader → NoneFails (S.calls source.old) (S.calls source.new) }
 {

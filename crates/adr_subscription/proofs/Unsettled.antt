@@ -1,14 +1,14 @@
 -- By what a subscription is refused that isn't settled.
-use Rattle.std.proofs.Common.{◌≡◌, ◌≢◌, nat_le, length, Bool, true, false, cond, List, [], ◌∷◌, None, Result, Ok, Err, IfErr, refl, subst}
+use Rattle.std.proofs.Common.{◌≡◌, ◌≢◌, ℕ, nat_le, length, Bool, true, false, cond, List, [], ◌∷◌, None, Result, Ok, Err, IfErr, refl, subst}
 use Rattle.std.proofs.lemmas.Result.{IfErr-at_err}
-use Rattle.url.specs.Parts.{Parts, serialize}
+use Rattle.url.specs.Parts.{Parts}
 use Rattle.url.specs.Parser.{Parsed, parse_url}
 use Rattle.adr_text.specs.Refusals.{◌>>=◌, Fails}
 use Rattle.adr_text.specs.declared.refusal.Refusal.{Refusal}
 use Rattle.adr_text.specs.declared.refusal.Refusal.TheVariants.{Store, BadShape}
 use Rattle.adr_subscription.specs.declared.item.SubscriptionItem.{SubscriptionItem}
 use Rattle.adr_subscription.specs.declared.subscription.SubIn.{SubIn}
-use Rattle.adr_subscription.specs.Callbacks.{is_callback, address_as, callback_text, settled_address, settled_item, settled_items, settled}
+use Rattle.adr_subscription.specs.Callbacks.{is_callback, address_as, callable, callable_address, callback_address, settled_address, settled_item, settled_items, settled}
 
 -- a result is refused by nothing but the shape
 pub record IsShape {A : Type 0} (r : Result A Refusal) : Type 0 where
@@ -25,13 +25,18 @@ first_then : {A B : Type 0} (r : Result B Refusal) (f : B → Result A Refusal) 
 first_then (Ok x) f first others = others x
 first_then (Err e) f first others = record { so = first.so }
 
-read_so : (url : Parsed Parts) → IsShape (address_as url >>= callback_text)
-read_so (Ok url) = either (is_callback url) (Ok (serialize url)) (fine _)
-read_so (Err e) = record { so = refl }
+callable_so : (url : Parsed Parts) → IsShape (address_as url >>= callable)
+callable_so (Ok url) = either (is_callback url) (Ok url) (fine _)
+callable_so (Err e) = record { so = refl }
+
+callback_so : (text : List ℕ) → IsShape (callback_address text)
+callback_so text = either (nat_le (length text) 1024) (callable_address text) (callable_so (parse_url None text))
+
+address_so : (text : List ℕ) → IsShape (settled_address text)
+address_so text = first_then (callback_address text) _ (callback_so text) (λ url. fine _)
 
 item_so : (item : SubscriptionItem) → IsShape (settled_item item)
-item_so item =
-    first_then (settled_address item.callback_url) _ (either (nat_le (length item.callback_url) 1024) _ (read_so (parse_url None item.callback_url))) (λ address. fine _)
+item_so item = first_then (settled_address item.callback_url) _ (address_so item.callback_url) (λ address. fine _)
 
 items_so : (items : List SubscriptionItem) → IsShape (settled_items items)
 items_so [] = fine _

@@ -28,13 +28,21 @@ abbrev pub address_as : Parsed Parts → Result Parts Refusal
 address_as (Ok url) = Ok url
 address_as (Err e) = Err BadShape
 
--- the URL, where it may be called, as it is written
-abbrev pub callback_text : Parts → Result (List ℕ) Refusal
-callback_text url = if is_callback url then Ok (serialize url) else Err BadShape
+-- the URL, where it may be called
+abbrev pub callable : Parts → Result Parts Refusal
+callable url = if is_callback url then Ok url else Err BadShape
 
--- an address of at most 1,024 bytes that may be called, as it is kept
+-- the URL that a text is, where it may be called
+abbrev pub callable_address : List ℕ → Result Parts Refusal
+callable_address text = address_as (parse_url None text) >>= callable
+
+-- the same, of a text of at most 1,024 bytes
+abbrev pub callback_address : List ℕ → Result Parts Refusal
+callback_address text = if nat_le (length text) 1024 then callable_address text else Err BadShape
+
+-- such an address as it is kept: as the URL is written
 abbrev pub settled_address : List ℕ → Result (List ℕ) Refusal
-settled_address text = if nat_le (length text) 1024 then address_as (parse_url None text) >>= callback_text else Err BadShape
+settled_address text = callback_address text >>= λ url. Ok (serialize url)
 
 abbrev pub settled_item : SubscriptionItem → Result SubscriptionItem Refusal
 settled_item item = settled_address item.callback_url >>= λ address. Ok (record item { callback_url = address })

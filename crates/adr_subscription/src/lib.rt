@@ -1,6 +1,7 @@
 //! Subscriptions: what one asks for, as it is posted and as it is kept, and what it serves.
 #![tactic(auto)]
 
+mod address;
 mod bounded;
 mod free_text;
 mod item;
@@ -16,6 +17,7 @@ mod token;
 mod words;
 mod write;
 
+pub use address::{callable_address, callback_address};
 pub use bounded::Bounded;
 pub use free_text::FreeText;
 pub use item::{SubscriptionItem, item_for};

@@ -1,67 +1,22 @@
 //! The address of each item: one that may be called, as it is kept.
-ghost use Rattle.std.specs.Prelude.{◌≡◌, ◌≢◌, Ok, Err, None, length, IfOk};
-ghost use Rattle.url.specs.Parser.{parse_url};
-ghost use Rattle.url.specs.Parts.{nonempty_host};
+ghost use Rattle.std.specs.Prelude.{◌≡◌, ◌≢◌, Err, length, IfOk};
 ghost use Rattle.adr_text.specs.Refusals.{Gives};
 ghost use Rattle.adr_text.specs.declared.refusal.Refusal.TheVariants.{Store};
-ghost use Rattle.adr_subscription.specs.Callbacks.{is_near, is_callback, address_as, settled_address, settled_item, settled_items, settled};
+ghost use Rattle.adr_subscription.specs.Callbacks.{settled_address, settled_item, settled_items, settled};
 
+use crate::address::callback_address;
 use crate::bounded::Bounded;
 use crate::free_text::FreeText;
 use crate::item::SubscriptionItem;
 use crate::subscription::SubIn;
 use adr_text::Refusal;
 use std::alloc::Global;
-use url::{Host, ParseError, Url};
-
-fn is_near(url: &Url) -> bool
-    ensures { result ≡ is_near (nonempty_host url.now) }
-{
-    match url.host() {
-        Some(Host::Domain(name)) => name == "localhost",
-        Some(_) => true,
-        None => false,
-    }
-}
-
-fn is_callback(url: &Url) -> bool
-    ensures { result ≡ is_callback url.now }
-{
-    if url.scheme() != "http" {
-        return false;
-    }
-    if !url.username().is_empty() {
-        return false;
-    }
-    if url.password().is_some() {
-        return false;
-    }
-    is_near(url)
-}
-
-// The URL that a text is. One of 4 GB has no room in memory.
-fn parsed(alloc: Global, text: &str) -> Result<Url, Refusal>
-    ensures { Gives (λ url. url) result (address_as (parse_url None text.now)) }
-{
-    match Url::parse(alloc, text) {
-        Ok(url) => Ok(url),
-        Err(ParseError::OutOfMemory | ParseError::Overflow) => Err(Refusal::OutOfMemory),
-        Err(_) => Err(Refusal::BadShape),
-    }
-}
 
 // The address as it is kept.
 fn settled_address(alloc: Global, address: &FreeText) -> Result<FreeText, Refusal>
     ensures { Gives (λ kept. kept) result (settled_address address.now) }
 {
-    let text = address.as_str();
-    if text.len() > 1024 {
-        return Err(Refusal::BadShape);
-    }
-    let url = parsed(alloc, text)?;
-    if !is_callback(&url) {
-        return Err(Refusal::BadShape);
-    }
+    let url = callback_address(alloc, address.as_str())?;
     Ok(FreeText::new(alloc, url.as_str())?)
 }
 

@@ -4,7 +4,7 @@ use Rattle.std.proofs.lemmas.List.{map_push, reverse-append, length-reverse, len
 use Rattle.std.specs.Borrow.{Bor}
 use Rattle.adr_wire.specs.Codings.{is_chunked}
 use Rattle.adr_wire.specs.Extents.{alone, last_first, coding_in}
-use Rattle.adr_wire.specs.declared.end.Refused.TheVariants.{Malformed, NoCoding}
+use Rattle.adr_wire.specs.declared.end.MessageFault.TheVariants.{Malformed, NoCoding}
 use Rattle.adr_wire.specs.declared.extent.Extent.TheVariants.{Chunked}
 use Rattle.std.proofs.Common.{Ok, Err}
 

@@ -2,7 +2,7 @@
 use Rattle.std.proofs.Common.{◌≡◌, ℕ, ◌≤◌, ◌<◌, List, ◌++◌, length, take, drop, sym, ◌∙◌, ap, subst, arith, Option, None, Some, Ok, Err, length-append}
 use Rattle.adr_wire.specs.Pieces.{Holds}
 use Rattle.adr_wire.specs.Lengths.{body_of_length}
-use Rattle.adr_wire.specs.declared.end.Refused.TheVariants.{Malformed}
+use Rattle.adr_wire.specs.declared.end.MessageFault.TheVariants.{Malformed}
 use Rattle.std.proofs.lemmas.Bool.Decides.{nat_tests}
 use Rattle.std.proofs.lemmas.Bool.{le-leb}
 use Rattle.std.proofs.lemmas.List.{take-append-le, drop-append-le}

@@ -7,3 +7,6 @@ pub mod ChunkLines
 pub mod TrailerSections
 pub mod ChunkSteps
 pub mod Readings
+pub mod LineEnds
+pub mod OneChunked
+pub mod Unfinished

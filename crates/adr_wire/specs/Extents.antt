@@ -3,8 +3,8 @@ use Rattle.std.specs.Prelude.{ℕ, Bool, ◌&&◌, List, [], ◌∷◌, length, 
 use Rattle.std.specs.List.{list_all}
 use Rattle.std.specs.Char.{is_ascii_digit}
 use Rattle.std.specs.Str.Parse.{digits_value}
-use Rattle.adr_wire.specs.declared.end.Refused.{Refused}
-use Rattle.adr_wire.specs.declared.end.Refused.TheVariants.{Malformed, TooLarge, NoCoding}
+use Rattle.adr_wire.specs.declared.end.MessageFault.{MessageFault}
+use Rattle.adr_wire.specs.declared.end.MessageFault.TheVariants.{Malformed, TooLarge, NoCoding}
 use Rattle.adr_wire.specs.declared.extent.Extent.{Extent}
 use Rattle.adr_wire.specs.declared.extent.Extent.TheVariants.{Unsaid, Length, Chunked}
 use Rattle.adr_wire.specs.Fields.{values}
@@ -15,30 +15,30 @@ abbrev pub is_number : List ℕ → Bool
 is_number text = nat_lt 0 (length text) && list_all is_ascii_digit text
 
 -- plain digits, up to the most
-abbrev pub length_in : ℕ → List ℕ → Result Extent Refused
+abbrev pub length_in : ℕ → List ℕ → Result Extent MessageFault
 length_in limit text =
     if is_number text then (if nat_le (digits_value 10 text) limit then Ok (Length (digits_value 10 text)) else Err TooLarge)
     else Err Malformed
 
 -- none besides
-abbrev pub alone : List (List ℕ) → Result Extent Refused
+abbrev pub alone : List (List ℕ) → Result Extent MessageFault
 alone [] = Ok Chunked
 alone (c ∷ others) = Err NoCoding
 
-abbrev pub last_first : List (List ℕ) → Result Extent Refused
+abbrev pub last_first : List (List ℕ) → Result Extent MessageFault
 last_first [] = Err Malformed
 last_first (last ∷ others) = if is_chunked last then alone others else Err Malformed
 
 -- the last of the codings has to be `chunked`, and only alone is it known
-abbrev pub coding_in : List (List ℕ) → Result Extent Refused
+abbrev pub coding_in : List (List ℕ) → Result Extent MessageFault
 coding_in codings = last_first (reverse codings)
 
 -- by the values of Content-Length and those of Transfer-Encoding: at most one length, and no coding beside it
-abbrev pub extent_by : ℕ → List (List ℕ) → List (List ℕ) → Result Extent Refused
+abbrev pub extent_by : ℕ → List (List ℕ) → List (List ℕ) → Result Extent MessageFault
 extent_by limit [] [] = Ok Unsaid
 extent_by limit (text ∷ []) [] = length_in limit text
 extent_by limit [] (value ∷ others) = coding_in (codings (value ∷ others))
 extent_by limit _ _ = Err Malformed
 
-unfoldable pub extent_in : ℕ → List (List ℕ × List ℕ) → Result Extent Refused
+unfoldable pub extent_in : ℕ → List (List ℕ × List ℕ) → Result Extent MessageFault
 extent_in limit fields = extent_by limit (values (codes "content-length") fields) (values (codes "transfer-encoding") fields)

@@ -6,3 +6,5 @@ pub mod Codings
 pub mod Extents
 pub mod Lengths
 pub mod Chunks
+pub mod Written
+pub mod Lines

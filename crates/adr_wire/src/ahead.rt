@@ -87,6 +87,7 @@ impl Ahead {
     }
 
     /// One more read, of at most `most` bytes. It answers whether any came: if not, all have come.
+    #[tactic(auto, using(crate::proofs::Readings::kept_holds))]
     pub fn more<S: Source>(&mut self, source: &mut S, most: usize) -> Result<bool, ReadEnd>
         requires { 0 < most }
         // No byte is lost: what is ahead and what is left are the same bytes together.
@@ -97,6 +98,8 @@ impl Ahead {
         ensures same { IfOk result (λ came. IsFalse came → self.new.bytes ≡ self.old.bytes) }
         ensures came { IfOk result (λ came. IsTrue came → length self.old.bytes < length self.new.bytes) }
         ensures most { OnOk result (length self.new.bytes ≤ length self.old.bytes + most) }
+        ensures behind { OnOk result (take (length self.old.bytes) self.new.bytes ≡ self.old.bytes) }
+        ensures unread { IsTrue (reader_failed result) → (ahead bytes : List ℕ) → Holds (S.left source.old) ahead bytes → Holds (S.left source.new) ahead bytes }
         ensures fewer { OnOk result (self.new.reads_left < self.old.reads_left) }
         ensures not_refused { IfRefused result (λ f. ⊥) }
         ensures counted { IsCounted (S.calls source.old) self.old.reads_left (S.calls source.new) self.new.reads_left (reader_failed result) }

@@ -1,10 +1,10 @@
 //! The line before a chunk, which says its size (RFC 9112, section 7.1).
-ghost use Rattle.std.specs.Prelude.{◌≡◌, ◌≤◌, ℕ, List, length, OnOk, IfOk};
+ghost use Rattle.std.specs.Prelude.{◌≡◌, ◌≤◌, ℕ, List, length, OnOk, IfOk, IsTrue};
 ghost use Rattle.httparse.specs.Grammar.{ChunkLine as Line, chunk_size};
 ghost use Rattle.httparse.specs.Spans.{IsChunkLineAt};
-ghost use Rattle.adr_wire.specs.Pieces.{Holds, IfRefused, IsCounted, reader_failed};
+ghost use Rattle.adr_wire.specs.Pieces.{Holds, OfWhatCame, IfRefused, IsCounted, reader_failed};
 ghost use Rattle.adr_wire.specs.Chunks.{LineAt, HasNoLine};
-ghost use Rattle.adr_wire.specs.declared.end.Refused.TheVariants.{Malformed};
+ghost use Rattle.adr_wire.specs.declared.end.MessageFault.TheVariants.{Malformed};
 
 use crate::ahead::Ahead;
 use crate::end::ReadEnd;
@@ -38,6 +38,7 @@ impl Front for ChunkLine {
         }
     }
 
+    #[tactic(auto, using(crate::proofs::LineEnds::no_line_yet))]
     fn may_end(&self, bytes: &[u8], from: usize) -> bool {
         has_line_end(bytes, from)
     }
@@ -52,6 +53,7 @@ pub(crate) fn read_line<S: Source>(source: &mut S, ahead: &mut Ahead) -> Result<
     ensures none { IfRefused result (λ f. (f ≡ Malformed)
         × ((bytes : List ℕ) → Holds (S.left source.old) ahead.old.bytes bytes → HasNoLine bytes)) }
     ensures limit { OnOk result (length ahead.new.bytes ≤ 16384) }
+    ensures unfinished { IsTrue (reader_failed result) → OfWhatCame (S.left source.old) ahead.old.bytes (S.left source.new) HasNoLine }
     ensures counted { IsCounted (S.calls source.old) ahead.old.reads_left (S.calls source.new) ahead.new.reads_left (reader_failed result) }
 {
     let mut line = ChunkLine { length: 0, size: 0 };

@@ -1,11 +1,11 @@
 //! A body in chunks (RFC 9112, section 7.1).
-ghost use Rattle.std.specs.Prelude.{◌≡◌, ◌+◌, ◌≤◌, ℕ, List, length, IfOk, IsFalse, Ok};
-ghost use Rattle.adr_wire.specs.Pieces.{Holds, IsReading, IsCounted, reader_failed};
+ghost use Rattle.std.specs.Prelude.{◌≡◌, ◌+◌, ◌≤◌, ℕ, List, length, IfOk, IsTrue, IsFalse, Ok};
+ghost use Rattle.adr_wire.specs.Pieces.{Holds, OfWhatCame, IsReading, IsCounted, reader_failed};
 ghost use Rattle.adr_wire.specs.Chunks.{IsChunks, without_end};
 
 use crate::ahead::Ahead;
 use crate::chunk_line::read_line;
-use crate::end::{ReadEnd, Refused};
+use crate::end::{MessageFault, ReadEnd};
 use crate::length::read_length;
 use crate::trailers::read_trailers;
 use adr_text::Source;
@@ -20,7 +20,7 @@ fn without_line_end(mut piece: Vec<u8>, size: usize) -> Result<Vec<u8>, ReadEnd>
 {
     let is_ended = &piece[size..] == b"\r\n".as_slice();
     if !is_ended {
-        return Err(ReadEnd::Bytes(Refused::Malformed));
+        return Err(ReadEnd::Bytes(MessageFault::Malformed));
     }
     piece.truncate(size);
     Ok(piece)
@@ -36,6 +36,8 @@ pub fn read_chunks<S: Source>(
     requires { length ahead.old.bytes ≤ 16384 }
     ensures reading { IsReading (λ v. v.items) result (λ read. (bytes : List ℕ) → Holds (S.left source.old) ahead.old.bytes bytes
         → IsChunks limit 0 bytes read) }
+    ensures unfinished { IsTrue (reader_failed result) → OfWhatCame (S.left source.old) ahead.old.bytes (S.left source.new)
+        (λ came. (content : List ℕ) → ¬ (IsChunks limit 0 came (Ok content))) }
     ensures counted { IsCounted (S.calls source.old) ahead.old.reads_left (S.calls source.new) ahead.new.reads_left (reader_failed result) }
 {
     let mut content = Vec::new(alloc);
@@ -47,7 +49,7 @@ pub fn read_chunks<S: Source>(
         }
         let room = limit as usize - content.len();
         if size > room as u64 {
-            return Err(ReadEnd::Bytes(Refused::TooLarge));
+            return Err(ReadEnd::Bytes(MessageFault::TooLarge));
         }
         let size = size as usize;
         let piece = read_length(source, ahead, size + 2)?;

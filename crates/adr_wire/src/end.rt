@@ -7,7 +7,7 @@ use std::alloc::AllocError;
 
 /// Why bytes are no message.
 #[derive(Clone, Copy, Debug, PartialEq, Eq)]
-pub enum Refused {
+pub enum MessageFault {
     /// They are of another form, or end too soon.
     Malformed,
     /// The body is too long.
@@ -20,7 +20,7 @@ pub enum Refused {
 #[derive(Clone, Copy, Debug, PartialEq, Eq)]
 pub enum ReadEnd {
     /// The bytes are none.
-    Bytes(Refused),
+    Bytes(MessageFault),
     /// A read failed, or there were too many.
     Reader,
     OutOfMemory,

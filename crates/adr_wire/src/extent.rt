@@ -7,7 +7,7 @@ ghost use Rattle.adr_wire.specs.Codings.{is_chunked, codings};
 ghost use Rattle.adr_wire.specs.Extents.{is_number, length_in, coding_in, extent_by, extent_in};
 
 use crate::codings::codings;
-use crate::end::{ReadEnd, Refused};
+use crate::end::{MessageFault, ReadEnd};
 use crate::fields::{is_same_letters, values};
 use httparse::spans::HeaderSpan;
 use std::alloc::Global;
@@ -48,8 +48,8 @@ fn length_in(text: &[u8], limit: u32) -> Result<Extent, ReadEnd>
     ensures only { IsFalse (reader_failed result) }
 {
     match number_in(text, limit) {
-        None => Err(ReadEnd::Bytes(Refused::Malformed)),
-        Some(n) if n > limit => Err(ReadEnd::Bytes(Refused::TooLarge)),
+        None => Err(ReadEnd::Bytes(MessageFault::Malformed)),
+        Some(n) if n > limit => Err(ReadEnd::Bytes(MessageFault::TooLarge)),
         Some(n) => Ok(Extent::Length(n)),
     }
 }
@@ -67,14 +67,14 @@ fn coding_in(codings: &[&[u8]]) -> Result<Extent, ReadEnd>
     ensures only { IsFalse (reader_failed result) }
 {
     let Some((last, others)) = codings.split_last() else {
-        return Err(ReadEnd::Bytes(Refused::Malformed));
+        return Err(ReadEnd::Bytes(MessageFault::Malformed));
     };
     if !is_chunked(last) {
-        Err(ReadEnd::Bytes(Refused::Malformed))
+        Err(ReadEnd::Bytes(MessageFault::Malformed))
     } else if others.is_empty() {
         Ok(Extent::Chunked)
     } else {
-        Err(ReadEnd::Bytes(Refused::NoCoding))
+        Err(ReadEnd::Bytes(MessageFault::NoCoding))
     }
 }
 
@@ -93,11 +93,11 @@ fn extent_by(
         return match lengths {
             [] => Ok(Extent::Unsaid),
             [text] => length_in(text, limit),
-            _ => Err(ReadEnd::Bytes(Refused::Malformed)),
+            _ => Err(ReadEnd::Bytes(MessageFault::Malformed)),
         };
     }
     if !lengths.is_empty() {
-        return Err(ReadEnd::Bytes(Refused::Malformed));
+        return Err(ReadEnd::Bytes(MessageFault::Malformed));
     }
     let codings = codings(alloc, values)?;
     coding_in(&codings)

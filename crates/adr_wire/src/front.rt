@@ -1,10 +1,10 @@
 //! A head, a line or a section at the front of bytes that come in pieces.
-ghost use Rattle.std.specs.Prelude.{◌≡◌, ◌≤◌, ◌++◌, ℕ, List, length, OnOk, OnErr, IfOk, IsTrue, IsFalse};
-ghost use Rattle.adr_wire.specs.Pieces.{Holds, IfRefused, IsCounted, reader_failed};
-ghost use Rattle.adr_wire.specs.declared.end.Refused.TheVariants.{Malformed};
+ghost use Rattle.std.specs.Prelude.{◌≡◌, ◌<◌, ◌≤◌, ◌++◌, ℕ, List, length, take, OnOk, OnErr, IfOk, IsTrue, IsFalse};
+ghost use Rattle.adr_wire.specs.Pieces.{Holds, OfWhatCame, IfRefused, IsCounted, reader_failed};
+ghost use Rattle.adr_wire.specs.declared.end.MessageFault.TheVariants.{Malformed};
 
 use crate::ahead::Ahead;
-use crate::end::{ReadEnd, Refused};
+use crate::end::{MessageFault, ReadEnd};
 use adr_text::Source;
 
 /// The most bytes of a head, of a chunk line, and of trailers.
@@ -33,7 +33,8 @@ pub trait Front {
         ensures never { OnErr result ((more : List ℕ) → none (bytes.now ++ more)) };
 
     /// Whether it may end behind the first `from` bytes. It spares looking for what can't be there.
-    fn may_end(&self, bytes: &[u8], from: usize) -> bool;
+    fn may_end(&self, bytes: &[u8], from: usize) -> bool
+        ensures { IsFalse result → (0 < from → none (take from bytes.now)) → none bytes.now };
 }
 
 /// Reads until all of it is ahead.
@@ -49,6 +50,8 @@ pub fn await_front<S: Source, F: Front>(
     ensures limit { OnOk result (length ahead.new.bytes ≤ 16384) }
     ensures none { IfRefused result (λ f. (f ≡ Malformed)
         × ((bytes : List ℕ) → Holds (S.left source.old) ahead.old.bytes bytes → F.none bytes)) }
+    // Where the reader failed, it wasn't there yet: nothing is asked for behind it.
+    ensures unfinished { IsTrue (reader_failed result) → OfWhatCame (S.left source.old) ahead.old.bytes (S.left source.new) F.none }
     ensures counted { IsCounted (S.calls source.old) ahead.old.reads_left (S.calls source.new) ahead.new.reads_left (reader_failed result) }
 {
     let mut seen = 0;
@@ -61,7 +64,7 @@ pub fn await_front<S: Source, F: Front>(
             match front.find(ahead.as_slice()) {
                 Ok(true) => return Ok(()),
                 Ok(false) if !is_last => {}
-                _ => return Err(ReadEnd::Bytes(Refused::Malformed)),
+                _ => return Err(ReadEnd::Bytes(MessageFault::Malformed)),
             }
         }
         seen = length;

@@ -14,14 +14,16 @@ mod length;
 mod lines;
 mod output;
 mod trailers;
+mod written;
 
 pub use ahead::Ahead;
 pub use chunks::read_chunks;
 pub use cuts::{behind, cut, parts};
-pub use end::{ReadEnd, Refused};
+pub use end::{MessageFault, ReadEnd};
 pub use extent::{Extent, extent_of};
 pub use fields::{is_same_letters, values};
 pub use front::{Front, MOST_FIELDS, MOST_FRONT, NeverFound, await_front};
 pub use length::read_length;
 pub use lines::has_empty_line;
 pub use output::write_all;
+pub use written::{put_length, put_line};

@@ -1,9 +1,9 @@
 //! The fields behind the last chunk, and the empty line that ends them (RFC 9112, section 7.1.2).
-ghost use Rattle.std.specs.Prelude.{◌≡◌, ◌≤◌, ℕ, List, length, OnOk};
+ghost use Rattle.std.specs.Prelude.{◌≡◌, ◌≤◌, ℕ, List, length, OnOk, IsTrue};
 ghost use Rattle.httparse.specs.Grammar.{Field, LineEnd};
-ghost use Rattle.adr_wire.specs.Pieces.{Holds, IfRefused, IsCounted, reader_failed};
+ghost use Rattle.adr_wire.specs.Pieces.{Holds, OfWhatCame, IfRefused, IsCounted, reader_failed};
 ghost use Rattle.adr_wire.specs.Chunks.{TrailersAt, HasNoTrailers, TrailersFound};
-ghost use Rattle.adr_wire.specs.declared.end.Refused.TheVariants.{Malformed};
+ghost use Rattle.adr_wire.specs.declared.end.MessageFault.TheVariants.{Malformed};
 
 use crate::ahead::Ahead;
 use crate::end::ReadEnd;
@@ -50,6 +50,7 @@ pub(crate) fn read_trailers<S: Source>(source: &mut S, ahead: &mut Ahead) -> Res
         × Holds (S.left source.new) ahead.new.bytes rest) }
     ensures none { IfRefused result (λ f. (f ≡ Malformed)
         × ((bytes : List ℕ) → Holds (S.left source.old) ahead.old.bytes bytes → HasNoTrailers bytes)) }
+    ensures unfinished { IsTrue (reader_failed result) → OfWhatCame (S.left source.old) ahead.old.bytes (S.left source.new) HasNoTrailers }
     ensures counted { IsCounted (S.calls source.old) ahead.old.reads_left (S.calls source.new) ahead.new.reads_left (reader_failed result) }
 {
     let mut trailers = Trailers { length: 0 };

@@ -1,11 +1,11 @@
 //! A table: its tokens, what comes before each case, and its cases.
 use crate::case::Case;
-use crate::escape::push_text;
 use crate::grants::read_grant;
 use adr_http::Grant;
 use anyhow::{Context, Result, bail};
 use std::alloc::Global;
 use std::str::from_utf8;
+use table_files::push_text;
 
 /// A table, as its file says it.
 pub struct File {

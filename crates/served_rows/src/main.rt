@@ -17,7 +17,6 @@
 #![tactic(auto)]
 
 mod case;
-mod escape;
 mod file;
 mod grants;
 mod pieces;
@@ -28,40 +27,12 @@ use crate::file::{File, read_file};
 use crate::run::run_file;
 use adr_http::Routes;
 use anyhow::{Context, Result};
-use std::alloc::Global;
 use std::process::ExitCode;
 use std::rt::{Env, Files};
-use std::{env, fs};
-
-/// The folder of the tables: the argument, or the one where it runs.
-fn folder<R: Env + AllocGlobal>(rt: &R) -> Result<String> {
-    match env::args(rt)?.nth(1) {
-        Some(folder) => Ok(folder),
-        None => Ok(String::from_str(rt.alloc(), ".")?),
-    }
-}
-
-/// The name of an entry of the folder goes behind the others, where it is a table's.
-fn push_name(alloc: Global, names: &mut Vec<String>, name: &str) -> Result<()> {
-    if name.ends_with(".bytes") {
-        names.push(String::from_str(alloc, name)?)?;
-    }
-    Ok(())
-}
-
-/// The names of the tables in the folder, in order.
-fn names_of<R: Files + AllocGlobal + Clone + Drop>(rt: &R, folder: &str) -> Result<Vec<String>> {
-    let mut names = Vec::new(rt.alloc());
-    for entry in fs::read_dir(rt, folder)? {
-        push_name(rt.alloc(), &mut names, entry?.file_name())?;
-    }
-    names.sort()?;
-    Ok(names)
-}
+use table_files::{bytes_of, folder, names_of};
 
 fn file_of<R: Files + AllocGlobal>(rt: &R, folder: &str, name: String) -> Result<File> {
-    let path = format!(in rt.alloc(); "{folder}/{name}")?;
-    let bytes = fs::read(rt, path.as_str())?;
+    let bytes = bytes_of(rt, folder, name.as_str())?;
     Ok(read_file(rt.alloc(), &bytes).context(name)?)
 }
 
@@ -81,7 +52,7 @@ fn run_files<R: Files + Print + AllocGlobal + Clone + Drop>(
     folder: &str,
 ) -> Result<bool> {
     let mut passed = true;
-    for name in names_of(rt, folder)? {
+    for name in names_of(rt, folder, ".bytes")? {
         passed &= run_file_of(rt, routes, folder, name)?;
     }
     Ok(passed)

@@ -53,44 +53,10 @@ use anyhow::{Context, Result};
 use std::alloc::Global;
 use std::process::ExitCode;
 use std::rt::{Env, Files};
-use std::{env, fs};
+use table_files::{bytes_of, folder, names_of};
 
 /// The name under which the desks report.
 const CLIENT: &str = "aggregator";
-
-/// The folder of the row files: the argument, or the one where it runs.
-fn folder<R: Env + AllocGlobal>(rt: &R) -> Result<String> {
-    match env::args(rt)?.nth(1) {
-        Some(folder) => Ok(folder),
-        None => Ok(String::from_str(rt.alloc(), ".")?),
-    }
-}
-
-fn path(alloc: Global, folder: &str, name: &str) -> Result<String> {
-    Ok(format!(in alloc; "{folder}/{name}")?)
-}
-
-/// The name of an entry of the folder goes behind the others, where it ends so.
-fn push_name(alloc: Global, names: &mut Vec<String>, name: &str, ending: &str) -> Result<()> {
-    if name.ends_with(ending) {
-        names.push(String::from_str(alloc, name)?)?;
-    }
-    Ok(())
-}
-
-/// The names of the files in the folder that end so, in order.
-fn names_of<R: Files + AllocGlobal + Clone + Drop>(
-    rt: &R,
-    folder: &str,
-    ending: &str,
-) -> Result<Vec<String>> {
-    let mut names = Vec::new(rt.alloc());
-    for entry in fs::read_dir(rt, folder)? {
-        push_name(rt.alloc(), &mut names, entry?.file_name(), ending)?;
-    }
-    names.sort()?;
-    Ok(names)
-}
 
 fn settings_of(alloc: Global, limits: Limits) -> Result<Settings> {
     let client = Name::new(alloc, CLIENT)?;
@@ -148,10 +114,6 @@ fn run_row<R: Print + AllocGlobal>(rt: &R, row: &Row) -> Result<bool> {
     let tables = run_tables(rt, row)?;
     let both = run_both(rt, row)?;
     Ok(plain && tables && both)
-}
-
-fn bytes_of<R: Files + AllocGlobal>(rt: &R, folder: &str, name: &str) -> Result<Vec<u8>> {
-    Ok(fs::read(rt, path(rt.alloc(), folder, name)?.as_str())?)
 }
 
 fn run_row_of<R: Files + Print + AllocGlobal>(rt: &R, folder: &str, name: String) -> Result<bool> {

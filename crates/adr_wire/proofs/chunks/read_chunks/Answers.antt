@@ -1,9 +1,11 @@
 use Rattle.std.proofs.Common.{rules, ◌≡◌, ◌+◌, ◌<◌, ◌≤◌, ◌++◌, length, [], sym, Ok, Err, ap, ◌∙◌, arith, length-append}
 use Rattle.std.proofs.lemmas.Result.{err_from_is_err_and}
-use Rattle.adr_wire.proofs.Readings.{passed_on}
+use Rattle.adr_wire.proofs.Readings.{passed_on, failed_there}
+use Rattle.adr_wire.proofs.Unfinished.{came_behind, no_line_is_no_body, no_trailers_is_no_body, cut_data_is_no_body, next_remains}
 use Rattle.adr_wire.proofs.ChunkSteps.{at_no_line, at_no_trailers, at_large, at_bad_data, at_chunk, data_cut, data_read, whole_content}
+use Rattle.httparse.specs.Grammar.{print_chunk_line}
 use Rattle.adr_wire.specs.Chunks.{last}
-use Rattle.adr_wire.specs.declared.end.Refused.TheVariants.{TooLarge}
+use Rattle.adr_wire.specs.declared.end.MessageFault.TheVariants.{TooLarge}
 use Rattle.adr_wire.proofs.chunks.read_chunks.Goals as goal
 
 pub returns-in_err-size-clause-reading : goal.returns-in_err-size-clause-reading
@@ -78,7 +80,55 @@ chunks-preserved g c =
             c.in_ok-piece.ensures.after line.1 line.4,
             at_chunk c.args.limit bytes now.0 line.0 line.1 c.chunks.content.items piece c.in_ok-size.size 0 new line.2 line.3 some fits data_is long grown longer now.2,
           );
+      remains = λ bytes held.
+          let now = c.chunks.invariant.remains bytes held in
+          let line = c.in_ok-size.ensures.found now.1 now.3 in
+          let next = next_remains c.args.limit bytes now.0 now.1 line.0 line.1 c.chunks.content.items c.in_ok-piece.piece.items new c.in_ok-size.size now.2 line.2 line.3 some fits
+          (c.in_ok-piece.ensures.reading line.1 line.4) c.in_ok-piece.ensures.long longer now.4 in
+          (_, _, next.0, c.in_ok-piece.ensures.after line.1 line.4, next.1);
       small = omega arith;
       limit = search rules;
       counted = search rules;
     }
+
+-- ---- the reader failed, and what had come was no whole body
+
+pub returns-in_err-size-clause-unfinished : goal.returns-in_err-size-clause-unfinished
+returns-in_err-size-clause-unfinished g c = λ failed bytes held.
+    let exit = err_from_is_err_and c.from_residual.result c.from_residual.ensures.1 in
+    let now = c.chunks.invariant.remains bytes held in
+    let came = c.in_err-size.ensures.unfinished (failed_there c.from_residual.result c.in_err-size.field-0.0 (exit.1 ∙ ap Err exit.2) failed) now.1 now.3 in (
+      _,
+      came_behind _ bytes now.0 now.1 came.0 now.2 came.1,
+      λ content is. let rest = now.4 came.0 content is in no_line_is_no_body c.args.limit _ came.0 rest.0 came.2 rest.1,
+    )
+
+pub returns-in_err-read_trailers-clause-unfinished : goal.returns-in_err-read_trailers-clause-unfinished
+returns-in_err-read_trailers-clause-unfinished g c = λ failed bytes held.
+    let exit = err_from_is_err_and c.from_residual-in_err-read_trailers.result c.from_residual-in_err-read_trailers.ensures.1 in
+    let now = c.chunks.invariant.remains bytes held in
+    let line = c.in_ok-size.ensures.found now.1 now.3 in
+    let came = c.in_err-read_trailers.ensures.unfinished (failed_there _ c.in_err-read_trailers.field-0.0 (exit.1 ∙ ap Err exit.2) failed) line.1 line.4 in (
+      _,
+      came_behind _ bytes now.0 now.1 (print_chunk_line line.0 ++ came.0) now.2 (came_behind _ now.1 (print_chunk_line line.0) line.1 came.0 line.2.reads.1 came.1),
+      λ content is.
+          let rest = now.4 (print_chunk_line line.0 ++ came.0) content is in
+          no_trailers_is_no_body c.args.limit _ now.1 line.0 line.1 came.0 rest.0 line.2 (sym line.3 ∙ c.if-size-eq0.true) c.chunks.invariant.small came.2 rest.1,
+    )
+
+pub returns-in_err-piece-clause-unfinished : goal.returns-in_err-piece-clause-unfinished
+returns-in_err-piece-clause-unfinished g c = λ failed bytes held.
+    let exit = err_from_is_err_and c.from_residual-in_err-piece.result c.from_residual-in_err-piece.ensures.1 in
+    let some : 0 < c.in_ok-size.size = omega arith in
+    let fits : length c.chunks.content.items + c.in_ok-size.size ≤ c.args.limit = omega arith in
+    let now = c.chunks.invariant.remains bytes held in
+    let line = c.in_ok-size.ensures.found now.1 now.3 in
+    let came = c.in_err-piece.ensures.unfinished (failed_there _ c.in_err-piece.field-0.0 (exit.1 ∙ ap Err exit.2) failed) line.1 line.4 in
+    let cut = came.2 in
+    let is = line.3 in (
+      _,
+      came_behind _ bytes now.0 now.1 (print_chunk_line line.0 ++ came.0) now.2 (came_behind _ now.1 (print_chunk_line line.0) line.1 came.0 line.2.reads.1 came.1),
+      λ content whole.
+          let rest = now.4 (print_chunk_line line.0 ++ came.0) content whole in
+          cut_data_is_no_body c.args.limit _ now.1 line.0 line.1 came.0 rest.0 line.2 (omega (arith, is)) (omega (arith, is)) (omega (arith, is)) rest.1,
+    )
