@@ -19,6 +19,7 @@ pub enum Asked {
 }
 
 /// What comes of it.
+#[derive(Drop)]
 pub enum Finding {
     /// The versions on a page, in the page's order, and how many of its elements are none.
     Page { found: Rows<Found>, skipped: u64 },
@@ -28,20 +29,6 @@ pub enum Finding {
     Gone,
     /// None of these: no reply came, or one that doesn't answer.
     Failure,
-}
-
-impl Drop for Finding {
-    fn drop(self) {
-        match self {
-            Finding::Page {
-                found: _,
-                skipped: _,
-            } => (),
-            Finding::Version(_) => (),
-            Finding::Gone => (),
-            Finding::Failure => (),
-        }
-    }
 }
 
 /// The page that the bytes are.
@@ -118,9 +105,9 @@ fn told_by(alloc: Global, asked: &Asked, reply: &HttpReply) -> Result<Finding, A
     }
 }
 
-/// What comes of asking the utility, by the reply that came, or by the fault where none came. A reply with 200 has the page
-/// or the object, of which the id has to be the one that was asked for; 404 tells that there is no such object; all else is
-/// a failure.
+/// What comes of asking the utility, by the reply that came, or by the fault where none came. A reply with 200 has the
+/// page or the object, of which the id has to be the one that was asked for; to a probe 404 tells that there is no such
+/// object; all else is a failure.
 pub fn found_of(
     alloc: Global,
     asked: &Asked,

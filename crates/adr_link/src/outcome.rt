@@ -85,9 +85,9 @@ fn outcome_told(alloc: Global, job: &Job, reply: &HttpReply) -> Result<Outcome, 
     Ok(Outcome::Failed { forget })
 }
 
-/// What comes of a job, by the reply that came, or by the fault where none came. A status from 200 to 299 tells that it was
-/// taken; of a new report the reply may tell the id that the utility gave it. After 404 to a report in the place of one,
-/// the utility has that one no longer. All else is a failure.
+/// What comes of a job, by the reply that came, or by the fault where none came. A status from 200 to 299 tells that it
+/// was taken; of a new report the reply may tell the id that the utility gave it (OpenADR 3.0, REPORT). After 404 to a
+/// report in the place of one, the utility has that one no longer. All else is a failure.
 pub fn outcome_of(
     alloc: Global,
     job: &Job,

@@ -3,7 +3,7 @@ ghost use Rattle.std.specs.Prelude.{◌≡◌, IfOk};
 ghost use Rattle.std.specs.Option.{option_copied};
 ghost use Rattle.adr_text.specs.Refusals.{Gives};
 ghost use Rattle.adr_link.specs.Requests.{request_bytes};
-ghost use Rattle.adr_link.specs.Targets.{get_below, report_to, page_request, probe_request, notice_bytes, job_bytes};
+ghost use Rattle.adr_link.specs.Targets.{get_request, report_request, page_request, probe_request, notice_bytes, job_bytes};
 ghost use Rattle.adr_link.specs.Upstreams.{token_shown, upstream_of};
 
 use crate::address::{own_target, target_below};
@@ -50,7 +50,7 @@ fn token_shown(alloc: Global, token: Option<&str>) -> Result<Option<BearerToken>
     }
 }
 
-/// A notification: a POST of a JSON text to an address, with the token of that.
+/// A notification: a POST of a JSON text to an address, with a token of its own, if any.
 fn notice_request(
     alloc: Global,
     address: &FreeText,
@@ -66,8 +66,9 @@ fn notice_request(
 }
 
 impl Upstream {
-    /// The utility at that address, which is shown that token. `BadShape` where the address is none that a notification may
-    /// be sent to (OpenADR 3.0, callbackUrl), or the token is no bearer token: 1 to 1,024 characters from `!` to `~`.
+    /// The utility at that address, which is shown that token. `BadShape` where the address is none that a notification
+    /// may be sent to (OpenADR 3.0, callbackUrl), or the token is no bearer token: 1 to 1,024 characters from `!` to
+    /// `~`.
     pub fn new(alloc: Global, address: &str, token: Option<&str>) -> Result<Upstream, Refusal>
         ensures { Gives (λ upstream. upstream) result (upstream_of address.now (option_copied token.entry)) }
     {
@@ -77,20 +78,20 @@ impl Upstream {
     }
 
     /// A GET of a target below the address.
-    fn get_below(&self, alloc: Global, below: &[u8]) -> Result<Vec<u8>, AllocError>
-        ensures { IfOk result (λ v. v.items ≡ request_bytes (get_below self.now below.now)) }
+    fn get_request(&self, alloc: Global, below: &[u8]) -> Result<Vec<u8>, AllocError>
+        ensures { IfOk result (λ v. v.items ≡ request_bytes (get_request self.now below.now)) }
     {
         let target = target_below(alloc, &self.url, below)?;
         request_bytes(alloc, b"GET", &target, &self.url, &self.token, None)
     }
 
-    /// The request for a page of the objects of a kind: up to 50 of them, behind the first `skip` (OpenADR 3.0, skip and
-    /// limit).
+    /// The request for a page of the objects of a kind: up to 50 of them, behind the first `skip` (OpenADR 3.0, skip
+    /// and limit).
     pub fn page_request(&self, alloc: Global, kind: Kind, skip: u64) -> Result<Vec<u8>, AllocError>
         ensures { IfOk result (λ v. v.items ≡ request_bytes (page_request self.now kind skip)) }
     {
         let target = page_target(alloc, kind, skip)?;
-        self.get_below(alloc, &target)
+        self.get_request(alloc, &target)
     }
 
     /// The request for the object of a kind that has that id.
@@ -103,12 +104,12 @@ impl Upstream {
         ensures { IfOk result (λ v. v.items ≡ request_bytes (probe_request self.now kind id.now)) }
     {
         let target = probe_target(alloc, kind, id)?;
-        self.get_below(alloc, &target)
+        self.get_request(alloc, &target)
     }
 
     /// A report, by the job's method, to its target below the address.
     fn report_request(&self, alloc: Global, job: &Job) -> Result<Vec<u8>, AllocError>
-        ensures { IfOk result (λ v. v.items ≡ request_bytes (report_to self.now job.now)) }
+        ensures { IfOk result (λ v. v.items ≡ request_bytes (report_request self.now job.now)) }
     {
         let target = target_below(alloc, &self.url, job.target.as_str().as_bytes())?;
         let method = method_word(job.method);
@@ -116,9 +117,9 @@ impl Upstream {
         request_bytes(alloc, method, &target, &self.url, &self.token, body)
     }
 
-    /// The request that a job is sent by: a report to the utility, with its token, or a notification to the address that it
-    /// is for, with the job's own. `BadShape` where the address of a notification may not be called; one that is kept always
-    /// may.
+    /// The request that a job is sent by: a report to the utility, with the utility's token, or a notification to the
+    /// address that it is for, with the job's own. `BadShape` where the address of a notification may not be called;
+    /// one that is kept always may.
     pub fn job_request(&self, alloc: Global, job: &Job) -> Result<Vec<u8>, Refusal>
         ensures { Gives (λ v. v.items) result (job_bytes self.now job.now) }
     {

@@ -45,8 +45,8 @@ fn parsed(alloc: Global, text: &str) -> Result<Url, Refusal>
     }
 }
 
-/// The URL that a text of any length is, where it may be called: by `http`, with no user or password, at an IP address or
-/// at `localhost`. Otherwise `BadShape`.
+/// The URL that a text of any length is, where it may be called: by `http`, with no user or password, at an IP address
+/// or at `localhost`. Otherwise `BadShape`.
 pub fn callable_address(alloc: Global, text: &str) -> Result<Url, Refusal>
     ensures gives { Gives (λ url. url) result (callable_address text.now) }
     ensures may_be_called { IfOk result (λ url. IsTrue (is_callback url)) }
@@ -58,7 +58,8 @@ pub fn callable_address(alloc: Global, text: &str) -> Result<Url, Refusal>
     Ok(url)
 }
 
-/// The URL that a text of at most 1,024 bytes is, where it may be called (OpenADR 3.0, callbackUrl). Otherwise `BadShape`.
+/// The URL that a text of at most 1,024 bytes is, where it may be called (OpenADR 3.0, callbackUrl). Otherwise
+/// `BadShape`.
 pub fn callback_address(alloc: Global, text: &str) -> Result<Url, Refusal>
     ensures gives { Gives (λ url. url) result (callback_address text.now) }
     ensures may_be_called { IfOk result (λ url. IsTrue (is_callback url)) }
