@@ -16,8 +16,8 @@ use Rattle.adr_link.specs.Upstreams.{UpstreamParts}
 -- ---- what the utility is asked for
 
 -- a GET of a target below the utility's address, with its token
-abbrev pub get_below : UpstreamParts → List ℕ → RequestText
-get_below u below = record { method = codes "GET"; target = target_below u.url below; host = host_field u.url; token = u.token; body = None }
+abbrev pub get_request : UpstreamParts → List ℕ → RequestText
+get_request u below = record { method = codes "GET"; target = target_below u.url below; host = host_field u.url; token = u.token; body = None }
 
 -- the path of the objects of a kind
 abbrev pub collection : Kind → List ℕ
@@ -29,14 +29,14 @@ abbrev pub page_target : Kind → ℕ → List ℕ
 page_target kind skip = collection kind ++ (codes "?skip=" ++ (decimal skip ++ codes "&limit=50"))
 
 abbrev pub page_request : UpstreamParts → Kind → ℕ → RequestText
-page_request u kind skip = get_below u (page_target kind skip)
+page_request u kind skip = get_request u (page_target kind skip)
 
 -- the object of an id
 abbrev pub probe_target : Kind → List ℕ → List ℕ
 probe_target kind id = collection kind ++ (codes "/" ++ id)
 
 abbrev pub probe_request : UpstreamParts → Kind → List ℕ → RequestText
-probe_request u kind id = get_below u (probe_target kind id)
+probe_request u kind id = get_request u (probe_target kind id)
 
 -- ---- what a job is sent by
 
@@ -49,17 +49,17 @@ method_word Post = codes "POST"
 method_word Put = codes "PUT"
 
 -- a report, by the job's method, below the utility's address, with the utility's token
-abbrev pub report_to : UpstreamParts → Job → RequestText
-report_to u job = record { method = method_word job.method; target = target_below u.url job.target; host = host_field u.url; token = u.token; body = Some job.body }
+abbrev pub report_request : UpstreamParts → Job → RequestText
+report_request u job = record { method = method_word job.method; target = target_below u.url job.target; host = host_field u.url; token = u.token; body = Some job.body }
 
 -- a notification, with a token of its own: a POST to the path and the query of its address
-abbrev pub notice_to : Parts → Option (List ℕ) → List ℕ → RequestText
-notice_to url token body = record { method = codes "POST"; target = own_target url; host = host_field url; token = token; body = Some body }
+abbrev pub notice_request : Parts → Option (List ℕ) → List ℕ → RequestText
+notice_request url token body = record { method = codes "POST"; target = own_target url; host = host_field url; token = token; body = Some body }
 
 -- its bytes, where the address may be called
 abbrev pub notice_bytes : List ℕ → Option (List ℕ) → List ℕ → Result (List ℕ) Refusal
-notice_bytes address token body = callable_address address >>= λ url. Ok (request_bytes (notice_to url token body))
+notice_bytes address token body = callable_address address >>= λ url. Ok (request_bytes (notice_request url token body))
 
 -- the bytes that a job is sent by
 abbrev pub job_bytes : UpstreamParts → Job → Result (List ℕ) Refusal
-job_bytes u job = if is_for_utility job then Ok (request_bytes (report_to u job)) else notice_bytes job.target job.token job.body
+job_bytes u job = if is_for_utility job then Ok (request_bytes (report_request u job)) else notice_bytes job.target job.token job.body
