@@ -2,3 +2,4 @@ pub mod Fields
 pub mod Digits
 pub mod ReplyBack
 pub mod RequestBack
+pub mod OwnRequests

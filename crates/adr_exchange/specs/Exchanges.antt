@@ -1,7 +1,14 @@
 -- What one node writes and another reads.
-use Rattle.std.specs.Prelude.{◌≡◌, ℕ, ◌+◌, ◌<◌, ◌≤◌, false, List, [], ◌∷◌, length, map, codes, IsUtf8, IfSome, Option, Some, None, Ok}
+use Rattle.std.specs.Prelude.{◌≡◌, ℕ, ◌+◌, ◌^◌, ◌<◌, ◌≤◌, false, IsTrue, List, [], ◌∷◌, length, map, codes, IsUtf8, IfSome, Option, Some, None, Ok}
 use Rattle.httparse.specs.Grammar.{AllPass, IsToken, is_uri_byte, RequestHead}
 use Rattle.httparse.specs.Spans.{name_and_value}
+use Rattle.url.specs.Parts.{Parts, IsValid}
+use Rattle.adr_text.specs.Ids.{is_id}
+use Rattle.adr_objects.specs.declared.kind.Kind.{Kind}
+use Rattle.adr_subscription.specs.Callbacks.{is_callback}
+use Rattle.adr_subscription.specs.Tokens.{is_token}
+use Rattle.adr_delivery.specs.declared.job.Job.{Job}
+use Rattle.adr_delivery.specs.Jobs.{report_target}
 use Rattle.adr_wire.specs.Fields.{values}
 use Rattle.adr_request.specs.Heads.{HeadAt}
 use Rattle.adr_request.specs.Requests.{IsRequest}
@@ -9,6 +16,8 @@ use Rattle.adr_reply.specs.Replies.{ReplyParts, reply_bytes}
 use Rattle.adr_link.specs.ReplyHeads.{is_bodiless}
 use Rattle.adr_link.specs.Replies.{IsReply}
 use Rattle.adr_link.specs.Requests.{RequestText, body_text, request_bytes}
+use Rattle.adr_link.specs.Upstreams.{UpstreamParts}
+use Rattle.adr_link.specs.Targets.{page_request, probe_request, report_request, notice_request}
 
 -- ---- replies
 
@@ -44,3 +53,24 @@ pub record ReadsAs (bytes : List ℕ) (r : RequestText) : Type 0 where
 -- each request that the client writes is read by the server as what it is
 abbrev pub RequestsReadBack : Type 0
 RequestsReadBack = (r : RequestText) → FitsHead r → ReadsAs (request_bytes r) r
+
+-- ---- the requests of the client
+
+-- an address that url may have read, and that may be called, and a bearer token, where there is one
+pub record IsShown (url : Parts) (token : Option (List ℕ)) : Type 0 where
+  pub valid : IsValid url
+  pub called : IsTrue (is_callback url)
+  pub bearer : IfSome token (λ t. IsTrue (is_token t))
+
+-- a request of the client: a page or a probe of an object id, a report, new or in the place of one of an object id, or a notification
+pub data IsOfClient : RequestText → Type 0 where
+  page : (u : UpstreamParts) → IsShown u.url u.token → (kind : Kind) (skip : ℕ) → skip < 2 ^ 64 → IsOfClient (page_request u kind skip)
+  probe : (u : UpstreamParts) → IsShown u.url u.token → (kind : Kind) (id : List ℕ) → IsTrue (is_id id) → IsOfClient (probe_request u kind id)
+  report : (u : UpstreamParts) → IsShown u.url u.token → (job : Job) (remote : Option (List ℕ)) → IfSome remote (λ id. IsTrue (is_id id)) → job.target ≡ report_target remote
+      → IsOfClient (report_request u job)
+  notice : (url : Parts) (token : Option (List ℕ)) → IsShown url token → (body : List ℕ) → IsOfClient (notice_request url token body)
+
+-- each of them fits a head, and so reads back, where it isn't too long
+abbrev pub ClientsRequestsFit : Type 0
+ClientsRequestsFit = (r : RequestText) → IsOfClient r → length r.method + length r.target + length r.host + token_length r.token ≤ 16000
+    → IfSome r.body (λ body. length body ≤ 1048576) → FitsHead r
