@@ -3,3 +3,4 @@ pub mod Digits
 pub mod ReplyBack
 pub mod RequestBack
 pub mod OwnRequests
+pub mod KeptAddresses

@@ -2,10 +2,10 @@
 use Rattle.std.specs.Prelude.{◌≡◌, ℕ, ◌+◌, ◌^◌, ◌<◌, ◌≤◌, false, IsTrue, List, [], ◌∷◌, length, map, codes, IsUtf8, IfSome, Option, Some, None, Ok}
 use Rattle.httparse.specs.Grammar.{AllPass, IsToken, is_uri_byte, RequestHead}
 use Rattle.httparse.specs.Spans.{name_and_value}
-use Rattle.url.specs.Parts.{Parts, IsValid}
+use Rattle.url.specs.Parts.{Parts, IsValid, serialize}
 use Rattle.adr_text.specs.Ids.{is_id}
 use Rattle.adr_objects.specs.declared.kind.Kind.{Kind}
-use Rattle.adr_subscription.specs.Callbacks.{is_callback}
+use Rattle.adr_subscription.specs.Callbacks.{is_callback, callable_address, callback_address}
 use Rattle.adr_subscription.specs.Tokens.{is_token}
 use Rattle.adr_delivery.specs.declared.job.Job.{Job}
 use Rattle.adr_delivery.specs.Jobs.{report_target}
@@ -74,3 +74,8 @@ pub data IsOfClient : RequestText → Type 0 where
 abbrev pub ClientsRequestsFit : Type 0
 ClientsRequestsFit = (r : RequestText) → IsOfClient r → length r.method + length r.target + length r.host + token_length r.token ≤ 16000
     → IfSome r.body (λ body. length body ≤ 1048576) → FitsHead r
+
+-- An address that was posted, of a URL that holds to what url keeps, is kept as the URL is written: that may be called, and is
+-- read as the same URL.
+abbrev pub KeptAddressesMayBeCalled : Type 0
+KeptAddressesMayBeCalled = (text : List ℕ) (url : Parts) → IsValid url → callback_address text ≡ Ok url → callable_address (serialize url) ≡ Ok url

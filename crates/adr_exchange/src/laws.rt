@@ -1,5 +1,5 @@
 //! Laws of messages between two nodes.
-ghost use Rattle.adr_exchange.specs.Exchanges.{RepliesReadBack, RequestsReadBack, ClientsRequestsFit};
+ghost use Rattle.adr_exchange.specs.Exchanges.{RepliesReadBack, RequestsReadBack, ClientsRequestsFit, KeptAddressesMayBeCalled};
 
 /// A reply that the server writes is read by the client as its status and its body.
 pub fn replies_read_back()
@@ -15,4 +15,9 @@ pub fn requests_read_back()
 /// utility, reports to it, and notifications.
 pub fn clients_requests_fit()
     ensures { ClientsRequestsFit }
+{}
+
+/// An address of a subscription as it is kept may be called, and is read as the URL that was posted.
+pub fn kept_addresses_may_be_called()
+    ensures { KeptAddressesMayBeCalled }
 {}
