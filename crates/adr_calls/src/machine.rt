@@ -1,7 +1,7 @@
 //! The machine and its plain desk.
 use adr_machine::{Answer, Command, Desk, Object, PlainDesk, Role, number_in, run};
 use adr_schema::read_ven;
-use adr_state::{Limits, Settings, State};
+use adr_state::{Image, Limits, Settings};
 use adr_text::{Moment, Name, ObjectId, Refusal};
 use std::alloc::Global;
 use std::test::Fail;
@@ -104,25 +104,24 @@ fn desk_of_one(alloc: Global) -> Result<PlainDesk, Refusal> {
     Ok(desk)
 }
 
-fn image_of(mut desk: PlainDesk) -> Result<State, Refusal> {
+fn image_of(mut desk: PlainDesk) -> Result<Image, Refusal> {
     desk.image()
 }
 
-fn image(alloc: Global) -> Result<State, Refusal> {
+fn image(alloc: Global) -> Result<Image, Refusal> {
     image_of(desk_of_one(alloc)?)
 }
 
-fn copy_of(state: &State) -> Result<State, Refusal> {
-    Ok(state.copy()?)
-}
-
-fn copy(alloc: Global) -> Result<State, Refusal> {
-    copy_of(&image(alloc)?)
+// A desk of a copy of the image has that image.
+fn copy(alloc: Global) -> Result<Image, Refusal> {
+    let image = image(alloc)?.copy()?;
+    image_of(PlainDesk::of(alloc, settings_of(alloc)?.copy()?, image))
 }
 
 // How many vens there are, and the serial.
-pub fn sizes(state: &State) -> (usize, u64) {
-    (state.base.portfolio.vens.len(), state.base.serial.get())
+pub fn sizes(image: &Image) -> (usize, u64) {
+    let base = &image.state().base;
+    (base.portfolio.vens.len(), base.serial.get())
 }
 
 fn sizes_of_image(alloc: Global) -> Result<(usize, u64), Refusal> {

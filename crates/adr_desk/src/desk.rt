@@ -20,7 +20,7 @@ use crate::create::create_in;
 use crate::image::image_in;
 use crate::step::apply_in;
 use adr_machine::{Answer, Command, Desk, Query};
-use adr_state::{Settings, State};
+use adr_state::{Image, Settings};
 use adr_text::{Moment, Refusal};
 use sqlite::{Alter, Connection, MemStore};
 use std::alloc::Global;
@@ -99,7 +99,7 @@ impl<S: Alter> Desk for SqlDesk<S> {
         ask_in(self.alloc, &mut self.conn, query)
     }
 
-    fn image(&mut self) -> Result<State, Refusal>
+    fn image(&mut self) -> Result<Image, Refusal>
         ensures ok { IfOk result (λ image. IsSound S.Store self.new → image ≡ state_of S.Store self.old) }
         ensures refused { IfErr result (λ refusal. IsSound S.Store self.new → IsRefusalOf refusal (image_of (state_of S.Store self.old))) }
         ensures listed { IfErr result (IsListed (Unit {0}) []) }

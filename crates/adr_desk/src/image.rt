@@ -9,10 +9,18 @@ ghost use Rattle.adr_db.specs.Images.{image_kept};
 
 use crate::frame::begin;
 use adr_db_state::read_state;
-use adr_state::Image;
+use adr_state::{Image, State};
 use adr_text::Refusal;
 use sqlite::{Alter, Connection};
 use std::alloc::Global;
+
+// More than a node has is the store's refusal.
+fn of_store(state: State) -> Result<Image, Refusal>
+    ensures ok { IfOk result (λ image. image ≡ state) }
+    ensures refused { IfErr result IsOfStore }
+{
+    Image::of(state).ok_or(Refusal::Store)
+}
 
 /// The whole state, which stays. The transaction is dropped and not committed, so a crash leaves what it
 /// could before.
@@ -23,5 +31,5 @@ pub(crate) fn image_in<S: Alter>(alloc: Global, conn: &mut Connection<S>) -> Res
     ensures refused { IfErr result IsOfStore }
 {
     let mut tx = begin(conn);
-    read_state(alloc, &mut tx)
+    of_store(read_state(alloc, &mut tx)?)
 }

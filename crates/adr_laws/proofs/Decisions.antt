@@ -1,6 +1,6 @@
 -- What a command decides fits the base, and what a step makes of it: the one walk over the commands. The laws walk over the kinds of change.
 use Rattle.std.proofs.Common.{◌≡◌, ℕ, ◌≤◌, ◌+◌, Bool, true, false, cond, ◌==◌, ◌⊎◌, inl, inr, ◌&&◌, List, [], ◌∷◌, length, Option, Some, None, Result, Ok, Err, IfOk, refl, ap, subst, arith}
-use Rattle.std.specs.Prelude.{nat_lt, nat_le, is_some, IsSome, IfSome, option_map, option_and_then}
+use Rattle.std.specs.Prelude.{nat_lt, nat_le, is_some, IsSome, IfSome, option_and_then}
 use Rattle.std.specs.Option.{option_map_or}
 use Rattle.adr_laws.proofs.Common.{nat_cmp, unsigned_Decides, cond_both, Refusal, Base, at, ven_name, resource_name, is_taken, is_taken_by_another, is_full, BaseChange, JoinMarks, SetScan, ChangePortfolio, changed, Command, Settings, State, step_at}
 use Rattle.std.proofs.lemmas.Bool.{eqb-false, leb-false, ltb-false}
@@ -24,9 +24,9 @@ use Rattle.adr_state.specs.Evidence.{adds_beyond, joining, scan_with, open_scan,
 use Rattle.adr_state.specs.Vens.{ven_with_id, ven_at, putting_ven}
 use Rattle.adr_state.specs.Resources.{resource_with_id, resource_at, is_under, resource_under, putting_resource}
 use Rattle.adr_state.specs.Shares.{is_beyond, weight_set, share_of}
-use Rattle.adr_state.specs.Subs.{sub_with_id, sub_post}
+use Rattle.adr_state.specs.Subs.{sub_post}
 use Rattle.adr_view.specs.declared.sight.Sight.{Sight}
-use Rattle.adr_view.specs.Sights.{sees_owner, owner_in}
+use Rattle.adr_view.specs.Sights.{owner_in}
 use Rattle.adr_view.specs.Subs.{sub_in_sight, sub_put, sub_delete}
 use Rattle.adr_objects.specs.declared.site.ReportIn.{ReportIn}
 use Rattle.adr_objects.specs.declared.body.EventBody.{EventBody}
@@ -54,7 +54,8 @@ use Rattle.adr_delivery.specs.declared.outbox.Outbox.{Outbox}
 use Rattle.adr_delivery.specs.Outboxes.{kept_for}
 use Rattle.adr_laws.specs.Reported.{SaysAsSent}
 use Rattle.adr_laws.specs.Laws.{HasVen, HasResource, evidence_in, HasWeight, HasReported, HasOwner}
-use Rattle.adr_laws.proofs.EditLemmas.{tested, first_then, found_then, new_then, free_then, whatever}
+use Rattle.adr_machine.proofs.EditLemmas.{tested, allowed_then, first_then, found_then, new_then, free_then, whatever}
+use Rattle.adr_machine.proofs.Found.{IsFound, IsReportOf, IsSubOf, number_there, passing, ven_there, resource_there, report_there, in_sight_there}
 use Rattle.adr_laws.proofs.NameLemmas.{Free, free_new, free_again}
 use Rattle.adr_laws.proofs.NumberLemmas.{IsNumber, serial_then}
 
@@ -132,36 +133,10 @@ FitsCommand base c = Fits (base.serial + 1) (draws_number c) base (evidence_in c
 
 -- ---- what an id names is there
 
-abbrev IsFound : {V : Type 0} → List (ℕ × V) → ℕ → Type 0
-IsFound rows n = IsSome (at nat_cmp n rows)
-
-row_there : {V : Type 0} (rows : List (ℕ × V)) (o : Option ℕ) → IfSome {T = ℕ × V} (option_and_then (λ n. option_map (λ v. (n, v)) (at nat_cmp n rows)) o) (λ r. IsFound rows r.0)
-row_there rows None = tt
-row_there {V} rows (Some n) = elim (at nat_cmp n rows) as (λ o. at nat_cmp n rows ≡ o → IfSome {T = ℕ × V} (option_map (λ v. (n, v)) o) (λ r. IsFound rows r.0)) [
-  | None ↦ λ is. tt
-  | Some v ↦ λ is. ap is_some is
-] refl
-
--- its number alone
-number_there : {V : Type 0} (rows : List (ℕ × V)) (o : Option (ℕ × V)) → IfSome o (λ r. IsFound rows r.0) → IfSome (option_map (λ r. r.0) o) (IsFound rows)
-number_there rows None h = tt
-number_there rows (Some r) h = h
-
--- where it passes a test, too
-passing : {A : Type 0} (P Q : A → Type 0) (passes : A → Bool) (o : Option A) → IfSome o P → ((x : A) → P x → passes x ≡ true → Q x) → IfSome (option_and_then (λ x. cond (passes x) (Some x) None) o) Q
-passing P Q passes None h then_so = tt
-passing P Q passes (Some x) h then_so = cond_both (passes x) (Some x) None (λ o. IfSome o Q) (then_so x h) (λ fails. tt)
-
 -- the ven of an id that a resource belongs to
 owner_there : {V : Type 0} (rows : List (ℕ × V)) (m : ℕ) (o : Option ℕ) → IfSome o (IsFound rows) → option_map_or (λ n. n == m) o false ≡ true → IsFound rows m
 owner_there rows m None there is = absurd (let no : false ≡ true = is in cc)
 owner_there rows m (Some n) there is = subst (IsFound rows) ((unsigned_Decides n m).0 is) there
-
-ven_there : (id : List ℕ) (p : Portfolio) → IfSome (ven_with_id id p) (λ v. IsFound p.vens v.0)
-ven_there id p = row_there p.vens (number_in 118 id)
-
-resource_there : (id : List ℕ) (p : Portfolio) → IfSome (resource_with_id id p) (λ r. IsFound p.resources r.0)
-resource_there id p = row_there p.resources (number_in 114 id)
 
 -- a resource that is there, and its ven
 abbrev IsHeld : Portfolio → ℕ × Resource → Type 0
@@ -171,34 +146,6 @@ under_there : (ven id : List ℕ) (p : Portfolio) → IfSome (resource_under ven
 under_there ven id p =
     passing (λ r. IsFound p.resources r.0) (IsHeld p) (λ r. is_under ven p r.1) (resource_with_id id p) (resource_there id p)
     (λ r there under. (there, owner_there p.vens r.1.ven (ven_at ven p) (number_there p.vens (ven_with_id ven p) (ven_there ven p)) under))
-
--- the row of a number, where there is one
-abbrev IsRow : {V : Type 0} → List (ℕ × V) → Option ℕ → ℕ × V → Type 0
-IsRow rows number r = (number ≡ Some r.0) × (at nat_cmp r.0 rows ≡ Some r.1)
-
-row_is : {V : Type 0} (rows : List (ℕ × V)) (o : Option ℕ) → IfSome {T = ℕ × V} (option_and_then (λ n. option_map (λ v. (n, v)) (at nat_cmp n rows)) o) (IsRow rows o)
-row_is rows None = tt
-row_is {V} rows (Some n) = elim (at nat_cmp n rows) as (λ o. at nat_cmp n rows ≡ o → IfSome {T = ℕ × V} (option_map (λ v. (n, v)) o) (IsRow rows (Some n))) [
-  | None ↦ λ is. tt
-  | Some v ↦ λ is. (refl, is)
-] refl
-
--- the report of an id, and the subscription of one
-abbrev IsReportOf : List ℕ → Portfolio → ℕ × Report → Type 0
-IsReportOf id p r = IsRow p.reports (number_in 112 id) r
-
-report_there : (id : List ℕ) (p : Portfolio) → IfSome (report_with_id id p) (IsReportOf id p)
-report_there id p = row_is p.reports (number_in 112 id)
-
-abbrev IsSubOf : List ℕ → Portfolio → ℕ × Sub → Type 0
-IsSubOf id p s = IsRow p.subs (number_in 115 id) s
-
-sub_there : (id : List ℕ) (p : Portfolio) → IfSome (sub_with_id id p) (IsSubOf id p)
-sub_there id p = row_is p.subs (number_in 115 id)
-
-in_sight_there : (sight : Sight) (id : List ℕ) (p : Portfolio) → IfOk (sub_in_sight sight id p) (IsSubOf id p)
-in_sight_there sight id p =
-    found_then (IsSubOf id p) (IsSubOf id p) refusal.NotFound (sub_with_id id p) _ (sub_there id p) (λ s there. cond_both (sees_owner sight s.1.owner) (Ok s) (Err refusal.Forbidden) (λ r. IfOk r (IsSubOf id p)) (λ seen. there) (λ unseen. tt))
 
 -- what belongs to who sees this much is of a ven that is there
 abbrev OwnerIsThere : Base → Sight → Type 0
@@ -321,10 +268,6 @@ module _ (limits : Limits) (now next : ℕ) (base : Base) where
   removed_fits : (id : List ℕ) → IfOk (report_removed id base.portfolio) (Goes id)
   removed_fits id = found_then (Goes id) (IsReportOf id base.portfolio) refusal.NotFound (report_with_id id base.portfolio) _ (report_there id base.portfolio) (λ old is. (is, tt, refl))
 
-  -- by who sees what is reported on
-  seen_fits : {A : Type 0} (P : A → Type 0) (sees : Bool) (r : Result A Refusal) → IfOk r P → IfOk (cond sees r (Err refusal.Forbidden)) P
-  seen_fits P sees r h = cond_both sees r (Err refusal.Forbidden) (λ r. IfOk r P) (λ seen. h) (λ unseen. tt)
-
   share_fits : (key : ShareKey) (weight : ℕ) → IsFound base.portfolio.resources key.resource → IfOk (share_of limits key weight base.portfolio) (Draws false)
   share_fits key weight there =
       let fits : PortfolioChange → Type 0 = λ change. FitsPortfolio next false base.portfolio change × (puts_of change ≡ []) in
@@ -345,7 +288,7 @@ module _ (limits : Limits) (now next : ℕ) (base : Base) where
       (λ d h. record { fits = h.0; tells = h.1; is = record { comes = tt; puts_none = h.2 } })
   decided_fits (VenAdd role ven) =
       let p = base.portfolio in
-      portfolio_fits true _ (λ x. tt) _ (new_then (Draws true) (is_taken ven_name ven.name p.vens) (is_full limits.vens p.vens) (putting_ven next (record { name = ven.name; stamps = fresh now })) (λ free. ((refl, free_new ven_name next ven.name p.vens free), refl)))
+      portfolio_fits true _ (λ x. tt) _ (new_then (Draws true) (is_taken ven_name ven.name p.vens) (is_full limits.vens p.vens) (putting_ven next (record { name = ven.name; stamps = fresh now })) (λ free room. ((refl, free_new ven_name next ven.name p.vens free), refl)))
   decided_fits (VenPut role id ven) =
       let p = base.portfolio in
       portfolio_fits false _ (λ x. tt) _ (found_then (Draws false) (λ v. IsFound p.vens v.0) refusal.NotFound (ven_with_id id p) _ (ven_there id p) (λ v there.
@@ -354,7 +297,7 @@ module _ (limits : Limits) (now next : ℕ) (base : Base) where
   decided_fits (ResourceAdd role ven resource) =
       let p = base.portfolio in
       portfolio_fits true _ (λ x. tt) _ (found_then (Draws true) (IsFound p.vens) refusal.NotFound (ven_at ven p) _ (number_there p.vens (ven_with_id ven p) (ven_there ven p)) (λ v there.
-      new_then (Draws true) (is_taken resource_name resource.name p.resources) (is_full limits.resources p.resources) (putting_resource next (record { ven = v; name = resource.name; stamps = fresh now })) (λ free. ((refl, free_new resource_name next resource.name p.resources free, there), refl))))
+      new_then (Draws true) (is_taken resource_name resource.name p.resources) (is_full limits.resources p.resources) (putting_resource next (record { ven = v; name = resource.name; stamps = fresh now })) (λ free room. ((refl, free_new resource_name next resource.name p.resources free, there), refl))))
   decided_fits (ResourcePut role ven id resource) =
       let p = base.portfolio in
       portfolio_fits false _ (λ x. tt) _ (found_then (Draws false) (IsHeld p) refusal.NotFound (resource_under ven id p) _ (under_there ven id p) (λ r held.
@@ -369,14 +312,14 @@ module _ (limits : Limits) (now next : ℕ) (base : Base) where
   decided_fits (ReportPost role sent) =
       let keeps = Keeps (λ n. n ≡ next) sent in
       first_then (Fits next true base [] (IsKept base (λ n. n ≡ next) sent)) (λ sight. Unit {0}) (sight_of base role) _ (whatever (sight_of base role)) (λ sight h.
-      kept_fits (λ n. n ≡ next) sent _ (seen_fits keeps (may_report sight sent base.portfolio) (report_made limits next sent base.mirror base.portfolio) (made_fits sent)))
+      kept_fits (λ n. n ≡ next) sent _ (allowed_then keeps (may_report sight sent base.portfolio) refusal.Forbidden (report_made limits next sent base.mirror base.portfolio) (made_fits sent)))
   decided_fits (ReportPut role id sent) =
       let keeps = Keeps (λ n. number_in 112 id ≡ Some n) sent in
       first_then (Fits next true base [] (IsKept base (λ n. number_in 112 id ≡ Some n) sent)) (λ sight. Unit {0}) (sight_of base role) _ (whatever (sight_of base role)) (λ sight h.
-      kept_fits (λ n. number_in 112 id ≡ Some n) sent _ (seen_fits keeps (may_change sight id base.portfolio && may_report sight sent base.portfolio) (report_replaced next id sent base.mirror base.portfolio) (replaced_fits id sent)))
+      kept_fits (λ n. number_in 112 id ≡ Some n) sent _ (allowed_then keeps (may_change sight id base.portfolio && may_report sight sent base.portfolio) refusal.Forbidden (report_replaced next id sent base.mirror base.portfolio) (replaced_fits id sent)))
   decided_fits (ReportDelete role id) =
       first_then (Fits next false base [] (IsGone base id)) (λ sight. Unit {0}) (sight_of base role) _ (whatever (sight_of base role)) (λ sight h.
-      gone_fits id _ (seen_fits (Goes id) (may_change sight id base.portfolio) (report_removed id base.portfolio) (removed_fits id)))
+      gone_fits id _ (allowed_then (Goes id) (may_change sight id base.portfolio) refusal.Forbidden (report_removed id base.portfolio) (removed_fits id)))
   decided_fits (SubPost role sub) =
       first_then (Fits next true base [] IsPlain) (λ body. Unit {0}) (settled sub) _ (whatever (settled sub)) (λ body h. first_then (Fits next true base [] IsPlain) (OwnerIsThere base) (sight_of base role) _ (owner_seen base role) (λ sight owner.
       portfolio_fits true sub_outcome (λ x. tt) (sub_post limits now next (owner_in sight) body base.portfolio) (tested (Draws true) (is_full limits.subs base.portfolio.subs) refusal.LimitReached _ (λ room. ((refl, owner), refl)))))

@@ -2,7 +2,6 @@ pub mod Common
 pub mod NameLemmas
 pub mod NumberLemmas
 pub mod ReportLemmas
-pub mod EditLemmas
 pub mod RunLemmas
 pub mod Decisions
 pub mod SubLemmas

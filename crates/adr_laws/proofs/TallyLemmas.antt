@@ -1,13 +1,13 @@
 -- The counts of entries: as many were made as were sent, given up and dropped, and wait; and no count has stopped short.
-use Rattle.std.proofs.Common.{◌≡◌, ◌≤◌, ◌<◌, ◌+◌, ◌-◌, ℕ, Bool, true, false, cond, List, [], ◌∷◌, length, filter, Option, Some, None, inl, inr, Result, IfOk, refl, sym, ap, subst, ◌∙◌, arith}
-use Rattle.std.specs.Prelude.{nat_lt, option_map, unwrap_or}
-use Rattle.std.specs.List.{enumerate_from, sum_by}
+use Rattle.std.proofs.Common.{◌≡◌, ◌≤◌, ◌<◌, ◌+◌, ◌-◌, ℕ, Bool, true, false, cond, List, [], ◌∷◌, length, filter, Option, Some, None, inl, inr, Result, IfOk, refl, sym, ap, subst, arith}
+use Rattle.std.specs.Prelude.{nat_lt}
+use Rattle.std.specs.List.{enumerate_from}
 use Rattle.std.specs.Map.{remove_entry}
 use Rattle.std.proofs.lemmas.Bool.{ltb-true}
 use Rattle.std.proofs.lemmas.List.FromFn.{length-enumerate_from}
-use Rattle.std.proofs.lemmas.List.Sums.{count_by-le-length, length-filter, sum_by-cons}
-use Rattle.std.proofs.lemmas.Map.Entries.{length-values_of, sum_by-insert_entry, sum_by-remove_entry}
-use Rattle.adr_laws.proofs.Common.{Contains, Contains-from_lookup, eq_by_cmp_equiv, exact_unsigned, insert_entry, is_at, IsDistinct-from_sorted, keys_of, lookup-from_Contains, nat_cmp, nat_cmp_total, tells_apart, values_of, Settings, State, Command, at, changed, empty, state_after, step_at, Refusal}
+use Rattle.std.proofs.lemmas.List.Sums.{count_by-le-length, length-filter}
+use Rattle.adr_machine.proofs.Sizes.{found_size, put_size, removed_size}
+use Rattle.adr_laws.proofs.Common.{Contains, Contains-from_lookup, eq_by_cmp_equiv, exact_unsigned, insert_entry, is_at, IsDistinct-from_sorted, keys_of, lookup-from_Contains, nat_cmp, nat_cmp_total, tells_apart, Settings, State, Command, at, changed, empty, state_after, step_at, Refusal}
 use Rattle.adr_delivery.specs.declared.delivery.Delivery.{Delivery}
 use Rattle.adr_delivery.specs.declared.entry.Entry.{Entry}
 use Rattle.adr_delivery.specs.declared.outbox.Outbox.{Outbox}
@@ -28,31 +28,6 @@ use Rattle.adr_laws.proofs.WaitLemmas.{IsLeased, Wait, none_wait, delivered_hold
 
 -- ---- how many rows there are
 
-sizes : {A : Type 0} (xs : List A) → sum_by (λ x. 1) xs ≡ length xs
-sizes [] = refl
-sizes (x ∷ xs) = let first = sum_by-cons (λ x. 1) x xs in let rest = sizes xs in omega (arith, first, rest)
-
-rows_size : {V : Type 0} (rows : List (ℕ × V)) → sum_by (λ x. 1) (values_of rows) ≡ length rows
-rows_size rows = sizes (values_of rows) ∙ length-values_of rows
-
--- one that is found, or none
-abbrev found_size : {V : Type 0} → Option V → ℕ
-found_size found = unwrap_or (option_map (λ x. 1) found) 0
-
-put_size : {V : Type 0} (n : ℕ) (v : V) (rows : List (ℕ × V)) → InOrder nat_cmp rows → length (insert_entry nat_cmp rows n v) + found_size (at nat_cmp n rows) ≡ length rows + 1
-put_size n v rows ordered =
-    let sum = sum_by-insert_entry (λ x. 1) nat_cmp_total rows n v ordered in
-    let before = rows_size rows in
-    let after = rows_size (insert_entry nat_cmp rows n v) in
-    omega (arith, sum, before, after)
-
-removed_size : {V : Type 0} (n : ℕ) (rows : List (ℕ × V)) → length (remove_entry (is_at (nat_cmp n)) rows) + found_size (at nat_cmp n rows) ≡ length rows
-removed_size n rows =
-    let sum = sum_by-remove_entry (λ x. 1) (is_at (nat_cmp n)) rows in
-    let before = rows_size rows in
-    let after = rows_size (remove_entry (is_at (nat_cmp n)) rows) in
-    omega (arith, sum, before, after)
-
 -- a number behind all that are there is not found
 not_yet : {V : Type 0} (n : ℕ) (rows : List (ℕ × V)) → ((x : ℕ × V) → Contains rows x → x.0 < n) → at nat_cmp n rows ≡ None
 not_yet {V} n rows low = by (at nat_cmp n rows) refl
@@ -65,7 +40,7 @@ not_yet {V} n rows low = by (at nat_cmp n rows) refl
 more_size : (from : ℕ) (further : List Entry) (rows : List (ℕ × Entry)) → InOrder nat_cmp rows → ((x : ℕ × Entry) → Contains rows x → x.0 < from) → length (with_entries (enumerate_from from further) rows) ≡ length rows + length further
 more_size from [] rows ordered low = omega arith
 more_size from (e ∷ further) rows ordered low =
-    let one = put_size from e rows ordered in
+    let one = put_size nat_cmp_total from e rows ordered in
     let none = ap found_size (not_yet from rows low) in
     let rest = more_size (from + 1) further (insert_entry nat_cmp rows from e) (in_order_put nat_cmp_total from e rows ordered)
     (λ x there. elim (from_put exact_unsigned from e rows x there) [ inl old ↦ (let less = low x old in omega (arith, less)) | inr new ↦ (let number = ap (λ (x : ℕ × Entry). x.0) new in omega (arith, number)) ]) in
@@ -92,14 +67,14 @@ module _ {serial : ℕ} {o : Outbox} (h : Counted serial o) (ordered : InOrder n
   again_counted n e d remotes there =
       let found : at nat_cmp n o.entries ≡ Some e = lookup-from_Contains (eq_by_cmp_equiv nat_cmp_total) n e o.entries (IsDistinct-from_sorted nat_cmp (keys_of o.entries) ordered) there in
       let one = ap found_size found in
-      let size = put_size n (with_delivery d e) o.entries ordered in
+      let size = put_size nat_cmp_total n (with_delivery d e) o.entries ordered in
       let all = h.add_up in
       record { add_up = omega (arith, one, size, all); made_low = h.made_low }
 
   -- one that leaves is counted
   module _ (n : ℕ) (e : Entry) (remotes : List (List ℕ × List ℕ)) (leased : IsLeased n o.entries e) where
     one_less : length (remove_entry (is_at (nat_cmp n)) o.entries) + 1 ≡ length o.entries
-    one_less = let one = ap found_size leased.0 in let size = removed_size n o.entries in omega (arith, one, size)
+    one_less = let one = ap found_size leased.0 in let size = removed_size nat_cmp n o.entries in omega (arith, one, size)
 
     sent_counted : Counted serial (record { entries = remove_entry (is_at (nat_cmp n)) o.entries; remotes = remotes; counts = record o.counts { sent = plus o.counts.sent 1 } })
     sent_counted =

@@ -27,7 +27,7 @@ use Rattle.adr_machine.specs.Edits.{is_delivery}
 use Rattle.adr_view.proofs.ListLemmas.{in_map}
 use Rattle.adr_view.proofs.OrderLemmas.{InOrder, Behind, none_sorted, each_row, in_order_put}
 use Rattle.adr_view.proofs.RowLemmas.{each_there, from_put}
-use Rattle.adr_laws.proofs.EditLemmas.{first_then, found_then, whatever}
+use Rattle.adr_machine.proofs.EditLemmas.{first_then, found_then, whatever}
 use Rattle.adr_laws.proofs.Decisions.{of_delivery}
 use Rattle.adr_laws.proofs.NumberLemmas.{IsDrawn, still_drawn}
 

@@ -1,5 +1,5 @@
 -- What stands of an address in a request.
-use Rattle.std.specs.Prelude.{ℕ, ◌-◌, ◌==◌, List, [], ◌++◌, length, take, drop, bytes_eq, codes, decimal, Option, Some, None, if◌then◌else◌}
+use Rattle.std.specs.Prelude.{ℕ, ◌-◌, ◌==◌, List, [], ◌++◌, length, take, drop, bytes_eq, codes, decimal, Option, Some, None, unwrap_or, if◌then◌else◌}
 use Rattle.url.specs.Parts.{Parts, host_or_empty}
 use Rattle.url.specs.Host.{host_text}
 
@@ -11,6 +11,10 @@ port_text (Some port) = if port == 80 then [] else codes ":" ++ decimal port
 -- the host as the URL is written, and the port
 abbrev pub host_field : Parts → List ℕ
 host_field url = host_text (host_or_empty url) ++ port_text url.port
+
+-- where a connection is made: the host as the URL is written, and the port
+abbrev pub endpoint : Parts → List ℕ
+endpoint url = host_text (host_or_empty url) ++ (codes ":" ++ decimal (unwrap_or url.port 80))
 
 -- a path without the slash at its end, where it has one
 abbrev pub without_slash : List ℕ → List ℕ

@@ -9,7 +9,7 @@ use Rattle.adr_subscription.specs.Callbacks.{callable_address}
 use Rattle.adr_delivery.specs.declared.job.Job.{Job}
 use Rattle.adr_delivery.specs.declared.job.JobMethod.{JobMethod}
 use Rattle.adr_delivery.specs.declared.job.JobMethod.TheVariants.{Post, Put}
-use Rattle.adr_link.specs.Addresses.{host_field, target_below, own_target}
+use Rattle.adr_link.specs.Addresses.{host_field, endpoint, target_below, own_target}
 use Rattle.adr_link.specs.Requests.{RequestText, request_bytes}
 use Rattle.adr_link.specs.Upstreams.{UpstreamParts}
 
@@ -59,6 +59,10 @@ notice_request url token body = record { method = codes "POST"; target = own_tar
 -- its bytes, where the address may be called
 abbrev pub notice_bytes : List ℕ → Option (List ℕ) → List ℕ → Result (List ℕ) Refusal
 notice_bytes address token body = callable_address address >>= λ url. Ok (request_bytes (notice_request url token body))
+
+-- where a connection for a job is made: to the utility for a report, else to the address that is notified
+abbrev pub job_endpoint : UpstreamParts → Job → Result (List ℕ) Refusal
+job_endpoint u job = if is_for_utility job then Ok (endpoint u.url) else callable_address job.target >>= λ url. Ok (endpoint url)
 
 -- the bytes that a job is sent by
 abbrev pub job_bytes : UpstreamParts → Job → Result (List ℕ) Refusal

@@ -1,7 +1,8 @@
 //! What stands of an address in a request (RFC 9112, section 3.2).
 ghost use Rattle.std.specs.Prelude.{◌≡◌, ◌++◌, Some, IfOk, OnOk};
 ghost use Rattle.std.specs.Option.{option_copied};
-ghost use Rattle.adr_link.specs.Addresses.{port_text, host_field, without_slash, target_below, query_text, own_target};
+ghost use Rattle.std.specs.String.{string_bytes};
+ghost use Rattle.adr_link.specs.Addresses.{port_text, host_field, endpoint, without_slash, target_below, query_text, own_target};
 
 use itoa::Buffer;
 use std::alloc::{AllocError, Global};
@@ -27,6 +28,17 @@ pub(crate) fn put_host(out: &mut Vec<u8>, url: &Url) -> Result<(), AllocError>
         Some(port) => put_port(out, port),
         None => Ok(()),
     }
+}
+
+/// Where a connection is made: the host as the URL is written, a colon and the port.
+pub(crate) fn endpoint(alloc: Global, url: &Url) -> Result<String, AllocError>
+    ensures { IfOk result (λ text. string_bytes text ≡ endpoint url.now) }
+{
+    let mut buffer = Buffer::new();
+    let mut text = String::from_str(alloc, url.host_str().unwrap_or(""))?;
+    text.push_str(":")?;
+    text.push_str(buffer.format(url.port().unwrap_or(80)))?;
+    Ok(text)
 }
 
 /// The path without the slash at its end, where it has one.

@@ -1,12 +1,14 @@
 //! The utility, and the requests to it and to those that are notified.
 ghost use Rattle.std.specs.Prelude.{◌≡◌, IfOk};
 ghost use Rattle.std.specs.Option.{option_copied};
+ghost use Rattle.std.specs.String.{string_bytes};
 ghost use Rattle.adr_text.specs.Refusals.{Gives};
 ghost use Rattle.adr_link.specs.Requests.{request_bytes};
-ghost use Rattle.adr_link.specs.Targets.{get_request, report_request, page_request, probe_request, notice_bytes, job_bytes};
+ghost use Rattle.adr_link.specs.Targets.{get_request, report_request, page_request, probe_request, notice_bytes, job_bytes, job_endpoint};
+ghost use Rattle.adr_link.specs.Addresses.{endpoint};
 ghost use Rattle.adr_link.specs.Upstreams.{token_shown, upstream_of};
 
-use crate::address::{own_target, target_below};
+use crate::address::{endpoint, own_target, target_below};
 use crate::message::request_bytes;
 use crate::target::{is_for_utility, method_word, page_target, probe_target};
 use adr_delivery::Job;
@@ -74,6 +76,35 @@ impl Upstream {
     {
         let url = callback_address(alloc, address)?;
         let token = token_shown(alloc, token)?;
+        Ok(Upstream { url, token })
+    }
+
+    /// Where a connection to the utility is made: its host as the URL is written, a colon and the port, 80 where the
+    /// address names none.
+    pub fn endpoint(&self, alloc: Global) -> Result<String, AllocError>
+        ensures { IfOk result (λ text. string_bytes text ≡ endpoint self.now.url) }
+    {
+        endpoint(alloc, &self.url)
+    }
+
+    /// Where a connection for a job is made: to the utility for a report, else to the address that is notified.
+    /// `BadShape` where that may not be called; one that is kept always may.
+    pub fn job_endpoint(&self, alloc: Global, job: &Job) -> Result<String, Refusal>
+        ensures { Gives string_bytes result (job_endpoint self.now job.now) }
+    {
+        if is_for_utility(job) {
+            return Ok(self.endpoint(alloc)?);
+        }
+        let url = callable_address(alloc, job.target.as_str())?;
+        Ok(endpoint(alloc, &url)?)
+    }
+
+    /// The same utility again.
+    pub fn copy(&self) -> Result<Upstream, AllocError>
+        ensures { IfOk result (λ upstream. upstream ≡ self.now) }
+    {
+        let url = self.url.clone()?;
+        let token = self.token.clone()?;
         Ok(Upstream { url, token })
     }
 

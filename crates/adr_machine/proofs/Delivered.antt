@@ -1,19 +1,17 @@
 -- What a command about an entry of the outbox is refused by.
-use Rattle.std.proofs.Common.{◌≡◌, ℕ, Bool, true, false, List, Contains, Option, Some, None, Result, Ok, Err, refl, arith}
-use Rattle.adr_text.specs.Refusals.{◌>>=◌}
+use Rattle.std.proofs.Common.{◌≡◌, ℕ, Bool, true, false, List, Contains, Option, Some, None, Ok, Err, refl, arith}
 use Rattle.adr_text.specs.declared.refusal.Refusal.{Refusal}
 use Rattle.adr_text.specs.declared.refusal.Refusal.TheVariants.{Exhausted, LeaseLost}
-use Rattle.adr_delivery.specs.declared.delivery.Delivery.{Delivery}
 use Rattle.adr_delivery.specs.declared.entry.Entry.{Entry}
 use Rattle.adr_delivery.specs.declared.outbox.Outbox.{Outbox}
 use Rattle.adr_delivery.specs.Deliveries as delivery
 use Rattle.adr_delivery.specs.Next.{next_entry}
-use Rattle.adr_delivery.specs.Outboxes.{entry_at, entry_leased, leased_at, lease_next, sent, failed}
+use Rattle.adr_delivery.specs.Outboxes.{entry_at, entry_leased, lease_next, sent, failed}
 use Rattle.adr_state.specs.declared.limits.Limits.{Limits}
 use Rattle.adr_queries.proofs.Refuses.{Refuses, never, either, tested, first_then, found_then}
 use Rattle.adr_machine.specs.declared.command.Command.{Command}
 use Rattle.adr_machine.specs.declared.command.Command.TheVariants.{Lease, Sent, Failed}
-use Rattle.adr_machine.specs.Deliveries.{leased, done, delivered}
+use Rattle.adr_machine.specs.Deliveries.{delivered}
 use Rattle.adr_machine.specs.Edits.{is_delivery}
 use Rattle.adr_machine.specs.Listed.{listed}
 

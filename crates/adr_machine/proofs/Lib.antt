@@ -1,5 +1,10 @@
 pub mod RunLemmas
 pub mod Listed
+pub mod EditLemmas
+pub mod Found
+pub mod Sizes
+mod Rooms
+mod Fitting
 mod Outcomes
 mod Delivered
 mod Quiet

@@ -1,5 +1,5 @@
 -- What a command does with an entry of the outbox.
-use Rattle.std.specs.Prelude.{ℕ, List, Option, option_map, Result, Ok}
+use Rattle.std.specs.Prelude.{ℕ, Option, option_map, Result, Ok}
 use Rattle.adr_text.specs.Refusals.{◌>>=◌}
 use Rattle.adr_text.specs.declared.refusal.Refusal.{Refusal}
 use Rattle.adr_delivery.specs.declared.entry.Entry.{Entry}

@@ -1,14 +1,15 @@
 //! What the machine is told to do.
-ghost use Rattle.std.specs.Prelude.{◌≡◌};
+ghost use Rattle.std.specs.Prelude.{◌≡◌, IfOk};
 ghost use Rattle.std.specs.Option.{option_copied};
 
+use crate::copies;
 use adr_objects::{Found, Kind, Number, ReportIn, ResourceIn, ShareIn, VenIn};
 use adr_queries::{Role, is_operator};
 use adr_subscription::SubIn;
 use adr_text::{ObjectId, Rows};
+use std::alloc::AllocError;
 
 /// A command. Each is one step, at a moment.
-#[derive(Clone)]
 pub enum Command {
     /// Versions of upstream objects were found, in a page that was polled or in a notification.
     /// Refused where keys would pass their limit.
@@ -200,6 +201,60 @@ impl Drop for Command {
 
 impl Command {
     ghost use Rattle.adr_machine.specs.Edits.{giver_of, is_allowed, draws_number, is_delivery, is_quiet};
+
+    /// The same command again.
+    pub fn copy(&self) -> Result<Command, AllocError>
+        ensures { IfOk result (λ command. command ≡ self.now) }
+    {
+        match self {
+            Command::Evidence { found, polled } => copies::evidence(found, *polled),
+            Command::Gone { kind, id } => copies::gone(*kind, id),
+            Command::ScanBegin => Ok(Command::ScanBegin),
+            Command::ScanEnd => Ok(Command::ScanEnd),
+            Command::VenAdd { role, ven } => copies::ven_add(role, ven),
+            Command::VenPut { role, id, ven } => copies::ven_put(role, id, ven),
+            Command::VenRemove { role, id } => copies::ven_remove(role, id),
+            Command::ResourceAdd {
+                role,
+                ven,
+                resource,
+            } => copies::resource_add(role, ven, resource),
+            Command::ResourcePut {
+                role,
+                ven,
+                id,
+                resource,
+            } => copies::resource_put(role, ven, id, resource),
+            Command::ResourceRemove { role, ven, id } => copies::resource_remove(role, ven, id),
+            Command::ShareSet {
+                role,
+                program,
+                resource,
+                share,
+            } => copies::share_set(role, program, resource, *share),
+            Command::ReportPost { role, report } => copies::report_post(role, report),
+            Command::ReportPut { role, id, report } => copies::report_put(role, id, report),
+            Command::ReportDelete { role, id } => copies::report_delete(role, id),
+            Command::SubPost { role, sub } => copies::sub_post(role, sub),
+            Command::SubPut { role, id, sub } => copies::sub_put(role, id, sub),
+            Command::SubDelete { role, id } => copies::sub_delete(role, id),
+            Command::Lease => Ok(Command::Lease),
+            Command::Sent {
+                entry,
+                lease,
+                remote,
+            } => copies::sent(*entry, *lease, remote),
+            Command::Failed {
+                entry,
+                lease,
+                forget,
+            } => Ok(Command::Failed {
+                entry: *entry,
+                lease: *lease,
+                forget: *forget,
+            }),
+        }
+    }
 
     /// Who gives it, where the operator alone may.
     fn giver(&self) -> Option<&Role>

@@ -1,6 +1,7 @@
 //! Steps: an edit, and then its commit; or what is done with an entry of the outbox.
 ghost use Rattle.std.specs.Prelude.{◌≡◌, ◌≢◌, Ok, Err, IfOk, IfErr};
 ghost use Rattle.adr_text.specs.declared.refusal.Refusal.TheVariants.{Store};
+ghost use Rattle.adr_state.specs.Fitting.{Fits};
 ghost use Rattle.adr_queries.specs.Listed.{IsListed};
 ghost use Rattle.adr_machine.specs.Listed.{listed};
 ghost use Rattle.adr_machine.specs.Steps.{changed, outbox_then, committed, delivery_step, edit_step, step};
@@ -146,6 +147,8 @@ pub(crate) fn next(
     ensures ok { IfOk result (λ next. step settings.now state.now now command.now ≡ Ok next) }
     ensures refused { IfErr result (λ refusal. IsRefusalOf refusal (step settings.now state.now now command.now)) }
     ensures listed { IfErr result (IsListed ⊥ (listed command.now)) }
+    ensures fits { Fits state.now → IfOk result (λ next. Fits next.1) }
 {
+    settings.limits.are_small();
     stepped(alloc, settings, state, now, command)
 }

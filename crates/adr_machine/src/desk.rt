@@ -10,7 +10,7 @@ ghost use Rattle.adr_text.specs.Refusals.{IsRefusalOf};
 
 use crate::command::Command;
 use adr_queries::{Answer, Query};
-use adr_state::{Settings, State};
+use adr_state::{Image, Settings};
 use adr_text::{Moment, Refusal};
 
 /// Keeps the machine's state, in memory or elsewhere.
@@ -47,7 +47,7 @@ pub trait Desk {
         ensures same_settings { settings self.new ≡ settings self.old };
 
     /// The whole state, which stays.
-    fn image(&mut self) -> Result<State, Refusal>
+    fn image(&mut self) -> Result<Image, Refusal>
         ensures ok { IfOk result (λ image. is_sound self.new → image ≡ state self.old) }
         ensures refused { IfErr result (λ refusal. is_sound self.new → IsRefusalOf refusal (image_of (state self.old))) }
         ensures listed { IfErr result (IsListed may_refuse []) }

@@ -3,6 +3,7 @@
 
 mod command;
 mod commit;
+mod copies;
 mod decided;
 mod deliver;
 mod desk;

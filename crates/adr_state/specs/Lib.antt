@@ -20,3 +20,4 @@ pub mod Shares
 pub mod Subs
 pub mod States
 pub mod Laws
+pub mod Fitting

@@ -1,5 +1,5 @@
 -- The limits of a node, and how one is set.
-use Rattle.std.specs.Prelude.{ℕ, List, codes, Option, None, option_map, if◌then◌else◌}
+use Rattle.std.specs.Prelude.{ℕ, ◌≤◌, List, codes, Option, None, option_map, if◌then◌else◌}
 use Rattle.std.specs.Str.{bytes_eq}
 use Rattle.adr_state.specs.Within.{where_within}
 use Rattle.adr_state.specs.declared.limits.Limits.{Limits}
@@ -17,6 +17,17 @@ largest = record {
   serial = 9_000_000_000_000_000;
   trail = 1_000_000;
 }
+
+-- none is above its largest
+pub record AreSmall (limits : Limits) : Type 0 where
+  pub keys : limits.keys ≤ largest.keys
+  pub vens : limits.vens ≤ largest.vens
+  pub subs : limits.subs ≤ largest.subs
+  pub resources : limits.resources ≤ largest.resources
+  pub shares : limits.shares ≤ largest.shares
+  pub reports : limits.reports ≤ largest.reports
+  pub pending : limits.pending ≤ largest.pending
+  pub serial : limits.serial ≤ largest.serial
 
 -- the limits with that of a name set, where there is one and the number is in its range
 abbrev pub limits_set : List ℕ → ℕ → Limits → Option Limits

@@ -4,6 +4,7 @@
 
 mod base;
 mod digits;
+mod image;
 mod keys;
 pub mod laws;
 mod limits;
@@ -21,6 +22,7 @@ mod state;
 
 pub use base::{Base, Mark};
 pub use digits::{MOST_NUMBER, number_in, number_within};
+pub use image::Image;
 pub use keys::{MirrorKey, ShareKey, ViewKey};
 pub use limits::{Limit, Limits, Settings};
 pub use lists::push_some;
@@ -32,4 +34,4 @@ pub use portfolio::{Portfolio, Report, Resource, Resources, Ven, Weight};
 pub use serial::Serial;
 pub use shown_id::{id_in, id_parts, resource_named, resource_with_id};
 pub use stamping::{fresh, modified_at};
-pub use state::{Image, State};
+pub use state::State;

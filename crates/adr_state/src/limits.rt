@@ -1,8 +1,9 @@
 //! How many objects the node keeps, and what it is set to.
-ghost use Rattle.std.specs.Prelude.{◌≡◌, ◌≤◌, is_some, unwrap_or};
+ghost use Rattle.std.specs.Prelude.{◌≡◌, ◌≤◌, is_some, unwrap_or, IfOk};
 ghost use Rattle.adr_state.specs.Within.{where_within};
 
 use adr_text::Name;
+use std::alloc::AllocError;
 use std::marker::Model;
 
 /// A limit, from 1 up to its largest, `MOST`.
@@ -88,8 +89,17 @@ impl Drop for Settings {
     }
 }
 
+impl Settings {
+    /// The same settings again.
+    pub fn copy(&self) -> Result<Settings, AllocError>
+        ensures { IfOk result (λ settings. settings ≡ self.now) }
+    {
+        self.clone()
+    }
+}
+
 impl Limits {
-    ghost use Rattle.adr_state.specs.Limits.{largest, limits_set};
+    ghost use Rattle.adr_state.specs.Limits.{AreSmall, largest, limits_set};
 
     /// Each limit at its largest, which is the default.
     pub fn largest() -> Limits
@@ -106,6 +116,20 @@ impl Limits {
             serial: Limit::largest(),
             trail: Limit::largest(),
         }
+    }
+
+    /// None of them is above its largest.
+    pub fn are_small(&self)
+        ensures { AreSmall self.now }
+    {
+        let _keys = self.keys.get();
+        let _vens = self.vens.get();
+        let _subs = self.subs.get();
+        let _resources = self.resources.get();
+        let _shares = self.shares.get();
+        let _reports = self.reports.get();
+        let _pending = self.pending.get();
+        let _serial = self.serial.get();
     }
 
     /// Sets the limit of that name, from 1 up to its largest. For another name, or a number out of

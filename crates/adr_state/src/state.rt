@@ -27,9 +27,6 @@ impl Drop for State {
     }
 }
 
-/// A state that was read from a desk.
-pub type Image = State;
-
 impl Base {
     /// The same base again.
     pub fn copy(&self) -> Result<Base, AllocError>

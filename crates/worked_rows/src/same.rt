@@ -3,7 +3,7 @@ use crate::portfolio::is_same_portfolio;
 use crate::same_outbox::is_same_outbox;
 use adr_machine::Desk;
 use adr_objects::{Body, Stamps, canonical};
-use adr_state::{Base, Image, Mark, MirrorKey, Polled, ViewKey};
+use adr_state::{Base, Image, Mark, MirrorKey, Polled, State, ViewKey};
 use adr_text::{Refusal, Table};
 use std::alloc::{AllocError, Global};
 
@@ -75,14 +75,14 @@ fn are_same_stamps(stamps: &Table<ViewKey, Stamps>, others: &Table<ViewKey, Stam
 }
 
 /// Whether both hold the same base, the same stamps of what is shown, and the same outbox.
-fn is_same(alloc: Global, image: &Image, other: &Image) -> Result<bool, AllocError> {
-    let base = is_same_base(alloc, &image.base, &other.base)?;
-    let stamps = are_same_stamps(&image.stamps, &other.stamps);
-    Ok(base && stamps && is_same_outbox(&image.outbox, &other.outbox))
+fn is_same(alloc: Global, state: &State, other: &State) -> Result<bool, AllocError> {
+    let base = is_same_base(alloc, &state.base, &other.base)?;
+    let stamps = are_same_stamps(&state.stamps, &other.stamps);
+    Ok(base && stamps && is_same_outbox(&state.outbox, &other.outbox))
 }
 
 /// Whether a desk holds the state of an image.
 pub fn holds<D: Desk>(alloc: Global, desk: &mut D, image: &Image) -> Result<bool, Refusal> {
     let other = desk.image()?;
-    Ok(is_same(alloc, image, &other)?)
+    Ok(is_same(alloc, image.state(), other.state())?)
 }

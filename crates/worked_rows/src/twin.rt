@@ -5,7 +5,7 @@ use crate::answers::is_same_answer;
 use crate::same::holds;
 use adr_desk::MemoryDesk;
 use adr_machine::{Answer, Command, Desk, PlainDesk, Query};
-use adr_state::{Image, Settings, State};
+use adr_state::{Image, Settings};
 use adr_text::{Moment, Refusal};
 use std::alloc::{AllocError, Global};
 
@@ -97,7 +97,7 @@ fn note(
     now: Moment,
     command: &Command,
 ) -> Result<(), AllocError> {
-    told.push((now, command.clone()?))?;
+    told.push((now, command.copy()?))?;
     Ok(())
 }
 
@@ -130,7 +130,7 @@ impl Desk for Twin {
         said
     }
 
-    fn image(&mut self) -> Result<State, Refusal> {
+    fn image(&mut self) -> Result<Image, Refusal> {
         let said = self.plain.image();
         let alloc = self.alloc;
         let same = holds_so(alloc, &mut self.tables, &said);

@@ -5,6 +5,6 @@ use Rattle.adr_machine.proofs.plain.PlainDeskDesk.ask.Goals as goal
 
 pub returns-clause-listed : goal.returns-clause-listed
 returns-clause-listed c =
-    let s = c.args.self.now.state in
+    let s = c.state.result.now in
     let query = c.args.query.now in
     as_listed (listed_for query) c.reply.result (reply s query) (reply_listed s query) c.reply.ensures.refused c.reply.ensures.no_store

@@ -1,0 +1,102 @@
+//! A state as a desk tells it, and as one is made of it.
+ghost use Rattle.std.specs.Prelude.{◌≡◌, ◌↔◌, IsTrue, IfOk, IfSome, IfNone};
+ghost use Rattle.adr_state.specs.Fitting.{IsMap, SitesFit, Fits};
+
+use crate::portfolio::Portfolio;
+use crate::state::State;
+use adr_text::Table;
+use std::alloc::AllocError;
+use std::marker::Model;
+
+/// A state that a desk may hold, whatever it is set to: each of its maps has at most as many rows as the largest limit
+/// admits.
+pub struct Image {
+    state: State,
+}
+
+impl Drop for Image {
+    fn drop(self) {
+        let Image { state: _ } = self;
+    }
+}
+
+impl Model for Image {
+    ghost use Rattle.adr_state.specs.declared.state.State.{State};
+    ghost use Rattle.adr_state.specs.Fitting.{Fits};
+
+    ghost Value = { State };
+
+    ghost view = { λ a. a.state };
+
+    ghost invariant = { λ a. Fits a.state };
+}
+
+/// Whether there are at most so many rows. They are in the order of their keys.
+fn is_within<K: Ord + Drop, V: Drop>(rows: &Table<K, V>, most: usize) -> bool
+    ensures { IsTrue result ↔ IsMap K.cmp most rows.now }
+{
+    let _ordered = rows.iter();
+    rows.len() <= most
+}
+
+/// Whether the maps of a portfolio are within the largest limits.
+fn sites_fit(portfolio: &Portfolio) -> bool
+    ensures { IsTrue result ↔ SitesFit portfolio.now }
+{
+    let vens = is_within(&portfolio.vens, 1_000);
+    let resources = is_within(portfolio.resources.rows(), 10_000);
+    let shares = is_within(&portfolio.shares, 100_000);
+    let reports = is_within(&portfolio.reports, 100_000);
+    let subs = is_within(&portfolio.subs, 1_000);
+    vens & resources & shares & reports & subs
+}
+
+/// Whether the state is.
+fn fits(state: &State) -> bool
+    ensures { IsTrue result ↔ Fits state.now }
+{
+    let _drawn = state.base.serial.get();
+    let sites = sites_fit(&state.base.portfolio);
+    let mirror = is_within(&state.base.mirror, 100_000);
+    let entries = is_within(&state.outbox.entries, 100_000);
+    sites & mirror & entries
+}
+
+impl Image {
+    /// The image of a state, if it is within the largest limits.
+    pub fn of(state: State) -> Option<Image>
+        ensures some { IfSome result (λ image. image ≡ state) }
+        ensures none { IfNone result (¬ (Fits state)) }
+    {
+        if !fits(&state) {
+            return None;
+        }
+        Some(Image { state })
+    }
+
+    /// The state that it is of.
+    pub fn state(&self) -> &State
+        ensures value { result.now ≡ self.now }
+        ensures fits { Fits self.now }
+    {
+        &self.state
+    }
+
+    /// The state that it is of, which takes no memory.
+    pub fn into_state(self) -> State
+        ensures value { result ≡ self }
+        ensures fits { Fits self }
+    {
+        let Image { state } = self;
+        state
+    }
+
+    /// The same image again.
+    pub fn copy(&self) -> Result<Image, AllocError>
+        ensures { IfOk result (λ image. image ≡ self.now) }
+    {
+        Ok(Image {
+            state: self.state.copy()?,
+        })
+    }
+}
