@@ -1,0 +1,36 @@
+-- Refusals of a desk among those of a book.
+use Rattle.std.proofs.Common.{◌≡◌, true, false, List, ◌++◌, Contains, Result, Ok, Err, IfErr, subst, sym}
+use Rattle.std.specs.List.{list_all}
+use Rattle.std.specs.Result.{IsErrAnd}
+use Rattle.std.proofs.lemmas.List.Elements.{All-contains, Contains-append_right}
+use Rattle.std.proofs.lemmas.List.Sums.{AllPass-from_list_all}
+use Rattle.adr_text.specs.declared.refusal.Refusal.{Refusal}
+use Rattle.adr_text.specs.declared.refusal.Refusal.TheVariants.{OutOfMemory, Store, TrailFull, Stale}
+use Rattle.adr_queries.specs.Listed.{is_of_machine, IsListed}
+use Rattle.adr_book.specs.Entry.{IsOfDesk, EndsAfter}
+
+-- a refusal that is handed on
+pub handed_on : {T : Type 0} (P : Refusal → Type 0) (r : Result T Refusal) (e : Refusal) → IsErrAnd r (λ x. x ≡ e) → P e → IfErr r P
+handed_on P (Ok x) e is so = absurd is
+handed_on P (Err x) e is so = subst P (sym is) so
+
+-- what is listed for a desk is listed behind further ones
+pub listed_behind : (P : Type 0) (first these : List Refusal) (e : Refusal) → IsListed P these e → IsListed P (first ++ these) e
+listed_behind P first these OutOfMemory is = tt
+listed_behind P first these Store is = is
+listed_behind P first these e is = Contains-append_right first these e is
+
+module _ (P : Type 0) (these : List Refusal) (all : list_all is_of_machine these ≡ true) where
+  of_machine : (e : Refusal) → Contains these e → is_of_machine e ≡ true
+  of_machine e is = All-contains (λ e. is_of_machine e ≡ true) these e (AllPass-from_list_all is_of_machine these all) is
+
+  -- where the machine's alone are listed, none is for a pass or a trail
+  pub of_desk : (e : Refusal) → IsListed P these e → IsOfDesk e
+  of_desk (Stale turn) is = absurd (let no : false ≡ true = of_machine (Stale turn) is in cc)
+  of_desk TrailFull is = absurd (let no : false ≡ true = of_machine TrailFull is in cc)
+  of_desk e is = tt
+
+-- who was let in is refused as the desk refuses
+pub ends_after : {A : Type 0} (tested : Result (Unit {0}) Refusal) (u : Unit {0}) (r : Result A Refusal) → tested ≡ Ok u → IfErr r IsOfDesk → EndsAfter tested r
+ends_after (Ok v) u r is so = so
+ends_after (Err e) u r is so = absurd (cc)

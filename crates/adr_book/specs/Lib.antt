@@ -1,0 +1,5 @@
+pub mod Trail
+pub mod Words
+pub mod Same
+pub mod Entry
+pub mod Receipts

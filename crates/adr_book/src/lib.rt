@@ -1,0 +1,10 @@
+//! A desk under one lock: a trail of accepted commands, passes that count them, and receipts that the trail bears out.
+#![tactic(auto)]
+
+mod book;
+mod kept;
+mod office;
+pub mod replay;
+
+pub use kept::{AuditFault, Book, MOST_TURNS, Pass, Receipt};
+pub use office::Office;

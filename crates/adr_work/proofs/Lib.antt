@@ -1,0 +1,5 @@
+pub mod Fairness
+pub mod Memories
+pub mod Paging
+pub mod Probing
+pub mod Rounding

@@ -1,0 +1,20 @@
+-- What is told in two parts, and refusals.
+use Rattle.std.proofs.Common.{Result, Ok, Err, IsErr, true≢false, ◌≡◌, List, [], ◌++◌, map, refl, sym, ap, ap₂, ◌∙◌, append_assoc, append-nil}
+use Rattle.std.proofs.lemmas.List.{map-append}
+use Rattle.adr_text.specs.declared.refusal.Refusal.{Refusal}
+use Rattle.adr_work.specs.Tellings.{Memory, Told, commands_of, memory_of, with_told}
+
+-- nothing more was told
+pub with_none : (m : Memory) → with_told m [] ≡ m
+with_none m = ap₂ memory_of (append-nil m.told) (append-nil m.trail)
+
+-- first these were told, and then those
+pub with_both : (m : Memory) (first next : List Told) → with_told (with_told m first) next ≡ with_told m (first ++ next)
+with_both m first next =
+    ap₂ memory_of (append_assoc m.told first next)
+    (append_assoc m.trail (commands_of first) (commands_of next) ∙ ap (λ cs. m.trail ++ cs) (sym (map-append (λ (t : Told). t.0) first next)))
+
+-- what holds of each refusal holds of one that came
+pub when_err : {A : Type 0} (P : Result A Refusal → Type 0) (r : Result A Refusal) → IsErr r → ((refusal : Refusal) → P (Err refusal)) → P r
+when_err P (Ok x) err of = absurd (true≢false (sym err))
+when_err P (Err refusal) err of = of refusal

@@ -1,0 +1,6 @@
+use Rattle.adr_work.specs.Seats.{OnlyPuts}
+use Rattle.adr_work.proofs.dispatcher.dispatch.Given as goal
+
+abbrev pub invariant-loop : goal.invariant-loop
+invariant-loop g l =
+    (goal.iterator-loop g).can_next l.iterator' × (goal.iterator-loop g).is_finite l.iterator' × OnlyPuts l.fn.seat l.seat

@@ -1,0 +1,6 @@
+use Rattle.adr_work.specs.Seats.{OnlyTakes}
+use Rattle.adr_work.proofs.sender.send_loop.Given as goal
+
+abbrev pub invariant-loop : goal.invariant-loop
+invariant-loop g l =
+    (goal.iterator-loop g).can_next l.iterator' × (goal.iterator-loop g).is_finite l.iterator' × OnlyTakes l.fn.seat l.seat

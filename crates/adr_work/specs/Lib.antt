@@ -1,0 +1,10 @@
+pub mod Fair
+pub mod Seats
+pub mod Crew
+pub mod Settling
+pub mod Leased
+pub mod Pages
+pub mod Probes
+pub mod Tellings
+pub mod Rounds
+pub mod BookRounds

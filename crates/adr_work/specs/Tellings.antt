@@ -1,0 +1,23 @@
+-- What those who are told commands keep of them.
+use Rattle.std.specs.Prelude.{List, ◌++◌, map}
+use Rattle.adr_queries.specs.declared.answer.Answer.{Answer}
+use Rattle.adr_machine.specs.declared.command.Command.{Command}
+
+-- a command that was accepted, and what it was answered
+abbrev pub Told : Type 0
+Told = Command × Answer
+
+abbrev pub commands_of : List Told → List Command
+commands_of told = map (λ t. t.0) told
+
+-- what was told, with its answers, and the trail of whoever keeps one
+pub record Memory : Type 0 where
+  pub told : List Told
+  pub trail : List Command
+
+abbrev pub memory_of : List Told → List Command → Memory
+memory_of told trail = record { told = told; trail = trail }
+
+-- after these further commands
+abbrev pub with_told : Memory → List Told → Memory
+with_told m told = memory_of (m.told ++ told) (m.trail ++ commands_of told)

@@ -1,0 +1,37 @@
+//! The node's work in threads: jobs of the outbox go from one dispatcher to many senders, over a queue whose rule counts
+//! them, and the utility is polled in rounds.
+#![tactic(auto)]
+
+mod asker;
+mod crew;
+mod dispatcher;
+mod gate;
+mod hand;
+mod leased;
+mod line;
+mod page;
+mod polling;
+mod probe;
+mod queue;
+mod round;
+mod rule;
+mod sender;
+mod settlement;
+mod teller;
+mod workers;
+
+pub use asker::Asker;
+pub use crew::{Ended, Handed, Stopped, Thread, Workers};
+pub use dispatcher::{dispatch, dispatch_loop};
+pub use gate::{Clock, Gate};
+pub use hand::Hand;
+pub use page::{MOST_ELEMENTS, PageRead, PollEnd, page_read};
+pub use polling::{MOST_PAGES, poll};
+pub use probe::probe_told;
+pub use queue::{JobQueue, Seat};
+pub use round::{poll_book, poll_round};
+pub use rule::Fair;
+pub use sender::send_loop;
+pub use settlement::settlement_of;
+pub use teller::Teller;
+pub use workers::{start, stop};

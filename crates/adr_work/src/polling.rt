@@ -1,0 +1,142 @@
+//! A round of polling, over whoever asks and whoever is told.
+ghost use Rattle.std.specs.Prelude.{◌≡◌, ◌≤◌, IfOk, OnErr};
+ghost use Rattle.adr_work.specs.Pages.{most_elements, elements};
+ghost use Rattle.adr_work.specs.Rounds.{Asks, Goes, AsksPage, IsPaging, IsListing, IsProbe, IsProbing, IsEnding, IsRound};
+
+use crate::asker::Asker;
+use crate::page::{PageRead, PollEnd, page_read};
+use crate::probe::{keys_in, probe_told};
+use crate::teller::Teller;
+use adr_link::Upstream;
+use adr_machine::Command;
+use adr_objects::Kind;
+use adr_state::MirrorKey;
+use adr_text::{Refusal, Rows};
+use std::alloc::Global;
+
+/// Pages of one kind that are asked for in a round.
+pub const MOST_PAGES: u32 = 2_000;
+
+/// Asks for a page of a kind, behind so many elements.
+fn ask_page<A: Asker>(
+    alloc: Global,
+    asker: &mut A,
+    upstream: &Upstream,
+    kind: Kind,
+    skip: u64,
+) -> Result<PageRead, Refusal>
+    ensures page { Asks (A.exchanges asker.old) (A.exchanges asker.new) (AsksPage upstream.now kind skip result) }
+    ensures few { IfOk result (λ page. elements page ≤ most_elements) }
+{
+    let request = Rows::from_vec(upstream.page_request(alloc, kind, skip)?);
+    let came = asker.ask(&request);
+    Ok(page_read(alloc, kind, &came)?)
+}
+
+/// Asks for the pages of a kind, each behind the elements of those before it, until one is empty, and tells of each that
+/// has elements. It ends as broken with a page that fails, or where 2,000 pages were not all.
+fn poll_pages<A: Asker, T: Teller>(
+    alloc: Global,
+    asker: &mut A,
+    teller: &mut T,
+    upstream: &Upstream,
+    kind: Kind,
+) -> Result<PollEnd, Refusal>
+    ensures { Goes (A.exchanges asker.old) (A.exchanges asker.new) (T.memory teller.old) (T.memory teller.new) (IsPaging upstream.now kind result) }
+{
+    let mut skip = 0;
+    for _i in 0..MOST_PAGES {
+        match ask_page(alloc, asker, upstream, kind, skip)? {
+            PageRead::Filled(command, elements) => {
+                teller.tell(&command)?;
+                skip += elements;
+            }
+            PageRead::Empty => return Ok(PollEnd::Whole),
+            PageRead::Failed => return Ok(PollEnd::Broken),
+        }
+    }
+    Ok(PollEnd::Broken)
+}
+
+/// Asks for the pages of programs, and where these are whole for those of events.
+fn poll_both<A: Asker, T: Teller>(
+    alloc: Global,
+    asker: &mut A,
+    teller: &mut T,
+    upstream: &Upstream,
+) -> Result<PollEnd, Refusal>
+    ensures { Goes (A.exchanges asker.old) (A.exchanges asker.new) (T.memory teller.old) (T.memory teller.new) (IsListing upstream.now result) }
+{
+    match poll_pages(alloc, asker, teller, upstream, Kind::Program)? {
+        PollEnd::Whole => poll_pages(alloc, asker, teller, upstream, Kind::Event),
+        PollEnd::Broken => Ok(PollEnd::Broken),
+    }
+}
+
+/// Asks for the object of a key, and tells what came of it. A probe that failed is passed over.
+fn probe<A: Asker, T: Teller>(
+    alloc: Global,
+    asker: &mut A,
+    teller: &mut T,
+    upstream: &Upstream,
+    key: &MirrorKey,
+) -> Result<(), Refusal>
+    ensures { Goes (A.exchanges asker.old) (A.exchanges asker.new) (T.memory teller.old) (T.memory teller.new) (IsProbe upstream.now key.now result) }
+{
+    let request = Rows::from_vec(upstream.probe_request(alloc, key.kind, &key.id)?);
+    let came = asker.ask(&request);
+    let Some(command) = probe_told(alloc, key, &came)? else {
+        return Ok(());
+    };
+    teller.tell(&command)?;
+    Ok(())
+}
+
+/// Probes each of the keys in turn.
+fn probe_each<A: Asker, T: Teller>(
+    alloc: Global,
+    asker: &mut A,
+    teller: &mut T,
+    upstream: &Upstream,
+    keys: &[MirrorKey],
+) -> Result<(), Refusal>
+    ensures { Goes (A.exchanges asker.old) (A.exchanges asker.new) (T.memory teller.old) (T.memory teller.new) (IsProbing upstream.now keys.now result) }
+{
+    for key in keys {
+        probe(alloc, asker, teller, upstream, key)?;
+    }
+    Ok(())
+}
+
+/// Ends the scan, and probes the keys that it missed.
+fn end_scan<A: Asker, T: Teller>(
+    alloc: Global,
+    asker: &mut A,
+    teller: &mut T,
+    upstream: &Upstream,
+) -> Result<(), Refusal>
+    ensures { Goes (A.exchanges asker.old) (A.exchanges asker.new) (T.memory teller.old) (T.memory teller.new) (IsEnding upstream.now result) }
+{
+    let missed = teller.tell(&Command::ScanEnd)?;
+    probe_each(alloc, asker, teller, upstream, keys_in(&missed))
+}
+
+/// One round: a scan over all pages of programs and then of events, whose end answers the keys that it missed, and a
+/// probe of each of these. Where not all pages are seen, the scan is not ended. A refused command ends the round.
+pub fn poll<A: Asker, T: Teller>(
+    alloc: Global,
+    asker: &mut A,
+    teller: &mut T,
+    upstream: &Upstream,
+) -> Result<PollEnd, Refusal>
+    ensures { Goes (A.exchanges asker.old) (A.exchanges asker.new) (T.memory teller.old) (T.memory teller.new) (IsRound upstream.now result) }
+{
+    teller.tell(&Command::ScanBegin)?;
+    match poll_both(alloc, asker, teller, upstream)? {
+        PollEnd::Whole => {
+            end_scan(alloc, asker, teller, upstream)?;
+            Ok(PollEnd::Whole)
+        }
+        PollEnd::Broken => Ok(PollEnd::Broken),
+    }
+}

@@ -1,0 +1,17 @@
+//! Who is told what was found.
+ghost use Rattle.std.specs.Prelude.{◌≡◌, [], ◌∷◌, IfOk, OnErr};
+ghost use Rattle.adr_work.specs.Tellings.{Memory, with_told};
+
+use adr_machine::{Answer, Command};
+use adr_text::Refusal;
+
+/// Is told commands.
+pub trait Teller {
+    /// The commands that were accepted so far.
+    ghost memory: { Self → Memory };
+
+    /// Takes one command.
+    fn tell(&mut self, command: &Command) -> Result<Answer, Refusal>
+        ensures told { IfOk result (λ answer. memory self.new ≡ with_told (memory self.old) ((command.now, answer) ∷ [])) }
+        ensures refused { OnErr result (memory self.new ≡ memory self.old) };
+}

@@ -1,0 +1,186 @@
+//! Senders work side by side, and outside the lock.
+ghost use Rattle.std.specs.Prelude.{◌≡◌, ◌<◌};
+
+use crate::day::{Day, MOST_LOOKS, Meanwhile, UntilNoneWaits, run_day};
+use crate::desk::{Still, desk_of_jobs, empty_desk, ten, ven};
+use adr_book::{Office, Pass};
+use adr_delivery::Job;
+use adr_link::{HttpReply, LinkFault, Outcome};
+use adr_machine::{Command, Desk, PlainDesk};
+use adr_text::{Moment, Refusal};
+use adr_work::{Gate, JobQueue, dispatch};
+use std::alloc::Global;
+use std::marker::Brand;
+use std::sync::atomic::{AtomicU64, Ordering};
+use std::sync::ledger::{Blank, Ledger};
+use std::sync::{Arc, Wait};
+use std::test::*;
+use std::thread;
+
+/// What has happened so far.
+struct Seen {
+    /// Job 4 was sent.
+    fourth: AtomicU64,
+    /// A step was answered under the lock.
+    step: AtomicU64,
+    /// The gate gave up.
+    tired: AtomicU64,
+}
+
+impl Drop for Seen {
+    fn drop(self) {
+        let Seen {
+            fourth: _,
+            step: _,
+            tired: _,
+        } = self;
+    }
+}
+
+fn is_set(flag: &AtomicU64) -> bool {
+    flag.load(Ordering::SeqCst) != 0
+}
+
+fn set(flag: &AtomicU64) {
+    flag.store(1, Ordering::SeqCst);
+}
+
+// Waits for a flag; gives up in the end.
+fn wait_for(flag: &AtomicU64, tired: &AtomicU64) {
+    for _ in 0..MOST_LOOKS {
+        if is_set(flag) {
+            return;
+        }
+        thread::yield_now();
+    }
+    set(tired);
+}
+
+/// Holds job 3 until job 4 was sent and a step was answered.
+#[derive(Drop)]
+struct Holding {
+    seen: Arc<Seen, Global>,
+}
+
+impl Gate for Holding {
+    fn send<R: Wait>(&self, _rt: &R, job: &Job) -> Outcome {
+        if job.entry.get() == 3 {
+            wait_for(&self.seen.fourth, &self.seen.tired);
+            wait_for(&self.seen.step, &self.seen.tired);
+        } else {
+            set(&self.seen.fourth);
+        }
+        Outcome::Sent(None)
+    }
+
+    fn fetch<R: Wait>(&self, _rt: &R, _request: &[u8]) -> Result<HttpReply, LinkFault> {
+        Err(LinkFault::Read)
+    }
+}
+
+/// Takes a step under the lock, and then waits until no entry waits any more.
+struct Enrolling {
+    at: Moment,
+    command: Command,
+    seen: Arc<Seen, Global>,
+}
+
+impl Drop for Enrolling {
+    fn drop(self) {
+        let Enrolling {
+            at: _,
+            command: _,
+            seen: _,
+        } = self;
+    }
+}
+
+impl Meanwhile for Enrolling {
+    fn pass_time<D: Desk + Drop, L: Ledger, R: Wait>(
+        &self,
+        rt: &R,
+        office: &Office<D, L>,
+        pass: &mut Pass<L>,
+    ) {
+        let taken = office.book.lock(rt).step(pass, self.at, &self.command);
+        if taken.is_ok() {
+            set(&self.seen.step);
+        }
+        UntilNoneWaits.pass_time(rt, office, pass);
+    }
+}
+
+fn gates(alloc: Global, seen: &Arc<Seen, Global>) -> Result<Vec<Holding>, Refusal> {
+    let mut gates = Vec::new(alloc);
+    for _ in 0..2u32 {
+        let seen = Arc::try_clone(seen)?;
+        gates.push(Holding { seen })?;
+    }
+    Ok(gates)
+}
+
+#[test]
+fn two_senders_side_by_side(rt: HostRuntime) -> Result<(), Fail> {
+    let alloc = rt.alloc();
+    let seen = Arc::new(
+        alloc,
+        Seen {
+            fourth: AtomicU64::new(0),
+            step: AtomicU64::new(0),
+            tired: AtomicU64::new(0),
+        },
+    )?;
+    let gates = gates(alloc, &seen)?;
+    assert_eq!(rt; gates.len(), 2);
+    let enrolling = Enrolling {
+        at: ten()?,
+        command: ven(alloc, "alpha")?,
+        seen: Arc::try_clone(&seen)?,
+    };
+    let desk = desk_of_jobs(alloc, 2)?;
+    let clock = Still(ten()?);
+    let Ok(
+        Day {
+            counts,
+            left,
+            turn: _,
+        },
+    ) = run_day::<Brand, _, _, _, _>(rt, alloc, Blank::new(4), desk, gates, clock, 2, &enrolling)
+    else {
+        panic!(rt; "the day was refused")
+    };
+    assert!(rt; !is_set(&seen.tired));
+    assert!(rt; is_set(&seen.step));
+    assert_eq!(rt; (counts.made, counts.sent, counts.pending), (2, 2, 0));
+    assert_eq!(rt; left.len(), 0);
+    Ok(())
+}
+
+// Whether a dispatch puts nothing into a queue.
+fn puts_none<L: Ledger, R: Wait>(
+    rt: &R,
+    alloc: Global,
+    blank: Blank,
+    desk: PlainDesk,
+    at: Moment,
+) -> Result<bool, Refusal>
+    requires { (blank.name ≡ L.name) × (blank.parts ≡ L.parts) × (blank.parts ≡ 1) }
+{
+    let (office, mut passes) = Office::<PlainDesk, L>::open(alloc, blank, desk, 1)?;
+    let Some(mut pass) = passes.pop() else {
+        unreachable!()
+    };
+    let (queue, mut seat) = JobQueue::new(alloc, 1)?;
+    dispatch(rt, &office, &queue, &Still(at), &mut pass, &mut seat)?;
+    Ok(queue.take(rt, &mut seat).is_none())
+}
+
+#[test]
+fn an_empty_outbox_puts_nothing(rt: HostRuntime) -> Result<(), Fail> {
+    let alloc = rt.alloc();
+    let desk = empty_desk(alloc)?;
+    assert!(rt; puts_none::<Brand, _>(&rt, alloc, Blank::new(1), desk, ten()?)?);
+    let desk = desk_of_jobs(alloc, 1)?;
+    assert!(rt; !puts_none::<Brand, _>(&rt, alloc, Blank::new(1), desk, ten()?)?);
+    Ok(())
+}

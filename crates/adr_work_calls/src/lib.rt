@@ -1,0 +1,23 @@
+//! Tests of the book among threads and of the work in them, of what no clause says: that senders work side by side and
+//! outside the lock, that each job is settled by its own command, that a round asks and tells what it should, and each
+//! public call once with ample memory. Whatever the schedule, each ends by itself and checks the same.
+#![tactic(auto)]
+
+#[cfg(test)]
+mod day;
+#[cfg(test)]
+mod desk;
+#[cfg(test)]
+mod failing;
+#[cfg(test)]
+mod held;
+#[cfg(test)]
+mod many;
+#[cfg(test)]
+mod passes;
+#[cfg(test)]
+mod polled;
+#[cfg(test)]
+mod steps;
+#[cfg(test)]
+mod stopped;
