@@ -99,7 +99,7 @@ fn a_stop_while_jobs_are_left(rt: HostRuntime) -> Result<(), Fail> {
         panic!(rt; "the day was refused")
     };
     // What wasn't sent waits, and among it are those that were left in the queue.
-    assert_eq!(rt; counts.sent + counts.pending, 6);
+    assert!(rt; counts.sent.checked_add(counts.pending) == Some(6));
     assert!(rt; 0 < left.len());
     assert!(rt; left.len() as u64 <= counts.pending);
     Ok(())
