@@ -5,7 +5,6 @@ ghost use Rattle.adr_http.specs.Roles.{granted, role_of, roles_of};
 
 use adr_machine::Role;
 use adr_text::Refusal;
-use std::alloc::{AllocError, Global};
 use std::marker::Model;
 
 /// A token, and the role of who shows it.
@@ -43,20 +42,6 @@ fn role_in<'g>(grants: &'g [Grant], token: &[u8]) -> Option<&'g Role>
     None
 }
 
-fn same_role(role: &Role) -> Result<Role, AllocError>
-    ensures { IfOk result (λ copy. copy ≡ role.now) }
-{
-    role.clone()
-}
-
-fn same_grant(grant: &Grant) -> Result<Grant, AllocError>
-    ensures { IfOk result (λ copy. granted copy ≡ granted grant.now) }
-{
-    let token = grant.token.clone()?;
-    let role = same_role(&grant.role)?;
-    Ok(Grant { token, role })
-}
-
 impl Roles {
     /// The roles of these tokens; `BadShape` where a token stands twice.
     pub fn new(grants: Vec<Grant>) -> Result<Roles, Refusal>
@@ -66,17 +51,6 @@ impl Roles {
             if role_in(&grants[i + 1..], &grants[i].token).is_some() {
                 return Err(Refusal::BadShape);
             }
-        }
-        Ok(Roles { grants })
-    }
-
-    /// The same roles again.
-    pub fn copy(&self, alloc: Global) -> Result<Roles, AllocError>
-        ensures { IfOk result (λ roles. roles ≡ self.now) }
-    {
-        let mut grants = Vec::new(alloc);
-        for grant in &self.grants {
-            grants.push(same_grant(grant)?)?;
         }
         Ok(Roles { grants })
     }
