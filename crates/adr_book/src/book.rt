@@ -7,12 +7,12 @@ ghost use Rattle.adr_machine.specs.Listed.{listed};
 ghost use Rattle.adr_machine.specs.Steps.{image_of};
 ghost use Rattle.adr_book.specs.Trail.{LeadsTo};
 ghost use Rattle.adr_book.specs.Words.{base_of, since_of, trail_of, turn_of, state_of, settings_of, IsSound, IsKept, seen_by, taken_by};
-ghost use Rattle.adr_book.specs.Same.{IsSame};
+ghost use Rattle.adr_book.specs.Same.{IsSame, IsUntouched};
 ghost use Rattle.adr_book.specs.Receipts.{IsOf, Confirms};
 ghost use Rattle.adr_book.specs.Entry.{entry_to_ask, entry_to_step, step_in, reply_in, EndsAfter};
 
 use crate::kept::{Book, MOST_TURNS, Pass, Receipt};
-use adr_machine::{Answer, Command, Desk, Image, Query};
+use adr_machine::{Answer, Command, Desk, Image, Query, Settings};
 use adr_text::{Moment, Refusal};
 use std::alloc::Global;
 use std::sync::ledger::{Blank, Ledger, Share};
@@ -59,6 +59,13 @@ impl<D: Desk, L: Ledger> Book<D, L> {
         &self.trail
     }
 
+    /// What the desk is set to.
+    pub fn settings(&self) -> &Settings
+        ensures { result.now ≡ settings_of self.now }
+    {
+        self.desk.settings()
+    }
+
     /// How many commands were accepted since the book was opened.
     pub fn turn(&self) -> u64
         ensures { result ≡ turn_of self.now }
@@ -81,7 +88,7 @@ impl<D: Desk, L: Ledger> Book<D, L> {
         ensures { result ≡ entry_to_step self.now pass.now }
     {
         self.admit(pass)?;
-        let limit = self.desk.settings().limits.trail.get();
+        let limit = self.settings().limits.trail.get();
         if limit <= self.trail.len() as u64 || MOST_TURNS <= self.turn {
             return Err(Refusal::TrailFull);
         }
@@ -209,11 +216,13 @@ impl<D: Desk, L: Ledger> Book<D, L> {
         Ok((book, share))
     }
 
-    /// Who has every part has the whole turn.
+    /// Who has every part has the whole turn. The book and the share stay as they were.
     pub fn settle(&mut self, all: &mut Share<L>) -> u64
         requires { all.old.parts ≡ L.parts }
         ensures turn { result ≡ turn_of self.old }
         ensures amount { result ≡ all.old.amount }
+        ensures share { (all.new.parts ≡ all.old.parts) × (all.new.amount ≡ all.old.amount) }
+        ensures unchanged { IsUntouched self.old self.new }
     {
         self.total.audit(all);
         self.turn

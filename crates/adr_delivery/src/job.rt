@@ -46,6 +46,23 @@ impl Drop for Job {
     }
 }
 
+impl Job {
+    /// The same job again.
+    pub fn copy(&self) -> Result<Job, AllocError>
+        ensures { IfOk result (λ copy. copy ≡ self.now) }
+    {
+        Ok(Job {
+            entry: self.entry,
+            lease: self.lease,
+            destination: self.destination,
+            method: self.method,
+            target: self.target.clone()?,
+            token: self.token.clone()?,
+            body: self.body.clone()?,
+        })
+    }
+}
+
 /// Where a report is sent to: a new one, or in the place of the one that the utility gave that id.
 fn report_target(alloc: Global, remote: Option<&ObjectId>) -> Result<FreeText, AllocError>
     ensures { IfOk result (λ target. target ≡ report_target (option_copied remote.entry)) }

@@ -5,6 +5,7 @@ ghost use Rattle.adr_http.specs.Roles.{granted, role_of, roles_of};
 
 use adr_machine::Role;
 use adr_text::Refusal;
+use std::alloc::{AllocError, Global};
 use std::marker::Model;
 
 /// A token, and the role of who shows it.
@@ -12,6 +13,18 @@ use std::marker::Model;
 pub struct Grant {
     pub token: Vec<u8>,
     pub role: Role,
+}
+
+impl Grant {
+    /// The same token with the same role again.
+    fn copy(&self) -> Result<Grant, AllocError>
+        ensures { IfOk result (λ copy. granted copy ≡ granted self.now) }
+    {
+        Ok(Grant {
+            token: self.token.clone()?,
+            role: self.role.clone()?,
+        })
+    }
 }
 
 /// Who may ask: tokens, none of them twice, each with a role.
@@ -60,5 +73,16 @@ impl Roles {
         ensures { option_copied result ≡ role_of self.now token.now }
     {
         role_in(&self.grants, token)
+    }
+
+    /// The same roles again.
+    pub fn copy(&self, alloc: Global) -> Result<Roles, AllocError>
+        ensures { IfOk result (λ copy. copy ≡ self.now) }
+    {
+        let mut grants = Vec::with_capacity(alloc, self.grants.len())?;
+        for grant in &self.grants {
+            grants.push(grant.copy()?)?;
+        }
+        Ok(Roles { grants })
     }
 }

@@ -1,34 +1,21 @@
 -- The entries of the outbox over runs: their numbers, and the order in which they leave.
-use Rattle.std.proofs.Common.{◌≡◌, ◌≤◌, ◌+◌, ℕ, Bool, true, false, not, List, [], ◌∷◌, filter, Option, Some, None, Result, IfOk, refl, sym, ap, subst, ◌∙◌, arith}
-use Rattle.std.specs.Prelude.{IsSome, IfSome, is_some, option_map, ◌==◌}
+use Rattle.std.proofs.Common.{◌≡◌, ◌≤◌, ◌+◌, ℕ, Bool, true, false, not, List, [], ◌∷◌, filter, Some, None, Result, IfOk, refl, sym, ap, subst, ◌∙◌, arith}
+use Rattle.std.specs.Prelude.{IsSome, is_some, ◌==◌}
 use Rattle.std.specs.List.{enumerate_from}
 use Rattle.std.specs.Map.{remove_entry}
-use Rattle.std.specs.Option.{option_map_or}
-use Rattle.std.proofs.lemmas.List.Elements.{All-cons}
+use Rattle.std.proofs.lemmas.List.Elements.{All-weaker}
 use Rattle.std.proofs.lemmas.Option.{same_Some}
-use Rattle.adr_laws.proofs.Common.{All, All-nil, Contains, Contains-from_lookup, eq_by_cmp_equiv, exact_unsigned, false≢true, insert_entry, is_at, IsDistinct-from_sorted, keys_of, lookup-from_Contains, nat_cmp, nat_cmp_total, tells_apart, unsigned_Decides, Base, Settings, State, Command, at, changed, empty, state_after, step_at, Refusal}
-use Rattle.adr_subscription.specs.declared.kept_sub.Sub.{Sub}
+use Rattle.adr_laws.proofs.Common.{All, Contains, Contains-from_lookup, eq_by_cmp_equiv, exact_unsigned, false≢true, insert_entry, is_at, IsDistinct-from_sorted, keys_of, lookup-from_Contains, nat_cmp, nat_cmp_total, tells_apart, unsigned_Decides, Settings, State, Command, changed, empty, state_after, step_at, Refusal}
+use Rattle.adr_delivery.specs.declared.delivery.Delivery.{Delivery}
 use Rattle.adr_delivery.specs.declared.entry.Entry.{Entry}
 use Rattle.adr_delivery.specs.declared.outbox.Outbox.{Outbox}
 use Rattle.adr_delivery.specs.Outboxes.{entry_at, has_addressee, with_delivery, with_entries}
-use Rattle.adr_state.specs.declared.keys.ViewKey.{ViewKey}
-use Rattle.adr_state.specs.declared.keys.ViewKey.TheVariants as key
-use Rattle.adr_state.specs.Keys.{view_cmp}
-use Rattle.adr_view.specs.declared.changes.Change.{Change}
-use Rattle.adr_view.specs.declared.changes.Operation.{Operation}
-use Rattle.adr_view.specs.declared.view.Content.{Content}
-use Rattle.adr_view.specs.declared.view.Content.TheVariants as content
-use Rattle.adr_view.proofs.ListLemmas.{all_flat, all_filter_map, in_filter}
+use Rattle.adr_view.proofs.ListLemmas.{in_filter}
 use Rattle.adr_view.proofs.OrderLemmas.{InOrder, in_order_filtered, in_order_removed}
 use Rattle.adr_view.proofs.RowLemmas.{each_there, from_filter, from_removal, found_after_put, found_after_removal}
-use Rattle.adr_subscription.specs.declared.item.SubscriptionItem.{SubscriptionItem}
 use Rattle.adr_queries.specs.declared.answer.Answer.{Answer}
-use Rattle.adr_notices.specs.declared.notice.Notice.{Notice}
-use Rattle.adr_notices.specs.Made.{entries_noticed, entries_at, entries_of_change, judged_in}
-use Rattle.adr_notices.specs.Matching.{matching, entry_by, entry_for, entries_of}
-use Rattle.adr_notices.specs.Shown.{Side}
 use Rattle.adr_machine.specs.Edits.{Decision, draws_number, is_delivery}
-use Rattle.adr_machine.specs.Steps.{changes_of, side_after, side_before}
+use Rattle.adr_machine.proofs.Made.{IsUntried, made_untried}
 use Rattle.adr_laws.specs.Entries.{reached, numbers_waiting, EntriesAreNumberedOnce, IsFirst, LeasedAreFirst, Leaves, EntriesLeaveInOrder, OthersLeaveWithTheirSubscription}
 use Rattle.adr_laws.specs.Standing.{state_of}
 use Rattle.adr_laws.proofs.Decisions.{base_after, entries_by, state_by, after_step}
@@ -41,34 +28,9 @@ use Rattle.adr_laws.proofs.WaitLemmas.{First, goes_to, IsLeased, Wait, none_wait
 abbrev pub AreFresh : List Entry → Type 0
 AreFresh entries = All (λ e. e.delivery.lease ≡ None) entries
 
-module _ (client : List ℕ) (subs : List (ℕ × Sub)) where
-  told_fresh : (n : Notice) → AreFresh (entries_of subs n)
-  told_fresh n = all_filter_map (entry_for n) (λ s. Unit {0}) (λ e. e.delivery.lease ≡ None) (λ s any. by s.0 (matching s.1 n)) subs (each_there (λ s. Unit {0}) subs (λ s there. tt))
-    where
-      by : (number : ℕ) (item : Option SubscriptionItem) → IfSome (option_map (entry_by number n) item) (λ e. e.delivery.lease ≡ None)
-      by number None = tt
-      by number (Some item) = refl
-
-  noticed_fresh : (notice : Option Notice) → AreFresh (entries_noticed subs notice)
-  noticed_fresh None = All-nil (λ e. e.delivery.lease ≡ None)
-  noticed_fresh (Some n) = told_fresh n
-
-  at_fresh : (shown : Side) (operation : Operation) (k : ViewKey) (c : Content) → AreFresh (entries_at client subs shown operation k c)
-  at_fresh shown operation (key.Rollup event) (content.Rollup rollup) = All-cons (λ e. e.delivery.lease ≡ None) _ [] refl (All-nil (λ e. e.delivery.lease ≡ None))
-  at_fresh shown operation k c = noticed_fresh _
-
-  change_fresh : (before after : Side) (change : Change) → AreFresh (entries_of_change client subs before after change)
-  change_fresh before after change = by (at view_cmp change.key (judged_in change.operation before after).view)
-    where
-      by : (c : Option Content) → AreFresh (option_map_or (entries_at client subs (judged_in change.operation before after) change.operation change.key) c [])
-      by None = All-nil (λ e. e.delivery.lease ≡ None)
-      by (Some c) = at_fresh (judged_in change.operation before after) change.operation change.key c
-
 pub made_fresh : (settings : Settings) (s : State) (c : ℕ × Command) (d : Decision) → AreFresh (entries_by settings s c d)
 made_fresh settings s c d =
-    let after : Base = base_after s.base c.1 d in
-    let fresh : (change : Change) → AreFresh (entries_of_change settings.client after.portfolio.subs (side_before s) (side_after s c.0 after) change) = change_fresh settings.client after.portfolio.subs (side_before s) (side_after s c.0 after) in
-    all_flat (entries_of_change settings.client after.portfolio.subs (side_before s) (side_after s c.0 after)) (λ e. e.delivery.lease ≡ None) (changes_of s after) (each_there (λ change. AreFresh (entries_of_change settings.client after.portfolio.subs (side_before s) (side_after s c.0 after) change)) (changes_of s after) (λ change there. fresh change))
+    All-weaker IsUntried (λ e. e.delivery.lease ≡ None) (λ e is. ap (λ (d : Delivery). d.lease) is) (entries_by settings s c d) (made_untried settings s c.0 (base_after s.base c.1 d))
 
 -- ---- a step
 

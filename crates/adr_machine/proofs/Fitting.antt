@@ -1,19 +1,19 @@
 -- A step leaves a state that a desk may hold.
-use Rattle.std.proofs.Common.{◌≡◌, ℕ, ◌+◌, ◌≤◌, Bool, true, false, ◌==◌, inl, inr, List, [], ◌∷◌, length, filter, Option, Some, None, Result, Ok, Err, IfOk, Ordering, refl, subst, arith}
-use Rattle.std.specs.Prelude.{nat_le, nat_lt, IsSome, IfSome}
+use Rattle.std.proofs.Common.{◌≡◌, ℕ, ◌+◌, ◌≤◌, Bool, true, false, ◌==◌, inl, inr, List, [], ◌∷◌, length, filter, Option, Some, None, Result, Ok, Err, IfOk, Ordering, refl, ap, subst, arith}
+use Rattle.std.specs.Prelude.{nat_le, nat_lt, is_some, option_map, IsSome, IfSome}
 use Rattle.std.specs.BTreeMap.{insert_entry, is_at}
 use Rattle.std.specs.BTreeSet.{insert_key}
 use Rattle.std.specs.Cmp.{IsTotalOrder, unsigned_Decides}
-use Rattle.std.specs.List.{Contains}
-use Rattle.std.specs.Map.{keys_of, remove_entry}
+use Rattle.std.specs.List.{All, Contains, enumerate_from}
+use Rattle.std.specs.Map.{keys_of, remove_entry, values_of}
 use Rattle.std.specs.Option.{option_map_or}
 use Rattle.std.specs.Ordering.{nat_cmp}
 use Rattle.std.proofs.lemmas.Bool.{and_cases, cond_both, leb-false, ltb-false}
 use Rattle.std.proofs.lemmas.Cmp.{eq_by_cmp_equiv, nat_cmp_total, nat_list_cmp_total, on_total, then_total}
-use Rattle.std.proofs.lemmas.List.Elements.{Contains-append_right}
+use Rattle.std.proofs.lemmas.List.Elements.{All-cons, All-head, All-nil, All-tail, Contains-append_right}
 use Rattle.std.proofs.lemmas.List.FromFn.{length-enumerate_from}
 use Rattle.std.proofs.lemmas.List.Sums.{count_by-le-length, length-filter}
-use Rattle.std.proofs.lemmas.Map.Views.{IsSome-lookup_from_Contains}
+use Rattle.std.proofs.lemmas.Map.Views.{All-map-remove_entry, All-values-insert_entry, IfSome-lookup_from_All, IsSome-lookup_from_Contains}
 use Rattle.adr_text.specs.Refusals.{◌>>=◌}
 use Rattle.adr_text.specs.declared.refusal.Refusal.{Refusal}
 use Rattle.adr_text.specs.declared.refusal.Refusal.TheVariants as refusal
@@ -22,6 +22,7 @@ use Rattle.adr_delivery.specs.declared.entry.Entry.{Entry}
 use Rattle.adr_delivery.specs.declared.outbox.Outbox.{Outbox}
 use Rattle.adr_delivery.specs.Deliveries as delivery
 use Rattle.adr_delivery.specs.Entries.{destination}
+use Rattle.adr_delivery.specs.Failing.{one_more, wait_after}
 use Rattle.adr_delivery.specs.Next.{may_be_next, next_after, next_entry}
 use Rattle.adr_delivery.specs.Outboxes.{entry_at, entry_leased, failed, has_addressee, kept_for, lease_next, sent, with_delivery, with_entries, with_entry, without_entry}
 use Rattle.adr_delivery.specs.Tallies.{plus}
@@ -35,7 +36,7 @@ use Rattle.adr_state.specs.declared.limits.Settings.{Settings}
 use Rattle.adr_state.specs.declared.portfolio.Portfolio.{Portfolio}
 use Rattle.adr_state.specs.declared.state.State.{State}
 use Rattle.adr_state.specs.BaseChanges.{BaseChange, ChangePortfolio, JoinMarks, SetScan, changed}
-use Rattle.adr_state.specs.Fitting.{Fits, IsMap, SitesFit}
+use Rattle.adr_state.specs.Fitting.{EntriesFit, Fits, HasFewLeases, IsMap, SitesFit}
 use Rattle.adr_state.specs.Keys.{at, mirror_cmp, share_cmp}
 use Rattle.adr_state.specs.Limits.{AreSmall, largest}
 use Rattle.adr_state.specs.Marks.{is_below}
@@ -55,6 +56,7 @@ use Rattle.adr_machine.specs.Edits as edits
 use Rattle.adr_machine.specs.Steps.{answered_by, committed, delivery_step, edit_step, entries_then, outbox_then, step}
 use Rattle.adr_machine.specs.Steps as steps
 use Rattle.adr_machine.proofs.EditLemmas.{first_then, found_then, tested, whatever}
+use Rattle.adr_machine.proofs.Made.{IsUntried, made_untried}
 use Rattle.adr_machine.proofs.Rooms.{BaseHasRoom, HasRoom, SitesHaveRoom, decided_room}
 use Rattle.adr_machine.proofs.Sizes.{found_size, put_size, removed_size}
 
@@ -137,11 +139,26 @@ module _ {limits : Limits} (small : AreSmall limits) where
 
 -- ---- the outbox
 
-abbrev Waits : List (ℕ × Entry) → Type 0
-Waits entries = IsMap nat_cmp largest.pending entries
+put_again : (n : ℕ) (e : Entry) (entries : List (ℕ × Entry)) → EntriesFit entries → HasFewLeases e → IsSome (at nat_cmp n entries) → EntriesFit (insert_entry nat_cmp entries n e)
+put_again n e entries h few there = record {
+  rows = put_fits nat_cmp_total {limit = largest.pending} (omega arith) n e h.rows (inl there);
+  leases = All-values-insert_entry nat_cmp n e HasFewLeases entries h.leases few;
+}
 
-put_again : (n : ℕ) (e : Entry) (entries : List (ℕ × Entry)) → Waits entries → IsSome (at nat_cmp n entries) → Waits (insert_entry nat_cmp entries n e)
-put_again n e entries h there = put_fits nat_cmp_total {limit = largest.pending} (omega arith) n e h (inl there)
+entry_removed : (n : ℕ) (entries : List (ℕ × Entry)) → EntriesFit entries → EntriesFit (remove_entry (is_at (nat_cmp n)) entries)
+entry_removed n entries h = record {
+  rows = removed_fits n h.rows;
+  leases = All-map-remove_entry (is_at (nat_cmp n)) (λ (e : ℕ × Entry). e.1) HasFewLeases entries h.leases;
+}
+
+entries_left : (stays : ℕ × Entry → Bool) (entries : List (ℕ × Entry)) → EntriesFit entries → EntriesFit (filter stays entries)
+entries_left stays entries h = record { rows = left_fits stays h.rows; leases = left entries h.leases }
+  where
+    left : (entries : List (ℕ × Entry)) → All HasFewLeases (values_of entries) → All HasFewLeases (values_of (filter stays entries))
+    left [] few = All-nil HasFewLeases
+    left (e ∷ entries) few =
+        let rest = left entries (All-tail HasFewLeases e.1 (values_of entries) few) in
+        cond_both (stays e) (e ∷ filter stays entries) (filter stays entries) (λ kept. All HasFewLeases (values_of kept)) (λ does. All-cons HasFewLeases e.1 (values_of (filter stays entries)) (All-head HasFewLeases e.1 (values_of entries) few) rest) (λ goes. rest)
 
 -- the next entry is there
 next_there : (seen : List ℕ) (now : ℕ) (entries : List (ℕ × Entry)) → IfSome (next_after seen now entries) (λ e. Contains (keys_of entries) e.0)
@@ -155,44 +172,54 @@ next_there seen now (e ∷ entries) =
     behind (Some x) h = Contains-append_right (e.0 ∷ []) (keys_of entries) x.0 h
 
 abbrev Leased : Option (ℕ × Entry) × Outbox → Type 0
-Leased l = Waits l.1.entries
+Leased l = EntriesFit l.1.entries
 
-lease_fits : (most now : ℕ) (o : Outbox) → Waits o.entries → IfOk (lease_next most now o) (λ l. Waits l.1.entries)
-lease_fits most now o h = by (next_entry now o.entries) refl (next_there [] now o.entries)
+-- no lease passes the limit
+leased_few : {most : ℕ} → most ≤ largest.serial → (now : ℕ) (d : Delivery) → IfOk (delivery.leased most now d) (λ d. d.leases ≤ largest.serial)
+leased_few {most = most} small now d =
+    tested (λ d. d.leases ≤ largest.serial) (nat_le most d.leases) refusal.Exhausted (Ok (record d { leases = d.leases + 1; lease = Some (delivery.later now 30) })) (λ left. let less = leb-false most d.leases left in omega (arith, less, small))
+
+lease_fits : {most : ℕ} → most ≤ largest.serial → (now : ℕ) (o : Outbox) → EntriesFit o.entries → IfOk (lease_next most now o) Leased
+lease_fits {most = most} small now o h = by (next_entry now o.entries) refl (next_there [] now o.entries)
   where
     by : (next : Option (ℕ × Entry)) → next_entry now o.entries ≡ next → IfSome next (λ e. Contains (keys_of o.entries) e.0) → IfOk (lease_next most now o) Leased
     by None is there = rw is h
-    by (Some e) is there = rw is (first_then Leased (λ d. Unit {0}) (delivery.leased most now e.1.delivery) _ (whatever (delivery.leased most now e.1.delivery)) (λ d done.
-        put_again e.0 (with_delivery d e.1) o.entries h (IsSome-lookup_from_Contains (eq_by_cmp_equiv nat_cmp_total) e.0 o.entries there)))
+    by (Some e) is there = rw is (first_then Leased (λ d. d.leases ≤ largest.serial) (delivery.leased most now e.1.delivery) _ (leased_few small now e.1.delivery) (λ d few.
+        put_again e.0 (with_delivery d e.1) o.entries h few (IsSome-lookup_from_Contains (eq_by_cmp_equiv nat_cmp_total) e.0 o.entries there)))
 
 -- an entry that has a lease is there
-abbrev IsHere : ℕ → List (ℕ × Entry) → Entry → Type 0
-IsHere n entries e = IsSome (at nat_cmp n entries)
+record IsHere (n : ℕ) (entries : List (ℕ × Entry)) (e : Entry) : Type 0 where
+  there : IsSome (at nat_cmp n entries)
+  few : HasFewLeases e
 
-held_here : (n lease : ℕ) (entries : List (ℕ × Entry)) → IfOk (entry_leased n lease entries) (IsHere n entries)
-held_here n lease entries =
-    found_then (IsHere n entries) (IsHere n entries) refusal.LeaseLost (entry_at n entries) _ (itself (entry_at n entries)) (λ e there. cond_both (delivery.has_lease lease e.delivery) (Ok e) (Err refusal.LeaseLost) (λ r. IfOk r (IsHere n entries)) (λ has. there) (λ lost. tt))
+held_here : (n lease : ℕ) (entries : List (ℕ × Entry)) → EntriesFit entries → IfOk (entry_leased n lease entries) (IsHere n entries)
+held_here n lease entries h =
+    found_then (IsHere n entries) (IsHere n entries) refusal.LeaseLost (entry_at n entries) _ (itself (entry_at n entries) refl (IfSome-lookup_from_All HasFewLeases (is_at (nat_cmp n)) entries h.leases)) (λ e here. cond_both (delivery.has_lease lease e.delivery) (Ok e) (Err refusal.LeaseLost) (λ r. IfOk r (IsHere n entries)) (λ has. here) (λ lost. tt))
   where
-    itself : (o : Option Entry) → IfSome o (λ e. IsSome o)
-    itself None = tt
-    itself (Some e) = refl
+    itself : (o : Option Entry) → entry_at n entries ≡ o → IfSome o HasFewLeases → IfSome o (IsHere n entries)
+    itself None is few = tt
+    itself (Some e) is few = record { there = ap is_some is; few = few }
 
-sent_fits : (n lease : ℕ) (remote : Option (List ℕ)) (o : Outbox) → Waits o.entries → IfOk (sent n lease remote o) (λ next. Waits next.entries)
-sent_fits n lease remote o h = first_then (λ next. Waits next.entries) (IsHere n o.entries) (entry_leased n lease o.entries) _ (held_here n lease o.entries) (λ e there. removed_fits n h)
+sent_fits : (n lease : ℕ) (remote : Option (List ℕ)) (o : Outbox) → EntriesFit o.entries → IfOk (sent n lease remote o) (λ next. EntriesFit next.entries)
+sent_fits n lease remote o h = first_then (λ next. EntriesFit next.entries) (IsHere n o.entries) (entry_leased n lease o.entries) _ (held_here n lease o.entries h) (λ e here. entry_removed n o.entries h)
 
-failed_fits : (now n lease : ℕ) (forget : Bool) (o : Outbox) → Waits o.entries → IfOk (failed now n lease forget o) (λ next. Waits next.entries)
+failed_fits : (now n lease : ℕ) (forget : Bool) (o : Outbox) → EntriesFit o.entries → IfOk (failed now n lease forget o) (λ next. EntriesFit next.entries)
 failed_fits now n lease forget o h =
-    first_then (λ next. Waits next.entries) (IsHere n o.entries) (entry_leased n lease o.entries) _ (held_here n lease o.entries) (λ e there. by e there (delivery.after_failure now e.delivery))
+    first_then (λ next. EntriesFit next.entries) (IsHere n o.entries) (entry_leased n lease o.entries) _ (held_here n lease o.entries h) (λ e here. by e here (delivery.after_failure now e.delivery) (as_many e.delivery here.few (one_more e.delivery.failures)))
   where
-    by : (e : Entry) → IsHere n o.entries e → (d : Option Delivery) → Waits (option_map_or (λ d. with_entry n (with_delivery d e) o) d (record o { entries = without_entry n o; counts = record o.counts { given_up = plus o.counts.given_up 1 } })).entries
-    by e there None = removed_fits n h
-    by e there (Some d) = put_again n (with_delivery d e) o.entries h there
+    as_many : (d : Delivery) → d.leases ≤ largest.serial → (failures : Option ℕ) → IfSome (option_map (λ failures. record { failures = failures; leases = d.leases; lease = None; due = delivery.later now (wait_after d.failures) }) failures) (λ (d : Delivery). d.leases ≤ largest.serial)
+    as_many d few None = tt
+    as_many d few (Some failures) = few
 
-delivered_fits : (limits : Limits) (now : ℕ) (o : Outbox) (c : Command) → is_delivery c ≡ true → Waits o.entries → IfOk (delivered limits now o c) (λ d. Waits d.1.entries)
-delivered_fits limits now o Lease is h = first_then (λ d. Waits d.1.entries) (λ l. Waits l.1.entries) (lease_next limits.serial now o) _ (lease_fits limits.serial now o h) (λ l next. next)
-delivered_fits limits now o (Sent entry lease remote) is h = first_then (λ d. Waits d.1.entries) (λ next. Waits next.entries) (sent entry lease remote o) _ (sent_fits entry lease remote o h) (λ next fits. fits)
-delivered_fits limits now o (Failed entry lease forget) is h = first_then (λ d. Waits d.1.entries) (λ next. Waits next.entries) (failed now entry lease forget o) _ (failed_fits now entry lease forget o h) (λ next fits. fits)
-delivered_fits limits now o c is h = absurd (let no : false ≡ true = is in cc)
+    by : (e : Entry) → IsHere n o.entries e → (d : Option Delivery) → IfSome d (λ d. d.leases ≤ largest.serial) → EntriesFit (option_map_or (λ d. with_entry n (with_delivery d e) o) d (record o { entries = without_entry n o; counts = record o.counts { given_up = plus o.counts.given_up 1 } })).entries
+    by e here None few = entry_removed n o.entries h
+    by e here (Some d) few = put_again n (with_delivery d e) o.entries h few here.there
+
+delivered_fits : (limits : Limits) → limits.serial ≤ largest.serial → (now : ℕ) (o : Outbox) (c : Command) → is_delivery c ≡ true → EntriesFit o.entries → IfOk (delivered limits now o c) (λ d. EntriesFit d.1.entries)
+delivered_fits limits small now o Lease is h = first_then (λ d. EntriesFit d.1.entries) (λ l. EntriesFit l.1.entries) (lease_next limits.serial now o) _ (lease_fits small now o h) (λ l next. next)
+delivered_fits limits small now o (Sent entry lease remote) is h = first_then (λ d. EntriesFit d.1.entries) (λ next. EntriesFit next.entries) (sent entry lease remote o) _ (sent_fits entry lease remote o h) (λ next fits. fits)
+delivered_fits limits small now o (Failed entry lease forget) is h = first_then (λ d. EntriesFit d.1.entries) (λ next. EntriesFit next.entries) (failed now entry lease forget o) _ (failed_fits now entry lease forget o h) (λ next fits. fits)
+delivered_fits limits small now o c is h = absurd (let no : false ≡ true = is in cc)
 
 -- further entries are at most so many more
 more_size : (further entries : List (ℕ × Entry)) → InOrder nat_cmp entries → length (with_entries further entries) ≤ length entries + length further
@@ -202,13 +229,27 @@ more_size (e ∷ further) entries ordered =
     let rest = more_size further (insert_entry nat_cmp entries e.0 e.1) (in_order_put nat_cmp_total e.0 e.1 entries ordered) in
     omega (arith, one, rest)
 
+-- and none of them was leased more often than what was there
+more_leases : (further entries : List (ℕ × Entry)) → All HasFewLeases (values_of further) → All HasFewLeases (values_of entries) → All HasFewLeases (values_of (with_entries further entries))
+more_leases [] entries new h = h
+more_leases (e ∷ further) entries new h =
+    more_leases further (insert_entry nat_cmp entries e.0 e.1) (All-tail HasFewLeases e.1 (values_of further) new) (All-values-insert_entry nat_cmp e.0 e.1 HasFewLeases entries h (All-head HasFewLeases e.1 (values_of further) new))
+
+numbered_leases : (from : ℕ) (entries : List Entry) → All IsUntried entries → All HasFewLeases (values_of (enumerate_from from entries))
+numbered_leases from [] new = All-nil HasFewLeases
+numbered_leases from (e ∷ entries) new =
+    All-cons HasFewLeases e (values_of (enumerate_from (from + 1) entries)) (never e (All-head IsUntried e entries new)) (numbered_leases (from + 1) entries (All-tail IsUntried e entries new))
+  where
+    never : (e : Entry) → IsUntried e → HasFewLeases e
+    never e is = let none : e.delivery.leases ≡ 0 = ap (λ (d : Delivery). d.leases) is in omega (arith, none)
+
 -- ---- an edit
 
 abbrev EditFits : Outcome × Base → Type 0
 EditFits e = BaseFits e.1 × (e.1.serial ≤ largest.serial)
 
 abbrev NextFits : Outbox × ℕ → Type 0
-NextFits next = Waits next.0.entries × (next.1 ≤ largest.serial)
+NextFits next = EntriesFit next.0.entries × (next.1 ≤ largest.serial)
 
 module _ (settings : Settings) (small : AreSmall settings.limits) (s : State) (h : Fits s) where
   numbered_fits : (draws : Bool) (d : Decision) → BaseHasRoom settings.limits s.base d.change → IfOk (edits.numbered settings.limits draws s.base d) EditFits
@@ -235,14 +276,17 @@ module _ (settings : Settings) (small : AreSmall settings.limits) (s : State) (h
     abbrev kept : Outbox
     kept = kept_for base.portfolio.subs s.outbox
 
-    kept_fits : Waits kept.entries
-    kept_fits = left_fits (has_addressee base.portfolio.subs) h.entries
+    kept_fits : EntriesFit kept.entries
+    kept_fits = entries_left (has_addressee base.portfolio.subs) s.outbox.entries h.entries
 
     further_fits : base.serial + length entries ≤ largest.serial → length kept.entries + length entries ≤ largest.pending → NextFits (with_further base.serial entries kept)
     further_fits numbers room = (
       record {
-        rises = in_order_rows nat_cmp_total kept.entries (numbered base.serial entries) kept_fits.rises;
-        few = let size = more_size (numbered base.serial entries) kept.entries kept_fits.rises in let count = length-enumerate_from (base.serial + 1) entries in omega (arith, size, count, room);
+        rows = record {
+          rises = in_order_rows nat_cmp_total kept.entries (numbered base.serial entries) kept_fits.rows.rises;
+          few = let size = more_size (numbered base.serial entries) kept.entries kept_fits.rows.rises in let count = length-enumerate_from (base.serial + 1) entries in omega (arith, size, count, room);
+        };
+        leases = more_leases (numbered base.serial entries) kept.entries (numbered_leases (base.serial + 1) entries (made_untried settings s now base)) kept_fits.leases;
       },
       numbers,
     )
@@ -250,7 +294,7 @@ module _ (settings : Settings) (small : AreSmall settings.limits) (s : State) (h
     next_fits : base.serial ≤ largest.serial → IfOk (outbox_then settings s now base) NextFits
     next_fits within =
         cond_both (length entries == 0) (Ok tt) _ (λ r. IfOk (ending r) NextFits)
-        (λ none. let is = (unsigned_Decides (length entries) 0).0 none in let few = kept_fits.few in further_fits (omega (arith, within, is)) (omega (arith, few, is)))
+        (λ none. let is = (unsigned_Decides (length entries) 0).0 none in let few = kept_fits.rows.few in further_fits (omega (arith, within, is)) (omega (arith, few, is)))
         (λ some. cond_both (nat_lt settings.limits.serial (base.serial + length entries)) (Err refusal.Exhausted) _ (λ r. IfOk (ending r) NextFits) (λ more. tt)
         (λ left. cond_both (nat_lt settings.limits.pending (length kept.entries + length entries)) (Err refusal.OutboxFull) (Ok tt) (λ r. IfOk (ending r) NextFits) (λ full. tt)
         (λ room.
@@ -274,7 +318,7 @@ module _ (settings : Settings) (small : AreSmall settings.limits) (s : State) (h
 pub step_fits : (settings : Settings) → AreSmall settings.limits → (s : State) (now : ℕ) (c : Command) → Fits s → IfOk (step settings s now c) (λ r. Fits r.1)
 step_fits settings small s now c h =
     cond_both (is_delivery c) (delivery_step settings s now c) (edit_step settings s now c) (λ r. IfOk r (λ r. Fits r.1))
-    (λ is. first_then (λ r. Fits r.1) (λ d. Waits d.1.entries) (delivered settings.limits now s.outbox c) _ (delivered_fits settings.limits now s.outbox c is h.entries) (λ d fits.
+    (λ is. first_then (λ r. Fits r.1) (λ d. EntriesFit d.1.entries) (delivered settings.limits now s.outbox c) _ (delivered_fits settings.limits small.serial now s.outbox c is h.entries) (λ d fits.
     record { sites = h.sites; mirror = h.mirror; entries = fits; serial = h.serial }))
     (λ edits. first_then (λ r. Fits r.1) EditFits (edit settings.limits now s.base c) _ (edit_fits settings small s h now c) (λ e fits. committed_fits settings small s h now e.1 e.0 fits.0 fits.1))
 
@@ -285,7 +329,7 @@ left_fitting (Err e) answer is fits = tt
 
 -- and the state at first fits
 pub empty_fits : Fits empty
-empty_fits = record { sites = record { vens = none; resources = none; shares = none; reports = none; subs = none }; mirror = none; entries = none; serial = omega arith }
+empty_fits = record { sites = record { vens = none; resources = none; shares = none; reports = none; subs = none }; mirror = none; entries = record { rows = none; leases = All-nil HasFewLeases }; serial = omega arith }
   where
     none : {K V : Type 0} {cmp : K → K → Ordering} {most : ℕ} → IsMap {K = K} {V = V} cmp most []
     none {cmp = cmp} = record { rises = none_sorted cmp; few = omega arith }

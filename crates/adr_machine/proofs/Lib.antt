@@ -4,6 +4,7 @@ pub mod EditLemmas
 pub mod Found
 pub mod Sizes
 mod Rooms
+pub mod Made
 mod Fitting
 mod Outcomes
 mod Delivered

@@ -2,3 +2,4 @@ pub mod MapLemmas
 pub mod KeyLemmas
 pub mod LawLemmas
 pub mod DigitLemmas
+pub mod LeaseLemmas

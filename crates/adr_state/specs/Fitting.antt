@@ -2,8 +2,10 @@
 use Rattle.std.specs.Prelude.{ℕ, ◌≤◌, List, length}
 use Rattle.std.specs.declared.cmp.Ordering.{Ordering}
 use Rattle.std.specs.Ordering.{nat_cmp}
-use Rattle.std.specs.Map.{keys_of}
+use Rattle.std.specs.List.{All}
+use Rattle.std.specs.Map.{keys_of, values_of}
 use Rattle.std.specs.List.Sorted.{IsStrictlySortedBy}
+use Rattle.adr_delivery.specs.declared.entry.Entry.{Entry}
 use Rattle.adr_state.specs.declared.portfolio.Portfolio.{Portfolio}
 use Rattle.adr_state.specs.declared.state.State.{State}
 use Rattle.adr_state.specs.Keys.{mirror_cmp, share_cmp}
@@ -22,9 +24,18 @@ pub record SitesFit (p : Portfolio) : Type 0 where
   pub reports : IsMap nat_cmp largest.reports p.reports
   pub subs : IsMap nat_cmp largest.subs p.subs
 
+-- an entry was leased at most as often as the largest limit admits
+abbrev pub HasFewLeases : Entry → Type 0
+HasFewLeases e = e.delivery.leases ≤ largest.serial
+
+-- so are the entries of an outbox, each of them with so many leases
+pub record EntriesFit (entries : List (ℕ × Entry)) : Type 0 where
+  pub rows : IsMap nat_cmp largest.pending entries
+  pub leases : All HasFewLeases (values_of entries)
+
 -- a state that a desk may hold: it is within the largest limits
 pub record Fits (s : State) : Type 0 where
   pub sites : SitesFit s.base.portfolio
   pub mirror : IsMap mirror_cmp largest.keys s.base.mirror
-  pub entries : IsMap nat_cmp largest.pending s.outbox.entries
+  pub entries : EntriesFit s.outbox.entries
   pub serial : s.base.serial ≤ largest.serial

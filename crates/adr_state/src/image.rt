@@ -1,15 +1,21 @@
 //! A state as a desk tells it, and as one is made of it.
-ghost use Rattle.std.specs.Prelude.{◌≡◌, ◌↔◌, IsTrue, IfOk, IfSome, IfNone};
-ghost use Rattle.adr_state.specs.Fitting.{IsMap, SitesFit, Fits};
+ghost use Rattle.std.specs.Prelude.{◌≡◌, ◌↔◌, nat_le, IsTrue, IfOk, IfSome, IfNone};
+ghost use Rattle.std.specs.List.{list_all};
+ghost use Rattle.adr_state.specs.Digits.{most_number};
+ghost use Rattle.adr_state.specs.Fitting.{IsMap, SitesFit, EntriesFit, Fits};
 
+use crate::digits::MOST_NUMBER;
 use crate::portfolio::Portfolio;
 use crate::state::State;
+use adr_delivery::Entry;
+use adr_objects::Number;
 use adr_text::Table;
 use std::alloc::AllocError;
 use std::marker::Model;
 
-/// A state that a desk may hold, whatever it is set to: each of its maps has at most as many rows as the largest limit
-/// admits.
+/// A state that a desk may hold, whatever it is set to: its vens, resources, shares, reports, subscriptions, marks and
+/// entries are at most as many as the largest limits admit, and no entry was leased more often. How many stamps and ids of
+/// the utility's there are has no limit of its own.
 pub struct Image {
     state: State,
 }
@@ -51,6 +57,24 @@ fn sites_fit(portfolio: &Portfolio) -> bool
     vens & resources & shares & reports & subs
 }
 
+/// Whether each entry was leased at most as often as the largest limit admits.
+fn have_few_leases(entries: &Table<Number, Entry>) -> bool
+    ensures { result ≡ list_all (λ e. nat_le e.1.delivery.leases most_number) entries.now }
+{
+    entries
+        .iter()
+        .all(|(_, entry)| entry.delivery.leases <= MOST_NUMBER)
+}
+
+/// Whether the entries of an outbox are within the largest limits.
+fn entries_fit(entries: &Table<Number, Entry>) -> bool
+    ensures { IsTrue result ↔ EntriesFit entries.now }
+{
+    let few = is_within(entries, 100_000);
+    let few_leases = have_few_leases(entries);
+    few & few_leases
+}
+
 /// Whether the state is.
 fn fits(state: &State) -> bool
     ensures { IsTrue result ↔ Fits state.now }
@@ -58,7 +82,7 @@ fn fits(state: &State) -> bool
     let _drawn = state.base.serial.get();
     let sites = sites_fit(&state.base.portfolio);
     let mirror = is_within(&state.base.mirror, 100_000);
-    let entries = is_within(&state.outbox.entries, 100_000);
+    let entries = entries_fit(&state.outbox.entries);
     sites & mirror & entries
 }
 

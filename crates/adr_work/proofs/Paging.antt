@@ -1,5 +1,5 @@
 -- Asking for pages, one after another.
-use Rattle.std.proofs.Common.{IsErr, ◌≡◌, ℕ, zero, suc, ◌+◌, ◌-◌, ◌*◌, ◌<◌, ◌≤◌, List, [], ◌∷◌, ◌++◌, Option, Some, None, Ok, Err, Result, refl, sym, ap, ◌∙◌, subst, arith, append_assoc, append-nil}
+use Rattle.std.proofs.Common.{IsErr, ◌≡◌, ℕ, suc, ◌+◌, ◌-◌, ◌*◌, ◌<◌, ◌≤◌, List, [], ◌∷◌, ◌++◌, Option, Some, Ok, Result, refl, sym, ap, ◌∙◌, subst, arith, append_assoc, append-nil}
 use Rattle.std.proofs.lemmas.List.{map-append}
 use Rattle.adr_text.specs.declared.refusal.Refusal.{Refusal}
 use Rattle.adr_objects.specs.declared.kind.Kind.{Kind}
@@ -13,7 +13,7 @@ use Rattle.adr_work.specs.declared.page.PollEnd.{PollEnd}
 use Rattle.adr_work.specs.declared.page.PollEnd.TheVariants.{Whole, Broken}
 use Rattle.adr_work.specs.Pages.{Came, Exchange, most_pages, most_elements, page_read, elements, command_of, pages_asked, pages_told, end_after, pages_end}
 use Rattle.adr_work.specs.Tellings.{Memory, Told, commands_of, with_told}
-use Rattle.adr_work.specs.Rounds.{AreFirstOf, Asks, Goes, ReadsPage, AsksPage, TellsPages, IsPaging}
+use Rattle.adr_work.specs.Rounds.{Asks, Goes, ReadsPage, AsksPage, TellsPages, IsPaging}
 use Rattle.adr_work.proofs.Memories.{when_err, with_none, with_both}
 
 -- so many pages with elements came, and the next is asked for behind their elements

@@ -8,7 +8,6 @@ use Rattle.adr_state.specs.declared.keys.MirrorKey.{MirrorKey}
 use Rattle.adr_link.specs.Requests.{request_bytes}
 use Rattle.adr_link.specs.Targets.{probe_request}
 use Rattle.adr_link.specs.Upstreams.{UpstreamParts}
-use Rattle.adr_machine.specs.declared.command.Command.{Command}
 use Rattle.adr_work.specs.Pages.{Came, Exchange}
 use Rattle.adr_work.specs.Probes.{Probe, probe_told, probe_asked, probes_asked, probes_told, keys_of}
 use Rattle.adr_work.specs.Tellings.{Memory, Told, commands_of, with_told}

@@ -1,18 +1,17 @@
 -- A round from its parts.
-use Rattle.std.proofs.Common.{IsErr, ◌≡◌, ℕ, List, [], ◌∷◌, ◌++◌, Some, Result, Ok, Err, refl, sym, ap, ap₂, ◌∙◌, subst, append_assoc, append-nil, inl, inr}
+use Rattle.std.proofs.Common.{IsErr, ◌≡◌, List, [], ◌∷◌, ◌++◌, Some, Result, Ok, Err, refl, sym, ap, ap₂, ◌∙◌, append_assoc, append-nil, inl, inr}
 use Rattle.std.proofs.lemmas.List.{map-append}
 use Rattle.adr_text.specs.declared.refusal.Refusal.{Refusal}
 use Rattle.adr_objects.specs.declared.kind.Kind.TheVariants.{Program, Event}
 use Rattle.adr_queries.specs.declared.answer.Answer.{Answer}
 use Rattle.adr_link.specs.Upstreams.{UpstreamParts}
-use Rattle.adr_machine.specs.declared.command.Command.{Command}
 use Rattle.adr_machine.specs.declared.command.Command.TheVariants.{ScanBegin, ScanEnd}
 use Rattle.adr_work.specs.declared.page.PollEnd.{PollEnd}
 use Rattle.adr_work.specs.declared.page.PollEnd.TheVariants.{Whole, Broken}
 use Rattle.adr_work.specs.Pages.{Came, Exchange, most_pages, pages_asked, pages_told, pages_end}
-use Rattle.adr_work.specs.Probes.{Probe, probes_asked, probes_told, keys_of, keys_in}
+use Rattle.adr_work.specs.Probes.{Probe, probes_asked, keys_in}
 use Rattle.adr_work.specs.Tellings.{Memory, Told, commands_of, with_told}
-use Rattle.adr_work.specs.Rounds.{AreFirstOf, Goes, TellsPages, IsPaging, TellsBoth, IsListing, IsProbing, IsEnding, IsRound, both_asked, both_told, BothEnd}
+use Rattle.adr_work.specs.Rounds.{Goes, TellsPages, IsPaging, TellsBoth, IsListing, IsProbing, IsEnding, IsRound, both_asked}
 use Rattle.adr_work.proofs.Memories.{when_err, with_none, with_both}
 
 told_both : (xs ys : List Told) → commands_of (xs ++ ys) ≡ commands_of xs ++ commands_of ys

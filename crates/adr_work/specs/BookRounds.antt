@@ -1,5 +1,5 @@
 -- What a round leaves of a book that nobody else has meanwhile.
-use Rattle.std.specs.Prelude.{◌≡◌, ℕ, List, ◌++◌, map, Result}
+use Rattle.std.specs.Prelude.{◌≡◌, List, ◌++◌, map, Result}
 use Rattle.adr_text.specs.declared.refusal.Refusal.{Refusal}
 use Rattle.adr_link.specs.Upstreams.{UpstreamParts}
 use Rattle.adr_machine.specs.declared.command.Command.{Command}

@@ -1,5 +1,5 @@
 -- What the replies to requests for single objects tell.
-use Rattle.std.specs.Prelude.{◌≡◌, ℕ, List, [], ◌∷◌, map, Option, None, Some, false}
+use Rattle.std.specs.Prelude.{List, [], ◌∷◌, map, Option, None, Some, false}
 use Rattle.std.specs.List.{filter_map}
 use Rattle.adr_objects.specs.declared.body.Found.{Found}
 use Rattle.adr_state.specs.declared.keys.MirrorKey.{MirrorKey}

@@ -12,7 +12,7 @@ use Rattle.adr_work.specs.declared.page.PageRead.{PageRead}
 use Rattle.adr_work.specs.declared.page.PollEnd.{PollEnd}
 use Rattle.adr_work.specs.declared.page.PollEnd.TheVariants.{Whole, Broken}
 use Rattle.adr_work.specs.Pages.{Came, Exchange, most_pages, page_read, pages_asked, pages_told, pages_end}
-use Rattle.adr_work.specs.Probes.{Probe, probe_told, probes_asked, probes_told, keys_of, keys_in}
+use Rattle.adr_work.specs.Probes.{Probe, probes_asked, probes_told, keys_of, keys_in}
 use Rattle.adr_work.specs.Tellings.{Memory, Told, commands_of, with_told}
 
 -- these are the first of all

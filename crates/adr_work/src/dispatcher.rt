@@ -9,7 +9,7 @@ use crate::leased::job_in;
 use crate::queue::{JobQueue, Seat};
 use adr_book::{Office, Pass};
 use adr_delivery::Job;
-use adr_machine::{Command, Desk};
+use adr_machine::{Answer, Command, Desk, Query, Role};
 use adr_text::Refusal;
 use std::sync::Wait;
 use std::sync::ledger::Ledger;
@@ -52,8 +52,24 @@ pub fn dispatch<D: Desk + Drop, L: Ledger, C: Clock, R: Wait>(
     Ok(())
 }
 
-/// Dispatches again after each job that was taken or settled, and at least once a second, until the queue is closed. A
-/// refusal is passed over.
+/// Whether an entry waits in the outbox. It takes no turn, as a lease does that finds none. Where that is refused, one may.
+fn may_wait<D: Desk + Drop, L: Ledger, R: Wait>(
+    rt: &R,
+    office: &Office<D, L>,
+    pass: &mut Pass<L>,
+) -> bool {
+    let query = Query::Outbox {
+        role: Role::Operator,
+    };
+    let looked = office.book.lock(rt).look(pass, query);
+    match &looked {
+        Ok((_, Answer::Counts(counts))) => 0 < counts.pending,
+        _ => true,
+    }
+}
+
+/// Dispatches again after each job that was taken or settled, and at least once a second, until the queue is closed, where
+/// an entry waits. A refusal is passed over.
 pub fn dispatch_loop<D: Desk + Drop, L: Ledger, C: Clock, R: Wait + time::Clock>(
     rt: &R,
     office: &Office<D, L>,
@@ -69,7 +85,9 @@ pub fn dispatch_loop<D: Desk + Drop, L: Ledger, C: Clock, R: Wait + time::Clock>
         let Some(seen) = queue.ends(rt) else {
             break;
         };
-        let _ = dispatch(rt, office, queue, clock, &mut pass, &mut seat);
+        if may_wait(rt, office, &mut pass) {
+            let _ = dispatch(rt, office, queue, clock, &mut pass, &mut seat);
+        }
         queue.wait_for_end(rt, seen);
     }
     Ended { pass, seat }

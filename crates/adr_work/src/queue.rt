@@ -90,7 +90,7 @@ impl JobQueue {
         done
     }
 
-    /// Takes the oldest job, or finds none.
+    /// Takes a job, or finds none. The ring gives the one that lay in it longest, which no clause says.
     pub fn take<R: Wait>(&self, rt: &R, seat: &mut Seat) -> Option<Job>
         requires { IsSeatOf self.now seat.old × (0 < (view seat.old).parts) }
         ensures same { IsSamePass seat.old seat.new }

@@ -12,6 +12,8 @@ mod failing;
 #[cfg(test)]
 mod held;
 #[cfg(test)]
+mod idle;
+#[cfg(test)]
 mod many;
 #[cfg(test)]
 mod passes;

@@ -13,6 +13,6 @@ returns c =
       λ all.
           let two = and_parts _ _ all in
           let one = and_parts _ _ two.0 in
-          record { sites = c.sites_fit-sites.ensures.0 one.0; mirror = mirror.0 one.1; entries = c.is_within-entries.ensures.0 two.1; serial = c.get-drawn.ensures.within },
-      λ fit. ap₂ ◌&&◌ (ap₂ ◌&&◌ (c.sites_fit-sites.ensures.1 fit.sites) (mirror.1 fit.mirror)) (c.is_within-entries.ensures.1 fit.entries),
+          record { sites = c.sites_fit-sites.ensures.0 one.0; mirror = mirror.0 one.1; entries = c.entries_fit-entries.ensures.0 two.1; serial = c.get-drawn.ensures.within },
+      λ fit. ap₂ ◌&&◌ (ap₂ ◌&&◌ (c.sites_fit-sites.ensures.1 fit.sites) (mirror.1 fit.mirror)) (c.entries_fit-entries.ensures.1 fit.entries),
     )

@@ -1,0 +1,62 @@
+-- A configuration says in one way where it listens.
+use Rattle.std.proofs.Common.{◌≡◌, ◌⊎◌, inl, inr, List, ℕ, Result, Ok, Err, IfOk, IfErr, refl, sym, subst}
+use Rattle.std.specs.declared.net.socket_addr.SocketAddr.{SocketAddr}
+use Rattle.std.specs.Net.Grammar.{IsSocketText}
+use Rattle.std.proofs.NetLemmas.Theorems.{IsSocketText_unique}
+use Rattle.serde_json.specs.Data.{Data}
+use Rattle.adr_text.specs.Faults.{Finds, Lacks}
+use Rattle.adr_text.specs.Fields.{value_in}
+use Rattle.adr_text.specs.declared.fault.Fault.{Fault}
+use Rattle.adr_text.specs.declared.fault.Fault.TheVariants.{OutOfMemory}
+use Rattle.adr_config.specs.declared.config.Config.{Config}
+use Rattle.adr_config.specs.Configs.{IsConfig, Listens, Says, config_at}
+
+one_listens : (d : Data) (a b : SocketAddr) → Listens d a → Listens d b → a ≡ b
+one_listens d a b (t, is, text) (u, was, other) = let same : t ≡ u = cc in IsSocketText_unique t a b text (subst (λ v. IsSocketText v b) (sym same) other)
+
+-- where none is said, no configuration is
+pub none_listens : (e : Fault) (d : Data) → (e ≡ OutOfMemory) ⊎ ((a : SocketAddr) → ¬ (Listens d a)) → (e ≡ OutOfMemory) ⊎ ((config : Config) → ¬ (Says d config))
+none_listens e d (inl h) = inl h
+none_listens e d (inr h) = inr none
+  where
+    none : (config : Config) → ¬ (Says d config)
+    none config (listen, at, said) = h listen at
+
+-- where one is, the configuration is what the rest gives
+pub says_by : (listen : SocketAddr) (d : Data) → Listens d listen → (r : Result Config Fault) → Finds (λ c. c) r (config_at listen d) → IfOk r (Says d)
+says_by listen d at (Ok c) found = (listen, at, found)
+says_by listen d at (Err e) found = tt
+
+pub says_none : (listen : SocketAddr) (d : Data) → Listens d listen → (r : Result Config Fault) → Finds (λ c. c) r (config_at listen d) → IfErr r (λ e. (e ≡ OutOfMemory) ⊎ ((config : Config) → ¬ (Says d config)))
+says_none listen d at (Ok c) found = tt
+says_none listen d at (Err e) found = by e found
+  where
+    no_other : (e : Fault) → config_at listen d ≡ Err e → (config : Config) → ¬ (Says d config)
+    no_other e fails config (other, there, said) =
+        let same : other ≡ listen = one_listens d other listen there at in
+        let here : config_at listen d ≡ Ok config = subst (λ l. config_at l d ≡ Ok config) same said in
+        absurd cc
+
+    by : (e : Fault) → Lacks e (config_at listen d) → (e ≡ OutOfMemory) ⊎ ((config : Config) → ¬ (Says d config))
+    by OutOfMemory lacks = inl refl
+    by e fails = inr (no_other e fails)
+
+-- bytes that are no value are no configuration
+pub no_value : (e : Fault) (bytes : List ℕ) → Lacks e (value_in bytes) → (e ≡ OutOfMemory) ⊎ ((config : Config) → ¬ (IsConfig bytes config))
+no_value OutOfMemory bytes lacks = inl refl
+no_value e bytes fails = inr none
+  where
+    none : (config : Config) → ¬ (IsConfig bytes config)
+    none config (d, is, says) = absurd cc
+
+-- nor are those of a value that says none
+pub of_value : (bytes : List ℕ) (d : Data) → value_in bytes ≡ Ok d → (r : Result Config Fault) → IfErr r (λ e. (e ≡ OutOfMemory) ⊎ ((config : Config) → ¬ (Says d config))) → IfErr r (λ e. (e ≡ OutOfMemory) ⊎ ((config : Config) → ¬ (IsConfig bytes config)))
+of_value bytes d read (Ok c) h = tt
+of_value bytes d read (Err e) h = by h
+  where
+    none : ((config : Config) → ¬ (Says d config)) → (config : Config) → ¬ (IsConfig bytes config)
+    none h config (other, is, says) = let same : other ≡ d = cc in h config (subst (λ d. Says d config) same says)
+
+    by : (e ≡ OutOfMemory) ⊎ ((config : Config) → ¬ (Says d config)) → (e ≡ OutOfMemory) ⊎ ((config : Config) → ¬ (IsConfig bytes config))
+    by (inl h) = inl h
+    by (inr h) = inr (none h)

@@ -1,0 +1,57 @@
+-- The configuration of a node that serves.
+use Rattle.std.specs.Prelude.{◌≡◌, ℕ, List, codes, Option, Some, None, Result, Ok}
+use Rattle.std.specs.declared.net.socket_addr.SocketAddr.{SocketAddr}
+use Rattle.std.specs.Net.Grammar.{IsSocketText}
+use Rattle.serde_json.specs.Data.{Data}
+use Rattle.adr_text.specs.Faults.{as_fault}
+use Rattle.adr_text.specs.Fields.{member_of, name_in, optional, required, text_of, value_in}
+use Rattle.adr_text.specs.Refusals.{◌>>=◌}
+use Rattle.adr_text.specs.declared.fault.Fault.{Fault}
+use Rattle.adr_state.specs.declared.limits.Limits.{Limits}
+use Rattle.adr_state.specs.declared.limits.Settings.{Settings}
+use Rattle.adr_state.specs.Limits.{largest}
+use Rattle.adr_link.specs.Upstreams.{UpstreamParts, upstream_of}
+use Rattle.adr_config.specs.declared.config.Config.{Config}
+use Rattle.adr_config.specs.Grants.{limits_in, roles_in}
+use Rattle.adr_config.specs.Members.{limit_in}
+
+-- the utility's address, and the token that it is shown
+unfoldable pub upstream_in : Data → Result UpstreamParts Fault
+upstream_in d = do
+  address ← required (member_of (codes "upstream") d) text_of
+  token ← optional (member_of (codes "upstreamToken") d) text_of
+  as_fault (upstream_of address token)
+
+-- limits that are not said are the largest
+abbrev pub limits_or_largest : Option Limits → Limits
+limits_or_largest None = largest
+limits_or_largest (Some limits) = limits
+
+unfoldable pub settings_in : Data → Result Settings Fault
+settings_in d = do
+  client ← required (member_of (codes "clientName") d) name_in
+  limits ← optional (member_of (codes "limits") d) limits_in
+  Ok (record { client = client; limits = limits_or_largest limits })
+
+-- what is said by a configuration that listens there
+unfoldable pub config_at : SocketAddr → Data → Result Config Fault
+config_at listen d = do
+  upstream ← upstream_in d
+  settings ← settings_in d
+  poll ← required (member_of (codes "poll") d) (limit_in 3_600)
+  workers ← required (member_of (codes "workers") d) (limit_in 16)
+  roles ← required (member_of (codes "tokens") d) roles_in
+  stop_after ← optional (member_of (codes "stopAfter") d) (limit_in 4_294_967_295)
+  Ok (record { listen = listen; upstream = upstream; settings = settings; poll = poll; workers = workers; roles = roles; stop_after = stop_after })
+
+-- an address and a port are where it listens
+abbrev pub Listens : Data → SocketAddr → Type 0
+Listens d listen = (text : List ℕ) × (required (member_of (codes "listen") d) text_of ≡ Ok text) × IsSocketText text listen
+
+-- a JSON value says this configuration
+abbrev pub Says : Data → Config → Type 0
+Says d config = (listen : SocketAddr) × Listens d listen × (config_at listen d ≡ Ok config)
+
+-- the bytes are a JSON text that does
+abbrev pub IsConfig : List ℕ → Config → Type 0
+IsConfig bytes config = (d : Data) × (value_in bytes ≡ Ok d) × Says d config

@@ -1,0 +1,24 @@
+//! What a node that serves is set to.
+use adr_http::Roles;
+use adr_link::Upstream;
+use adr_state::{Limit, Settings};
+use std::net::SocketAddr;
+
+/// What a node that serves is set to.
+#[derive(Drop)]
+pub struct Config {
+    /// Where it listens.
+    pub listen: SocketAddr,
+    /// The utility's address, and the token that it is shown.
+    pub upstream: Upstream,
+    /// The name under which it reports to the utility, and how many objects it keeps.
+    pub settings: Settings,
+    /// How many seconds lie between two rounds in which the utility is asked.
+    pub poll: Limit<3_600>,
+    /// How many connections are served at once, and how many senders there are.
+    pub workers: Limit<16>,
+    /// Who may ask, by which token.
+    pub roles: Roles,
+    /// After how many connections it stops, if ever.
+    pub stop_after: Option<Limit<4_294_967_295>>,
+}

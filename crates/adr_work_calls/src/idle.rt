@@ -1,0 +1,72 @@
+//! A day on which nothing is to be sent.
+ghost use Rattle.std.specs.Prelude.{◌≡◌};
+
+use crate::day::{Day, Meanwhile, run_day};
+use crate::desk::{Still, empty_desk, ten};
+use adr_book::{Office, Pass};
+use adr_delivery::Job;
+use adr_link::{HttpReply, LinkFault, Outcome};
+use adr_machine::Desk;
+use adr_work::Gate;
+use std::alloc::Global;
+use std::marker::Brand;
+use std::sync::Wait;
+use std::sync::ledger::{Blank, Ledger};
+use std::test::*;
+use std::thread;
+
+/// Nobody sends anything to it.
+#[derive(Clone, Copy, Drop)]
+struct Unused;
+
+impl Gate for Unused {
+    fn send<R: Wait>(&self, _rt: &R, _job: &Job) -> Outcome {
+        Outcome::Failed { forget: false }
+    }
+
+    fn fetch<R: Wait>(&self, _rt: &R, _request: &[u8]) -> Result<HttpReply, LinkFault> {
+        Err(LinkFault::Read)
+    }
+}
+
+/// Lets the others work for a while.
+#[derive(Clone, Copy, Drop)]
+struct ForAWhile;
+
+impl Meanwhile for ForAWhile {
+    fn pass_time<D: Desk + Drop, L: Ledger, R: Wait>(
+        &self,
+        _rt: &R,
+        _office: &Office<D, L>,
+        _pass: &mut Pass<L>,
+    ) {
+        for _ in 0..10_000u32 {
+            thread::yield_now();
+        }
+    }
+}
+
+#[test]
+fn an_idle_day_takes_no_turn(rt: HostRuntime) -> Result<(), Fail> {
+    let alloc = rt.alloc();
+    let desk = empty_desk(alloc)?;
+    let mut gates = Vec::new(alloc);
+    gates.push(Unused)?;
+    let clock = Still(ten()?);
+    let Ok(Day { counts, left, turn }) = run_day::<Brand, _, _, _, _>(
+        rt,
+        alloc,
+        Blank::new(3),
+        desk,
+        gates,
+        clock,
+        4,
+        &ForAWhile,
+    ) else {
+        panic!(rt; "the day was refused")
+    };
+    assert_eq!(rt; (counts.made, counts.pending), (0, 0));
+    assert_eq!(rt; left.len(), 0);
+    assert_eq!(rt; turn, 0);
+    Ok(())
+}
