@@ -15,7 +15,7 @@ use adr_text::Moment;
 use std::alloc::{AllocError, Global};
 
 /// The reply that tells a problem.
-pub(crate) fn problem_bytes(alloc: Global, problem: Problem) -> Result<Vec<u8>, AllocError>
+pub fn problem_bytes(alloc: Global, problem: Problem) -> Result<Vec<u8>, AllocError>
     ensures { IfOk result (λ out. out.items ≡ problem_bytes problem) }
 {
     let reply = problem.reply(alloc)?;

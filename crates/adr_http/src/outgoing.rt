@@ -7,14 +7,14 @@ use std::alloc::AllocError;
 
 /// The bytes of a reply, or that memory ran out for them.
 #[derive(Drop)]
-pub(crate) enum Outgoing {
+pub enum Outgoing {
     Bytes(Vec<u8>),
     Memory,
 }
 
 impl Outgoing {
     /// What is written. It takes no memory.
-    pub(crate) fn bytes(&self) -> &[u8]
+    pub fn bytes(&self) -> &[u8]
         ensures { result.now ≡ outgoing_bytes self.now }
     {
         match self {

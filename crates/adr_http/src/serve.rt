@@ -62,7 +62,7 @@ fn reply_to_fault(alloc: Global, fault: MessageFault) -> Outgoing
 }
 
 /// What is replied where no request was read; nothing, where a read failed.
-fn reply_to_end(alloc: Global, end: ReadEnd) -> Result<Outgoing, ServeFault>
+pub fn reply_to_end(alloc: Global, end: ReadEnd) -> Result<Outgoing, ServeFault>
     ensures told { IfOk result (λ out. IsToldAtEnd (outgoing_bytes out) end) }
     ensures read_fault { result ≡ Err Read → end ≡ read_end.Reader }
     ensures no_write_fault { result ≢ Err Write }
