@@ -11,10 +11,14 @@ use std::alloc::Global;
 use std::sync::ledger::{Blank, Ledger};
 use std::sync::{Arc, Wait};
 use std::thread::Threads;
+use std::time::Duration;
 use std::{thread, time};
 
-/// How often a test looks before it gives up.
-pub const MOST_LOOKS: u32 = 1_000_000;
+/// How often a thread of a test looks before it gives up, letting others run in between.
+pub const MOST_LOOKS: u32 = 20_000_000;
+
+/// How often a test looks before it gives up, with a nap in between: for some 50 seconds.
+const MOST_NAPS: u32 = 50_000;
 
 /// What there is at the end of a day.
 #[derive(Drop)]
@@ -40,23 +44,23 @@ pub fn counts<D: Desk + Drop, L: Ledger, R: Wait>(
     }
 }
 
-// Waits until no entry waits any more.
-fn until_none_waits<D: Desk + Drop, L: Ledger, R: Wait>(
+// Waits until no entry waits any more. It goes by time and not by turns of its own: whoever dispatches may rest for a second.
+fn until_none_waits<D: Desk + Drop, L: Ledger, R: Wait + time::Clock>(
     rt: &R,
     office: &Office<D, L>,
     pass: &mut Pass<L>,
 ) {
-    for _ in 0..MOST_LOOKS {
+    for _ in 0..MOST_NAPS {
         match counts(rt, office, pass) {
             Ok(counts) if counts.pending == 0 => break,
-            _ => thread::yield_now(),
+            _ => thread::sleep(rt, Duration::from_millis(1)),
         }
     }
 }
 
 /// What the one who waits does while the others work.
 pub trait Meanwhile {
-    fn pass_time<D: Desk + Drop, L: Ledger, R: Wait>(
+    fn pass_time<D: Desk + Drop, L: Ledger, R: Wait + time::Clock>(
         &self,
         rt: &R,
         office: &Office<D, L>,
@@ -69,7 +73,7 @@ pub trait Meanwhile {
 pub struct UntilNoneWaits;
 
 impl Meanwhile for UntilNoneWaits {
-    fn pass_time<D: Desk + Drop, L: Ledger, R: Wait>(
+    fn pass_time<D: Desk + Drop, L: Ledger, R: Wait + time::Clock>(
         &self,
         rt: &R,
         office: &Office<D, L>,

@@ -15,7 +15,7 @@ use std::sync::atomic::{AtomicU64, Ordering};
 use std::sync::ledger::{Blank, Ledger};
 use std::sync::{Arc, Wait};
 use std::test::*;
-use std::thread;
+use std::{thread, time};
 
 /// What has happened so far.
 struct Seen {
@@ -96,7 +96,7 @@ impl Drop for Enrolling {
 }
 
 impl Meanwhile for Enrolling {
-    fn pass_time<D: Desk + Drop, L: Ledger, R: Wait>(
+    fn pass_time<D: Desk + Drop, L: Ledger, R: Wait + time::Clock>(
         &self,
         rt: &R,
         office: &Office<D, L>,

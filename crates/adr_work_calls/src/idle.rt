@@ -13,7 +13,7 @@ use std::marker::Brand;
 use std::sync::Wait;
 use std::sync::ledger::{Blank, Ledger};
 use std::test::*;
-use std::thread;
+use std::{thread, time};
 
 /// Nobody sends anything to it.
 #[derive(Clone, Copy, Drop)]
@@ -34,7 +34,7 @@ impl Gate for Unused {
 struct ForAWhile;
 
 impl Meanwhile for ForAWhile {
-    fn pass_time<D: Desk + Drop, L: Ledger, R: Wait>(
+    fn pass_time<D: Desk + Drop, L: Ledger, R: Wait + time::Clock>(
         &self,
         _rt: &R,
         _office: &Office<D, L>,

@@ -15,7 +15,7 @@ use std::sync::atomic::{AtomicU64, Ordering};
 use std::sync::ledger::{Blank, Ledger};
 use std::sync::{Arc, Wait};
 use std::test::*;
-use std::thread;
+use std::{thread, time};
 
 /// How often the gate looks on once it may go on, so that the stop comes first.
 const LONGER: u32 = 200_000;
@@ -53,7 +53,7 @@ struct UntilLeased {
 }
 
 impl Meanwhile for UntilLeased {
-    fn pass_time<D: Desk + Drop, L: Ledger, R: Wait>(
+    fn pass_time<D: Desk + Drop, L: Ledger, R: Wait + time::Clock>(
         &self,
         rt: &R,
         office: &Office<D, L>,
