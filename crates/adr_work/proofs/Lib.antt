@@ -1,5 +1,6 @@
 pub mod Fairness
 pub mod Memories
+pub mod Refusing
 pub mod Paging
 pub mod Probing
 pub mod Rounding

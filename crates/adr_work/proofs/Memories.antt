@@ -1,5 +1,5 @@
 -- What is told in two parts, and refusals.
-use Rattle.std.proofs.Common.{Result, Ok, Err, IsErr, true≢false, ◌≡◌, List, [], ◌++◌, map, sym, ap, ap₂, ◌∙◌, append_assoc, append-nil}
+use Rattle.std.proofs.Common.{Result, Ok, Err, IsErr, true≢false, ◌≡◌, List, [], ◌++◌, sym, ap, ap₂, ◌∙◌, append_assoc, append-nil}
 use Rattle.std.proofs.lemmas.List.{map-append}
 use Rattle.adr_text.specs.declared.refusal.Refusal.{Refusal}
 use Rattle.adr_work.specs.Tellings.{Memory, Told, commands_of, memory_of, with_told}

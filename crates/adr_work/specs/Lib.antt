@@ -6,5 +6,6 @@ pub mod Leased
 pub mod Pages
 pub mod Probes
 pub mod Tellings
+pub mod Refused
 pub mod Rounds
 pub mod BookRounds

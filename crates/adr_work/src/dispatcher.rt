@@ -1,6 +1,9 @@
 //! What the dispatcher does: it leases what is due, a job at a time, and puts it into the queue.
-ghost use Rattle.std.specs.Prelude.{◌<◌};
+ghost use Rattle.std.specs.Prelude.{◌<◌, IfErr};
 ghost use Rattle.crossbeam_queue.specs.Passes.{view};
+ghost use Rattle.adr_machine.specs.declared.command.Command.TheVariants.{Lease};
+ghost use Rattle.adr_book.specs.Words.{seen_by};
+ghost use Rattle.adr_work.specs.Refused.{MayRefuse};
 ghost use Rattle.adr_work.specs.Seats.{IsSeatOf, OnlyPuts};
 
 use crate::crew::Ended;
@@ -16,12 +19,15 @@ use std::sync::ledger::Ledger;
 use std::time;
 
 /// Leases the next entry, where one is due at the clock's moment, by one step under the lock.
+#[tactic(auto, using(crate::proofs::Refusing::may_refuse_same))]
 fn lease<D: Desk + Drop, L: Ledger, C: Clock, R: Wait>(
     rt: &R,
     office: &Office<D, L>,
     clock: &C,
     pass: &mut Pass<L>,
-) -> Result<Option<Job>, Refusal> {
+) -> Result<Option<Job>, Refusal>
+    ensures { IfErr result (MayRefuse D.may_refuse (seen_by pass.new) Lease) }
+{
     let now = clock.now(rt);
     let receipt = office.book.lock(rt).step(pass, now, &Command::Lease)?;
     Ok(job_in(&receipt.answer)?)
@@ -38,7 +44,8 @@ pub fn dispatch<D: Desk + Drop, L: Ledger, C: Clock, R: Wait>(
     seat: &mut Seat,
 ) -> Result<(), Refusal>
     requires { IsSeatOf queue.now seat.old × (0 < (view seat.old).parts) }
-    ensures { OnlyPuts seat.old seat.new }
+    ensures puts { OnlyPuts seat.old seat.new }
+    ensures refusal { IfErr result (MayRefuse D.may_refuse (seen_by pass.new) Lease) }
 {
     for _ in rt.forever() {
         if queue.is_closed(rt) || queue.is_full(seat) {

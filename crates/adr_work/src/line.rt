@@ -1,5 +1,6 @@
 //! The ways to the utility and to the book, as a round takes them.
 ghost use Rattle.adr_work.specs.Tellings.{commands_of, memory_of};
+ghost use Rattle.adr_work.specs.Refused.{MayRefuseSome, Refuses};
 ghost use Rattle.adr_work.specs.BookRounds.{commands_in};
 
 use crate::asker::Asker;
@@ -44,6 +45,8 @@ pub(crate) struct OfficeTeller<'a, D: Desk + Drop, L: Ledger, C: Clock, R: Wait>
 impl<D: Desk + Drop, L: Ledger, C: Clock, R: Wait> Teller for OfficeTeller<'_, D, L, C, R> {
     ghost memory = { λ t. memory_of t.log.items (commands_of t.log.items) };
 
+    ghost refuses = { λ t command refusal. MayRefuseSome D.may_refuse command refusal };
+
     fn tell(&mut self, command: &Command) -> Result<Answer, Refusal> {
         let now = self.clock.now(self.rt);
         let receipt = self
@@ -69,6 +72,9 @@ pub(crate) struct BookTeller<'a, D: Desk + Drop, L: Ledger, C: Clock, R: Wait> {
 impl<D: Desk + Drop, L: Ledger, C: Clock, R: Wait> Teller for BookTeller<'_, D, L, C, R> {
     ghost memory = { λ t. memory_of t.log.items (commands_in t.book) };
 
+    ghost refuses = { λ t command refusal. Refuses t.book t.pass command refusal };
+
+    #[tactic(auto, using(crate::proofs::Refusing::refuses_same))]
     fn tell(&mut self, command: &Command) -> Result<Answer, Refusal> {
         let now = self.clock.now(self.rt);
         let receipt = self.book.step(&mut self.pass, now, command)?;

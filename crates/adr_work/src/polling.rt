@@ -1,7 +1,9 @@
 //! A round of polling, over whoever asks and whoever is told.
-ghost use Rattle.std.specs.Prelude.{◌≡◌, ◌≤◌, IfOk, OnErr};
+ghost use Rattle.std.specs.Prelude.{◌≡◌, ◌≤◌, IfOk, IfErr};
+ghost use Rattle.adr_text.specs.declared.refusal.Refusal.TheVariants.{OutOfMemory};
 ghost use Rattle.adr_work.specs.Pages.{most_elements, elements};
 ghost use Rattle.adr_work.specs.Rounds.{Asks, Goes, AsksPage, IsPaging, IsListing, IsProbe, IsProbing, IsEnding, IsRound};
+ghost use Rattle.adr_work.specs.Refused.{EndsBy};
 
 use crate::asker::Asker;
 use crate::page::{PageRead, PollEnd, page_read};
@@ -27,6 +29,7 @@ fn ask_page<A: Asker>(
 ) -> Result<PageRead, Refusal>
     ensures page { Asks (A.exchanges asker.old) (A.exchanges asker.new) (AsksPage upstream.now kind skip result) }
     ensures few { IfOk result (λ page. elements page ≤ most_elements) }
+    ensures memory { IfErr result (λ refusal. refusal ≡ OutOfMemory) }
 {
     let request = Rows::from_vec(upstream.page_request(alloc, kind, skip)?);
     let came = asker.ask(&request);
@@ -35,6 +38,7 @@ fn ask_page<A: Asker>(
 
 /// Asks for the pages of a kind, each behind the elements of those before it, until one is empty, and tells of each that
 /// has elements. It ends as broken with a page that fails, or where 2,000 pages were not all.
+#[tactic(auto, using(crate::proofs::Refusing::ends_memory, crate::proofs::Refusing::ends_refused))]
 fn poll_pages<A: Asker, T: Teller>(
     alloc: Global,
     asker: &mut A,
@@ -42,7 +46,8 @@ fn poll_pages<A: Asker, T: Teller>(
     upstream: &Upstream,
     kind: Kind,
 ) -> Result<PollEnd, Refusal>
-    ensures { Goes (A.exchanges asker.old) (A.exchanges asker.new) (T.memory teller.old) (T.memory teller.new) (IsPaging upstream.now kind result) }
+    ensures round { Goes (A.exchanges asker.old) (A.exchanges asker.new) (T.memory teller.old) (T.memory teller.new) (IsPaging upstream.now kind result) }
+    ensures refusal { IfErr result (λ refusal. EndsBy (T.refuses teller.new) refusal) }
 {
     let mut skip = 0;
     for _i in 0..MOST_PAGES {
@@ -65,7 +70,8 @@ fn poll_both<A: Asker, T: Teller>(
     teller: &mut T,
     upstream: &Upstream,
 ) -> Result<PollEnd, Refusal>
-    ensures { Goes (A.exchanges asker.old) (A.exchanges asker.new) (T.memory teller.old) (T.memory teller.new) (IsListing upstream.now result) }
+    ensures round { Goes (A.exchanges asker.old) (A.exchanges asker.new) (T.memory teller.old) (T.memory teller.new) (IsListing upstream.now result) }
+    ensures refusal { IfErr result (λ refusal. EndsBy (T.refuses teller.new) refusal) }
 {
     match poll_pages(alloc, asker, teller, upstream, Kind::Program)? {
         PollEnd::Whole => poll_pages(alloc, asker, teller, upstream, Kind::Event),
@@ -74,6 +80,7 @@ fn poll_both<A: Asker, T: Teller>(
 }
 
 /// Asks for the object of a key, and tells what came of it. A probe that failed is passed over.
+#[tactic(auto, using(crate::proofs::Refusing::ends_memory, crate::proofs::Refusing::ends_refused))]
 fn probe<A: Asker, T: Teller>(
     alloc: Global,
     asker: &mut A,
@@ -81,7 +88,8 @@ fn probe<A: Asker, T: Teller>(
     upstream: &Upstream,
     key: &MirrorKey,
 ) -> Result<(), Refusal>
-    ensures { Goes (A.exchanges asker.old) (A.exchanges asker.new) (T.memory teller.old) (T.memory teller.new) (IsProbe upstream.now key.now result) }
+    ensures round { Goes (A.exchanges asker.old) (A.exchanges asker.new) (T.memory teller.old) (T.memory teller.new) (IsProbe upstream.now key.now result) }
+    ensures refusal { IfErr result (λ refusal. EndsBy (T.refuses teller.new) refusal) }
 {
     let request = Rows::from_vec(upstream.probe_request(alloc, key.kind, &key.id)?);
     let came = asker.ask(&request);
@@ -100,7 +108,8 @@ fn probe_each<A: Asker, T: Teller>(
     upstream: &Upstream,
     keys: &[MirrorKey],
 ) -> Result<(), Refusal>
-    ensures { Goes (A.exchanges asker.old) (A.exchanges asker.new) (T.memory teller.old) (T.memory teller.new) (IsProbing upstream.now keys.now result) }
+    ensures round { Goes (A.exchanges asker.old) (A.exchanges asker.new) (T.memory teller.old) (T.memory teller.new) (IsProbing upstream.now keys.now result) }
+    ensures refusal { IfErr result (λ refusal. EndsBy (T.refuses teller.new) refusal) }
 {
     for key in keys {
         probe(alloc, asker, teller, upstream, key)?;
@@ -109,13 +118,15 @@ fn probe_each<A: Asker, T: Teller>(
 }
 
 /// Ends the scan, and probes the keys that it missed.
+#[tactic(auto, using(crate::proofs::Refusing::ends_refused))]
 fn end_scan<A: Asker, T: Teller>(
     alloc: Global,
     asker: &mut A,
     teller: &mut T,
     upstream: &Upstream,
 ) -> Result<(), Refusal>
-    ensures { Goes (A.exchanges asker.old) (A.exchanges asker.new) (T.memory teller.old) (T.memory teller.new) (IsEnding upstream.now result) }
+    ensures round { Goes (A.exchanges asker.old) (A.exchanges asker.new) (T.memory teller.old) (T.memory teller.new) (IsEnding upstream.now result) }
+    ensures refusal { IfErr result (λ refusal. EndsBy (T.refuses teller.new) refusal) }
 {
     let missed = teller.tell(&Command::ScanEnd)?;
     probe_each(alloc, asker, teller, upstream, keys_in(&missed))
@@ -123,13 +134,15 @@ fn end_scan<A: Asker, T: Teller>(
 
 /// One round: a scan over all pages of programs and then of events, whose end answers the keys that it missed, and a
 /// probe of each of these. Where not all pages are seen, the scan is not ended. A refused command ends the round.
+#[tactic(auto, using(crate::proofs::Refusing::ends_refused))]
 pub fn poll<A: Asker, T: Teller>(
     alloc: Global,
     asker: &mut A,
     teller: &mut T,
     upstream: &Upstream,
 ) -> Result<PollEnd, Refusal>
-    ensures { Goes (A.exchanges asker.old) (A.exchanges asker.new) (T.memory teller.old) (T.memory teller.new) (IsRound upstream.now result) }
+    ensures round { Goes (A.exchanges asker.old) (A.exchanges asker.new) (T.memory teller.old) (T.memory teller.new) (IsRound upstream.now result) }
+    ensures refusal { IfErr result (λ refusal. EndsBy (T.refuses teller.new) refusal) }
 {
     teller.tell(&Command::ScanBegin)?;
     match poll_both(alloc, asker, teller, upstream)? {

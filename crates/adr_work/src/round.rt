@@ -1,5 +1,7 @@
 //! A round of polling by the office and the gate, or over a book alone.
+ghost use Rattle.std.specs.Prelude.{IfErr};
 ghost use Rattle.adr_work.specs.BookRounds.{KeepsRound};
+ghost use Rattle.adr_work.specs.Refused.{MayRefuseSome, Refuses, EndsBy};
 
 use crate::asker::Asker;
 use crate::gate::{Clock, Gate};
@@ -25,7 +27,9 @@ pub fn poll_round<D: Desk + Drop, L: Ledger, G: Gate, C: Clock, R: Wait>(
     upstream: &Upstream,
     clock: &C,
     pass: &mut Pass<L>,
-) -> Result<PollEnd, Refusal> {
+) -> Result<PollEnd, Refusal>
+    ensures { IfErr result (λ refusal. EndsBy (MayRefuseSome D.may_refuse) refusal) }
+{
     let mut asker = GateAsker {
         rt,
         gate,
@@ -51,7 +55,8 @@ pub fn poll_book<A: Asker, D: Desk + Drop, L: Ledger, C: Clock, R: Wait>(
     book: Book<D, L>,
     pass: Pass<L>,
 ) -> (Book<D, L>, Pass<L>, Result<PollEnd, Refusal>)
-    ensures { KeepsRound upstream.now (A.exchanges asker.old) (A.exchanges asker.new) book result.0 result.2 }
+    ensures round { KeepsRound upstream.now (A.exchanges asker.old) (A.exchanges asker.new) book result.0 result.2 }
+    ensures refusal { IfErr result.2 (λ refusal. EndsBy (Refuses result.0 result.1) refusal) }
 {
     let mut teller = BookTeller {
         rt,

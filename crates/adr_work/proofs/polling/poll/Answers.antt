@@ -3,20 +3,20 @@ use Rattle.adr_work.specs.Rounds.{Goes, IsListing}
 use Rattle.adr_work.proofs.Rounding.{round_cut, round_list_cut, round_broken, round_end_cut, round_whole}
 use Rattle.adr_work.proofs.polling.poll.Goals as goal
 
-pub returns-in_err-tell : goal.returns-in_err-tell
-returns-in_err-tell g c =
+pub returns-in_err-tell-clause-round : goal.returns-in_err-tell-clause-round
+returns-in_err-tell-clause-round g c =
     round_cut c.args.upstream.now (g.A.Asker.exchanges c.args.asker.now) (g.T.Teller.memory c.args.teller.now) (g.T.Teller.memory c.tell.new.self)
     c.from_residual.result c.in_err-tell.ensures.refused c.from_residual.ensures.0
 
-pub returns-in_err-poll_both : goal.returns-in_err-poll_both
-returns-in_err-poll_both g c =
+pub returns-in_err-poll_both-clause-round : goal.returns-in_err-poll_both-clause-round
+returns-in_err-poll_both-clause-round g c =
     round_list_cut c.args.upstream.now (g.A.Asker.exchanges c.args.asker.now) (g.A.Asker.exchanges c.poll_both.new.asker)
     (g.T.Teller.memory c.args.teller.now) (g.T.Teller.memory c.tell.new.self) (g.T.Teller.memory c.poll_both.new.teller)
     c.in_ok-tell.field-0 c.in_ok-tell.ensures.told
-    c.in_err-poll_both.field-0.0 c.from_residual-in_err-poll_both.result c.in_err-poll_both.ensures c.from_residual-in_err-poll_both.ensures.0
+    c.in_err-poll_both.field-0.0 c.from_residual-in_err-poll_both.result c.in_err-poll_both.ensures.round c.from_residual-in_err-poll_both.ensures.0
 
-pub returns-in_err-end_scan-in-Whole : goal.returns-in_err-end_scan-in-Whole
-returns-in_err-end_scan-in-Whole g c =
+pub returns-in_err-end_scan-in-Whole-clause-round : goal.returns-in_err-end_scan-in-Whole-clause-round
+returns-in_err-end_scan-in-Whole-clause-round g c =
     let u = c.args.upstream.now in
     let before = g.A.Asker.exchanges c.args.asker.now in
     let after = g.A.Asker.exchanges c.poll_both.new.asker in
@@ -24,12 +24,12 @@ returns-in_err-end_scan-in-Whole g c =
     let is = g.T.Teller.memory c.poll_both.new.teller in
     round_end_cut u before after (g.T.Teller.memory c.args.teller.now) heard is c.in_ok-tell.field-0 c.in_ok-tell.ensures.told
     (g.A.Asker.exchanges c.end_scan.new.asker) (g.T.Teller.memory c.end_scan.new.teller)
-    (subst (λ end. Goes before after heard is (IsListing u (Ok end))) c.in-Whole.is c.in_ok-poll_both.ensures)
+    (subst (λ end. Goes before after heard is (IsListing u (Ok end))) c.in-Whole.is c.in_ok-poll_both.ensures.round)
     c.in_err-end_scan-in-Whole.field-0.0 c.from_residual-in_err-end_scan-in-Whole.result
-    c.in_err-end_scan-in-Whole.ensures c.from_residual-in_err-end_scan-in-Whole.ensures.0
+    c.in_err-end_scan-in-Whole.ensures.round c.from_residual-in_err-end_scan-in-Whole.ensures.0
 
-pub returns-in_ok-end_scan-in-Whole : goal.returns-in_ok-end_scan-in-Whole
-returns-in_ok-end_scan-in-Whole g c =
+pub returns-in_ok-end_scan-in-Whole-clause-round : goal.returns-in_ok-end_scan-in-Whole-clause-round
+returns-in_ok-end_scan-in-Whole-clause-round g c =
     let u = c.args.upstream.now in
     let before = g.A.Asker.exchanges c.args.asker.now in
     let after = g.A.Asker.exchanges c.poll_both.new.asker in
@@ -37,15 +37,15 @@ returns-in_ok-end_scan-in-Whole g c =
     let is = g.T.Teller.memory c.poll_both.new.teller in
     round_whole u before after (g.T.Teller.memory c.args.teller.now) heard is c.in_ok-tell.field-0 c.in_ok-tell.ensures.told
     (g.A.Asker.exchanges c.end_scan.new.asker) (g.T.Teller.memory c.end_scan.new.teller)
-    (subst (λ end. Goes before after heard is (IsListing u (Ok end))) c.in-Whole.is c.in_ok-poll_both.ensures)
-    c.in_ok-end_scan-in-Whole.ensures
+    (subst (λ end. Goes before after heard is (IsListing u (Ok end))) c.in-Whole.is c.in_ok-poll_both.ensures.round)
+    c.in_ok-end_scan-in-Whole.ensures.round
 
-pub returns-in-Broken : goal.returns-in-Broken
-returns-in-Broken g c =
+pub returns-in-Broken-clause-round : goal.returns-in-Broken-clause-round
+returns-in-Broken-clause-round g c =
     let u = c.args.upstream.now in
     let before = g.A.Asker.exchanges c.args.asker.now in
     let after = g.A.Asker.exchanges c.poll_both.new.asker in
     let heard = g.T.Teller.memory c.tell.new.self in
     let is = g.T.Teller.memory c.poll_both.new.teller in
     round_broken u before after (g.T.Teller.memory c.args.teller.now) heard is c.in_ok-tell.field-0 c.in_ok-tell.ensures.told
-    (subst (λ end. Goes before after heard is (IsListing u (Ok end))) c.in-Broken.is c.in_ok-poll_both.ensures)
+    (subst (λ end. Goes before after heard is (IsListing u (Ok end))) c.in-Broken.is c.in_ok-poll_both.ensures.round)

@@ -4,14 +4,14 @@ use Rattle.adr_work.specs.Rounds.{Goes, IsPaging}
 use Rattle.adr_work.proofs.Rounding.{listed_cut, listed_broken, listed_next}
 use Rattle.adr_work.proofs.polling.poll_both.Goals as goal
 
-pub returns-in_err-poll_pages : goal.returns-in_err-poll_pages
-returns-in_err-poll_pages g c =
+pub returns-in_err-poll_pages-clause-round : goal.returns-in_err-poll_pages-clause-round
+returns-in_err-poll_pages-clause-round g c =
     listed_cut c.args.upstream.now (g.A.Asker.exchanges c.args.asker.now) (g.A.Asker.exchanges c.poll_pages.new.asker)
     (g.T.Teller.memory c.args.teller.now) (g.T.Teller.memory c.poll_pages.new.teller)
-    c.in_err-poll_pages.field-0.0 c.from_residual.result c.in_err-poll_pages.ensures c.from_residual.ensures.0
+    c.in_err-poll_pages.field-0.0 c.from_residual.result c.in_err-poll_pages.ensures.round c.from_residual.ensures.0
 
-pub returns-in-Whole : goal.returns-in-Whole
-returns-in-Whole g c =
+pub returns-in-Whole-clause-round : goal.returns-in-Whole-clause-round
+returns-in-Whole-clause-round g c =
     let u = c.args.upstream.now in
     let before = g.A.Asker.exchanges c.args.asker.now in
     let after = g.A.Asker.exchanges c.poll_pages.new.asker in
@@ -19,15 +19,15 @@ returns-in-Whole g c =
     let is = g.T.Teller.memory c.poll_pages.new.teller in
     listed_next u before after (g.A.Asker.exchanges c.poll_pages-in-Whole.new.asker) was is (g.T.Teller.memory c.poll_pages-in-Whole.new.teller)
     c.poll_pages-in-Whole.result
-    (subst (λ end. Goes before after was is (IsPaging u Program (Ok end))) c.in-Whole.is c.in_ok-poll_pages.ensures)
-    c.poll_pages-in-Whole.ensures
+    (subst (λ end. Goes before after was is (IsPaging u Program (Ok end))) c.in-Whole.is c.in_ok-poll_pages.ensures.round)
+    c.poll_pages-in-Whole.ensures.round
 
-pub returns-in-Broken : goal.returns-in-Broken
-returns-in-Broken g c =
+pub returns-in-Broken-clause-round : goal.returns-in-Broken-clause-round
+returns-in-Broken-clause-round g c =
     let u = c.args.upstream.now in
     let before = g.A.Asker.exchanges c.args.asker.now in
     let after = g.A.Asker.exchanges c.poll_pages.new.asker in
     let was = g.T.Teller.memory c.args.teller.now in
     let is = g.T.Teller.memory c.poll_pages.new.teller in
     listed_broken u before after was is
-    (subst (λ end. Goes before after was is (IsPaging u Program (Ok end))) c.in-Broken.is c.in_ok-poll_pages.ensures)
+    (subst (λ end. Goes before after was is (IsPaging u Program (Ok end))) c.in-Broken.is c.in_ok-poll_pages.ensures.round)

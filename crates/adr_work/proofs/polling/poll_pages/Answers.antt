@@ -5,20 +5,20 @@ use Rattle.adr_work.proofs.polling.poll_pages.Goals as goal
 pub loop-i-init : goal.loop-i-init
 loop-i-init g c = sofar_none c.args.upstream.now c.args.kind (g.A.Asker.exchanges c.args.asker.now) (g.T.Teller.memory c.args.teller.now)
 
-pub returns-in_err-command : goal.returns-in_err-command
-returns-in_err-command g c =
+pub returns-in_err-command-clause-round : goal.returns-in_err-command-clause-round
+returns-in_err-command-clause-round g c =
     paged_cut c.args.upstream.now c.args.kind (g.A.Asker.exchanges c.args.asker.now) (g.A.Asker.exchanges c.loop-i.asker) (g.A.Asker.exchanges c.ask_page.new.asker)
     (g.T.Teller.memory c.args.teller.now) (g.T.Teller.memory c.loop-i.teller) (g.T.Teller.memory c.loop-i.teller) c.loop-i._i c.loop-i.skip
     _ c.from_residual.result c.loop-i.invariant c.in_err-command.ensures.page refl c.from_residual.ensures.0
 
-pub returns-in-Empty : goal.returns-in-Empty
-returns-in-Empty g c =
+pub returns-in-Empty-clause-round : goal.returns-in-Empty-clause-round
+returns-in-Empty-clause-round g c =
     paged_whole c.args.upstream.now c.args.kind (g.A.Asker.exchanges c.args.asker.now) (g.A.Asker.exchanges c.loop-i.asker) (g.A.Asker.exchanges c.ask_page.new.asker)
     (g.T.Teller.memory c.args.teller.now) (g.T.Teller.memory c.loop-i.teller) c.loop-i._i c.loop-i.skip
     c.in_ok-command.field-0 c.loop-i.invariant c.loop-i-test.true c.in_ok-command.ensures.page c.in-Empty.is
 
-pub returns-in-Failed : goal.returns-in-Failed
-returns-in-Failed g c =
+pub returns-in-Failed-clause-round : goal.returns-in-Failed-clause-round
+returns-in-Failed-clause-round g c =
     paged_broken c.args.upstream.now c.args.kind (g.A.Asker.exchanges c.args.asker.now) (g.A.Asker.exchanges c.loop-i.asker) (g.A.Asker.exchanges c.ask_page.new.asker)
     (g.T.Teller.memory c.args.teller.now) (g.T.Teller.memory c.loop-i.teller) c.loop-i._i c.loop-i.skip
     c.in_ok-command.field-0 c.loop-i.invariant c.loop-i-test.true c.in_ok-command.ensures.page c.in-Failed.is
@@ -30,8 +30,8 @@ loop-i-preserved g c =
     c.in_ok-command.field-0 (c.in-Filled.command, c.in_ok-tell-in-Filled.field-0) c.in-Filled.elements
     c.loop-i.invariant c.loop-i-test.true c.in_ok-command.ensures.page c.in-Filled.is c.in_ok-command.ensures.few c.in_ok-tell-in-Filled.ensures.told
 
-pub returns : goal.returns
-returns g c =
+pub returns-clause-round : goal.returns-clause-round
+returns-clause-round g c =
     let end = c.loop-i.auto._i-end in
     let full = c.loop-i-test.false in
     paged_full c.args.upstream.now c.args.kind (g.A.Asker.exchanges c.args.asker.now) (g.A.Asker.exchanges c.loop-i.asker)

@@ -6,8 +6,8 @@ use Rattle.adr_work.proofs.polling.probe_each.Goals as goal
 pub loop-key-init : goal.loop-key-init
 loop-key-init g c = probed_none c.args.upstream.now (g.A.Asker.exchanges c.args.asker.now) (g.T.Teller.memory c.args.teller.now)
 
-pub returns-in_err-probe : goal.returns-in_err-probe
-returns-in_err-probe g c =
+pub returns-in_err-probe-clause-round : goal.returns-in_err-probe-clause-round
+returns-in_err-probe-clause-round g c =
     let keys = c.args.keys.now in
     let i = c.loop-key.key-index in
     let key = c.key-item.result in
@@ -16,7 +16,7 @@ returns-in_err-probe g c =
     (g.T.Teller.memory c.args.teller.now) (g.T.Teller.memory c.loop-key.teller) (g.T.Teller.memory c.probe.new.teller)
     (take i keys) key (drop (i + 1) keys) keys c.in_err-probe.field-0.0 c.from_residual.result c.loop-key.invariant
     (sym (take-append-drop (i + 1) keys) ∙ ap (λ front. front ++ drop (i + 1) keys) more ∙ append_assoc (take i keys) (key ∷ []) (drop (i + 1) keys))
-    c.in_err-probe.ensures c.from_residual.ensures.0
+    c.in_err-probe.ensures.round c.from_residual.ensures.0
 
 pub loop-key-preserved : goal.loop-key-preserved
 loop-key-preserved g c =
@@ -30,4 +30,4 @@ loop-key-preserved g c =
     let was = g.T.Teller.memory c.args.teller.now in
     let is = g.T.Teller.memory c.probe.new.teller in
     subst (λ front. Probed u before after was is front) (sym more)
-    (probed_more u before (g.A.Asker.exchanges c.loop-key.asker) after was (g.T.Teller.memory c.loop-key.teller) is (take i keys) key c.loop-key.invariant c.in_ok-probe.ensures)
+    (probed_more u before (g.A.Asker.exchanges c.loop-key.asker) after was (g.T.Teller.memory c.loop-key.teller) is (take i keys) key c.loop-key.invariant c.in_ok-probe.ensures.round)
