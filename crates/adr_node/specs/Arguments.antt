@@ -1,4 +1,4 @@
--- The program's arguments: `script`, and then limits as `NAME=NUMBER`.
+-- The program's arguments: `script`, and then limits as `NAME=NUMBER`; or `serve`, and the name of a configuration.
 use Rattle.std.specs.Prelude.{ℕ, nat_le, List, [], ◌∷◌, length, codes, bytes_eq, Option, Some, None, option_and_then, if◌then◌else◌}
 use Rattle.adr_state.specs.Digits.{most_number, number_within}
 use Rattle.adr_state.specs.Limits.{largest, limits_set}
@@ -27,3 +27,8 @@ limits_after limits (a ∷ arguments) = option_and_then (λ l. limits_after l ar
 abbrev pub limits_of : List (List ℕ) → Option Limits
 limits_of [] = None
 limits_of (word ∷ arguments) = if bytes_eq word (codes "script") then limits_after largest arguments else None
+
+-- the name of the configuration that the words behind the program's name serve by
+abbrev pub config_of : List (List ℕ) → Option (List ℕ)
+config_of (word ∷ name ∷ []) = if bytes_eq word (codes "serve") then Some name else None
+config_of _ = None

@@ -1,6 +1,6 @@
 //! The program's arguments.
-ghost use Rattle.std.specs.Prelude.{◌≡◌, map, string_bytes};
-ghost use Rattle.adr_node.specs.Arguments.{number_at, limit_set, limits_after, limits_of};
+ghost use Rattle.std.specs.Prelude.{◌≡◌, map, option_map, string_bytes};
+ghost use Rattle.adr_node.specs.Arguments.{number_at, limit_set, limits_after, limits_of, config_of};
 
 use adr_machine::{MOST_NUMBER, number_within};
 use adr_state::Limits;
@@ -50,4 +50,14 @@ pub fn limits_of(words: &[String]) -> Option<Limits>
         return None;
     }
     limits_after(Limits::largest(), arguments)
+}
+
+/// The name of the file that the words behind the program's name serve by: `serve`, and that name.
+pub fn config_of(words: &[String]) -> Option<&str>
+    ensures { option_map (λ name. name.now) result ≡ config_of (map string_bytes words.now) }
+{
+    match words {
+        [word, name] if word.as_str() == "serve" => Some(name.as_str()),
+        _ => None,
+    }
 }

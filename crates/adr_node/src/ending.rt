@@ -2,19 +2,24 @@
 ghost use Rattle.std.specs.Prelude.{◌≡◌, option_map};
 ghost use Rattle.std.specs.Process.{exit_status};
 ghost use Rattle.adr_node.specs.declared.ending.NodeFault.TheVariants.{Script};
-ghost use Rattle.adr_node.specs.Endings.{fault_of, fault_line, line_of, status_of};
+ghost use Rattle.adr_node.specs.Endings.{fault_of, fault_served, fault_line, line_of, status_of};
 
 use adr_script::ScriptFault;
+use adr_server as server;
 use adr_text::Refusal;
 use std::process::ExitCode;
 
 /// Why the program ended early.
 #[derive(Clone, Copy)]
 pub enum NodeFault {
-    /// The script ended early, or memory ran out before its first line.
+    /// The script ended early, or memory ran out before its first line or in a server.
     Script(ScriptFault),
-    /// The store refused to be opened, so no line was taken.
+    /// The store refused to be opened, so no line or connection was taken.
     Store,
+    /// The configuration can't be read, or is none.
+    BadConfig,
+    /// The address is taken, or can't be listened at.
+    Bind,
 }
 
 impl From<ScriptFault> for NodeFault {
@@ -37,8 +42,20 @@ impl From<Refusal> for NodeFault {
     }
 }
 
-/// The lines printed of a script that ran to its end, nothing where the arguments are of another form, or
-/// why the program ended early.
+impl From<server::NodeFault> for NodeFault {
+    ghost from_gives = { λ fault e. e ≡ fault_served fault };
+
+    fn from(fault: server::NodeFault) -> NodeFault {
+        match fault {
+            server::NodeFault::Bind => NodeFault::Bind,
+            server::NodeFault::OutOfMemory => NodeFault::Script(ScriptFault::OutOfMemory),
+            server::NodeFault::Store => NodeFault::Store,
+        }
+    }
+}
+
+/// The lines printed of a script that ran to its end, none of a server that stopped, nothing where the arguments are of
+/// another form, or why the program ended early.
 pub type Ran = Result<Option<u64>, NodeFault>;
 
 fn fault_line(fault: NodeFault) -> &'static str
@@ -51,6 +68,8 @@ fn fault_line(fault: NodeFault) -> &'static str
         NodeFault::Script(ScriptFault::ScriptTooLong) => "adr_node: script too long",
         NodeFault::Script(ScriptFault::OutOfMemory) => "adr_node: out of memory",
         NodeFault::Store => "adr_node: store refused",
+        NodeFault::BadConfig => "adr_node: bad configuration",
+        NodeFault::Bind => "adr_node: bind fault",
     }
 }
 

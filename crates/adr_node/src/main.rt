@@ -1,20 +1,25 @@
-//! The node: `adr_node script [NAME=NUMBER ..]` answers the lines of a script on standard input.
+//! The node: `adr_node script [NAME=NUMBER ..]` answers the lines of a script on standard input, `adr_node serve CONFIG`
+//! serves over sockets by the configuration in that file.
 #![tactic(auto)]
 
 mod arguments;
 mod ending;
 mod script;
+mod serve;
 
 use adr_script::ScriptFault;
-use adr_state::Limits;
 use ending::Ran;
 use std::env;
 use std::io::ErrorKind;
+use std::net::{Net, TcpListener, TcpStream};
 use std::process::ExitCode;
-use std::rt::Env;
+use std::rt::{Env, Files};
+use std::sync::Wait;
+use std::thread::Threads;
+use std::time::Clock;
 
-/// The limits that the arguments set, if they are of the program's form.
-fn limits<R: Env + AllocGlobal>(rt: &R) -> Result<Option<Limits>, ScriptFault> {
+/// The words behind the program's name, if they can be read.
+fn words<R: Env + AllocGlobal>(rt: &R) -> Result<Option<Vec<String>>, ScriptFault> {
     let words = match env::args(rt) {
         Ok(words) => words,
         Err(error) if error.kind() == ErrorKind::OutOfMemory => {
@@ -28,18 +33,42 @@ fn limits<R: Env + AllocGlobal>(rt: &R) -> Result<Option<Limits>, ScriptFault> {
             return Err(ScriptFault::OutOfMemory);
         }
     }
-    Ok(arguments::limits_of(&behind))
+    Ok(Some(behind))
 }
 
-fn ran(rt: &HostRuntime) -> Ran {
-    match limits(rt)? {
-        Some(limits) => Ok(Some(script::run(rt, limits)?)),
+/// Does what the words ask for, if they are of one of the program's forms.
+fn ran<R>(rt: R) -> Ran
+where
+    R: Env
+        + Files
+        + Input
+        + Print
+        + AllocGlobal
+        + Threads
+        + Wait
+        + Clock
+        + Net<Listener = TcpListener, Stream = TcpStream>
+        + Copy
+        + Drop
+        + Send
+        + Sync
+        + 'static,
+{
+    let Some(words) = words(&rt)? else {
+        return Ok(None);
+    };
+    if let Some(name) = arguments::config_of(&words) {
+        serve::run(rt, name)?;
+        return Ok(Some(0));
+    }
+    match arguments::limits_of(&words) {
+        Some(limits) => Ok(Some(script::run(&rt, limits)?)),
         None => Ok(None),
     }
 }
 
 fn main(rt: HostRuntime) -> ExitCode {
-    let ran = ran(&rt);
+    let ran = ran(rt);
     if let Some(line) = ending::line_of(&ran) {
         let _ = eprintln!(rt; "{line}");
     }

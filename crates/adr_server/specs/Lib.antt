@@ -1,0 +1,3 @@
+pub mod Addresses
+pub mod Passes
+pub mod Replies

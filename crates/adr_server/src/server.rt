@@ -1,0 +1,286 @@
+//! The node as a server.
+ghost use Rattle.std.specs.Prelude.{◌≡◌, ◌+◌, ◌*◌, ◌<◌, IfOk, length};
+ghost use Rattle.adr_server.specs.Passes.{passes_of};
+
+use crate::front::{Front, Served, serve_on};
+use crate::gate::SocketGate;
+use crate::poller::poll_loop;
+use crate::shared::Shared;
+use adr_book::{Office, Pass};
+use adr_config::Config;
+use adr_desk::MemoryDesk;
+use adr_link::Upstream;
+use adr_machine::Desk;
+use adr_text::Refusal;
+use adr_work::{Clock, JobQueue, start, stop};
+use std::alloc::{AllocError, AllocFailed, Global};
+use std::marker::Brand;
+use std::net::{Net, TcpListener, TcpStream};
+use std::sync::atomic::{AtomicBool, Ordering};
+use std::sync::ledger::{Blank, Ledger};
+use std::sync::{Arc, Wait};
+use std::thread::{JoinHandle, Threads};
+use std::time::Duration;
+use std::{thread, time};
+
+/// Why a node did not serve, or stopped early.
+#[derive(Clone, Copy, Debug, PartialEq, Eq)]
+pub enum NodeFault {
+    /// The address is taken, or can't be listened at.
+    Bind,
+    /// Memory ran out, or a thread could not be made.
+    OutOfMemory,
+    /// The store could not be opened.
+    Store,
+}
+
+impl From<Refusal> for NodeFault {
+    fn from(refusal: Refusal) -> NodeFault {
+        match refusal {
+            Refusal::OutOfMemory => NodeFault::OutOfMemory,
+            _ => NodeFault::Store,
+        }
+    }
+}
+
+impl From<AllocError> for NodeFault {
+    fn from(_e: AllocError) -> NodeFault {
+        NodeFault::OutOfMemory
+    }
+}
+
+impl<T: Drop> From<AllocFailed<T>> for NodeFault {
+    fn from(_e: AllocFailed<T>) -> NodeFault {
+        NodeFault::OutOfMemory
+    }
+}
+
+/// The capacity of the queue between the dispatcher and the senders.
+const ROOM: usize = 16;
+
+/// How long the node rests after it could not accept or serve a connection, in milliseconds.
+const REST: u64 = 10;
+
+// Accepts connections, so many where that is said. One that memory is wanting for is dropped, and then the node rests, as
+// where none could be accepted.
+fn accept_each<D, L, C, R>(
+    rt: R,
+    alloc: Global,
+    served: &Served<D, L, C>,
+    listener: &TcpListener,
+    front: &mut Front<L>,
+    most: Option<u64>,
+)
+where
+    D: Desk + Drop + Send + 'static,
+    L: Ledger + Send + Sync + 'static,
+    C: Clock + Drop + Send + Sync + 'static,
+    R: Threads + Wait + time::Clock + Copy + Send + 'static,
+    ensures { passes_of front.new ≡ passes_of front.old }
+{
+    let mut accepted = 0u64;
+    for _ in rt.forever() {
+        if most == Some(accepted) {
+            break;
+        }
+        let is_served = match listener.accept() {
+            Ok((stream, _)) => {
+                accepted = accepted.saturating_add(1);
+                serve_on(rt, alloc, served, front, stream).is_ok()
+            }
+            Err(_) => false,
+        };
+        if !is_served {
+            thread::sleep(&rt, Duration::from_millis(REST));
+        }
+    }
+}
+
+// The same, and then all that were accepted are served to their end.
+fn accept_all<D, L, C, R>(
+    rt: R,
+    alloc: Global,
+    served: &Served<D, L, C>,
+    listener: &TcpListener,
+    passes: Vec<Pass<L>>,
+    most: Option<u64>,
+) -> Result<(), AllocError>
+where
+    D: Desk + Drop + Send + 'static,
+    L: Ledger + Send + Sync + 'static,
+    C: Clock + Drop + Send + Sync + 'static,
+    R: Threads + Wait + time::Clock + Copy + Send + 'static,
+{
+    let mut front = Front::new(alloc, passes)?;
+    accept_each(rt, alloc, served, listener, &mut front, most);
+    front.join(&rt);
+    Ok(())
+}
+
+fn gate<R>(
+    rt: R,
+    alloc: Global,
+    upstream: &Arc<Upstream, Global>,
+) -> Result<SocketGate<R>, AllocError>
+where
+    R: Net<Listener = TcpListener, Stream = TcpStream> + time::Clock + Copy + Drop,
+{
+    Ok(SocketGate {
+        net: rt,
+        alloc,
+        upstream: Arc::try_clone(upstream)?,
+    })
+}
+
+// A gate for each sender.
+fn gates<R>(
+    rt: R,
+    alloc: Global,
+    upstream: &Arc<Upstream, Global>,
+    count: u64,
+) -> Result<Vec<SocketGate<R>>, AllocError>
+where
+    R: Net<Listener = TcpListener, Stream = TcpStream> + time::Clock + Copy + Drop,
+    ensures { IfOk result (λ gates. length gates.items ≡ count) }
+{
+    let mut gates = Vec::new(alloc);
+    for _i in 0..count {
+        gates.push(gate(rt, alloc, upstream)?)?;
+    }
+    Ok(gates)
+}
+
+// Starts the rounds of polling.
+fn poller<D, L, C, R>(
+    rt: R,
+    alloc: Global,
+    served: &Served<D, L, C>,
+    upstream: &Arc<Upstream, Global>,
+    stopped: &Arc<AtomicBool, Global>,
+    seconds: u64,
+    pass: Pass<L>,
+) -> Result<JoinHandle<Pass<L>>, AllocError>
+where
+    D: Desk + Drop + Send + 'static,
+    L: Ledger + Send + Sync + 'static,
+    C: Clock + Drop + Send + Sync + 'static,
+    R: Threads
+        + Wait
+        + time::Clock
+        + Net<Listener = TcpListener, Stream = TcpStream>
+        + Copy
+        + Drop
+        + Send
+        + 'static,
+{
+    let office = Arc::try_clone(&served.office)?;
+    let clock = Arc::try_clone(&served.clock)?;
+    let stopped = Arc::try_clone(stopped)?;
+    let gate = gate(rt, alloc, upstream)?;
+    let upstream = Arc::try_clone(upstream)?;
+    let work = move || -> Pass<L> {
+        poll_loop(
+            &rt, alloc, &*office, &gate, &*upstream, &*clock, seconds, &*stopped, pass,
+        )
+    };
+    Ok(thread::spawn(&rt, work)?)
+}
+
+// What all threads that serve know.
+fn shared(alloc: Global, config: &Config) -> Result<Shared, AllocError> {
+    Ok(Shared {
+        alloc,
+        roles: config.roles.copy(alloc)?,
+        client: config.settings.client.clone()?,
+    })
+}
+
+fn serve_over<L, C, R>(
+    rt: R,
+    alloc: Global,
+    blank: Blank,
+    config: &Config,
+    clock: C,
+) -> Result<(), NodeFault>
+where
+    L: Ledger + Send + Sync + 'static,
+    C: Clock + Drop + Send + Sync + 'static,
+    R: Threads
+        + Wait
+        + time::Clock
+        + Net<Listener = TcpListener, Stream = TcpStream>
+        + Copy
+        + Drop
+        + Send
+        + 'static,
+    requires name { blank.name ≡ L.name }
+    requires parts { blank.parts ≡ L.parts }
+    requires count { blank.parts ≡ 2 * config.now.workers + 2 }
+{
+    let count = config.workers.get();
+    let desk = MemoryDesk::open_memory(alloc, config.settings.copy()?)?;
+    let (office, mut passes) = Office::<MemoryDesk, L>::open(
+        alloc,
+        blank,
+        desk,
+        2 * count as u32 + 2,
+    )?;
+    let Ok(listener) = TcpListener::bind(&rt, config.listen) else {
+        return Err(NodeFault::Bind);
+    };
+    let served = Served {
+        office: Arc::new(alloc, office)?,
+        shared: Arc::new(alloc, shared(alloc, config)?)?,
+        clock: Arc::new(alloc, clock)?,
+    };
+    let upstream = Arc::new(alloc, config.upstream.copy()?)?;
+    let stopped = Arc::new(alloc, AtomicBool::new(false))?;
+    let Some(pass) = passes.pop() else {
+        unreachable!()
+    };
+    let sending = passes.split_off(count as usize)?;
+    let (queue, whole) = JobQueue::new(alloc, ROOM)?;
+    let gates = gates(rt, alloc, &upstream, count)?;
+    let workers = start(
+        rt,
+        alloc,
+        &served.office,
+        queue,
+        whole,
+        &served.clock,
+        sending,
+        gates,
+    )?;
+    let seconds = config.poll.get();
+    let most = config.stop_after.map(|most| most.get());
+    let poller = poller(rt, alloc, &served, &upstream, &stopped, seconds, pass);
+    let ended = match &poller {
+        Ok(_) => accept_all(rt, alloc, &served, &listener, passes, most),
+        Err(_) => Err(AllocError),
+    };
+    stopped.store(true, Ordering::SeqCst);
+    let left = stop(&rt, alloc, workers);
+    if let Ok(poller) = poller {
+        let _pass = poller.join(&rt);
+    }
+    left?;
+    Ok(ended?)
+}
+
+/// Serves by a configuration and a clock: connections, each on a thread of its own, rounds of polling the utility, and
+/// the outbox, until it has accepted as many connections as the configuration says, or for ever.
+pub fn serve_with<C, R>(rt: R, alloc: Global, config: &Config, clock: C) -> Result<(), NodeFault>
+where
+    C: Clock + Drop + Send + Sync + 'static,
+    R: Threads
+        + Wait
+        + time::Clock
+        + Net<Listener = TcpListener, Stream = TcpStream>
+        + Copy
+        + Drop
+        + Send
+        + 'static,
+{
+    let passes = 2 * config.workers.get() + 2;
+    serve_over::<Brand, C, R>(rt, alloc, Blank::new(passes), config, clock)
+}

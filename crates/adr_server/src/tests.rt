@@ -1,0 +1,295 @@
+//! Days over loopback, of what no clause can say: that connections are served side by side and to their end, and that a
+//! peer who does not do its part holds up no other.
+use crate::gate::address_of;
+use crate::{HostClock, NodeFault, serve_with};
+use adr_config::Config;
+use adr_text::Moment;
+use adr_work::Clock;
+use std::alloc::Global;
+use std::io::{Read, Write};
+use std::net::{Net, Shutdown, SocketAddr, TcpListener, TcpStream};
+use std::sync::Wait;
+use std::test::Fail;
+use std::thread::{JoinHandle, Threads};
+use std::time::{Duration, Instant};
+use std::{io, thread, time};
+
+const CREATED: &str =
+    "HTTP/1.1 201 Created\r\nContent-Type: application/json\r\nContent-Length: 135\r\nConnection: close\r\n\r\n{\"createdDateTime\":\"2024-07-01T10:00:00Z\",\"id\":\"v1\",\"modificationDateTime\":\"2024-07-01T10:00:00Z\",\"objectType\":\"VEN\",\"venName\":\"alpha\"}";
+
+const LISTED: &str =
+    "HTTP/1.1 200 OK\r\nContent-Type: application/json\r\nContent-Length: 137\r\nConnection: close\r\n\r\n[{\"createdDateTime\":\"2024-07-01T10:00:00Z\",\"id\":\"v1\",\"modificationDateTime\":\"2024-07-01T10:00:00Z\",\"objectType\":\"VEN\",\"venName\":\"alpha\"}]";
+
+const NONE: &str =
+    "HTTP/1.1 200 OK\r\nContent-Type: application/json\r\nContent-Length: 2\r\nConnection: close\r\n\r\n[]";
+
+const MALFORMED: &str =
+    "HTTP/1.1 400 Bad Request\r\nContent-Type: application/json\r\nContent-Length: 64\r\nConnection: close\r\n\r\n{\"detail\":\"malformed request\",\"status\":400,\"title\":\"BadRequest\"}";
+
+const TOO_LARGE: &str =
+    "HTTP/1.1 413 Payload Too Large\r\nContent-Type: application/json\r\nContent-Length: 62\r\nConnection: close\r\n\r\n{\"detail\":\"request too large\",\"status\":413,\"title\":\"TooLarge\"}";
+
+const POST: &[u8] =
+    b"POST /vens HTTP/1.1\r\nHost: x\r\nAuthorization: Bearer t0\r\nTransfer-Encoding: chunked\r\n\r\n13\r\n{\"venName\":\"alpha\"}\r\n0\r\n\r\n";
+
+const GET: &[u8] = b"GET /vens HTTP/1.1\r\nHost: x\r\nAuthorization: Bearer t0\r\n\r\n";
+/// A request whose connection ends in the middle of its body.
+const CUT: &[u8] =
+    b"POST /vens HTTP/1.1\r\nHost: x\r\nAuthorization: Bearer t0\r\nTransfer-Encoding: chunked\r\n\r\n13\r\n{\"venN";
+/// A request, and what no request is behind it.
+const POST_AND_MORE: &[u8] =
+    b"POST /vens HTTP/1.1\r\nHost: x\r\nAuthorization: Bearer t0\r\nContent-Length: 19\r\n\r\n{\"venName\":\"alpha\"}\x00GET / \r\n\r\n";
+/// The front of a request whose body is larger than any that is taken.
+const LARGE: &[u8] =
+    b"POST /vens HTTP/1.1\r\nHost: x\r\nAuthorization: Bearer t0\r\nContent-Length: 4096000\r\n\r\n";
+
+/// A clock that stands still.
+#[derive(Clone, Copy, Drop)]
+struct Still(Moment);
+
+impl Clock for Still {
+    fn now<R: Wait>(&self, _rt: &R) -> Moment {
+        self.0
+    }
+}
+
+/// A node that serves, and where.
+#[derive(Drop)]
+struct Node {
+    at: SocketAddr,
+    handle: JoinHandle<Result<(), NodeFault>>,
+}
+
+/// A configuration: where to listen, how many workers, after how many connections to stop. Nobody listens at the utility.
+fn config(alloc: Global, at: SocketAddr, workers: u64, most: u64) -> Result<Config, Fail> {
+    let text = format!(in alloc;
+        "{{\"listen\":\"{at}\",\"upstream\":\"http://127.0.0.1:1/openadr3\",\"clientName\":\"aggregator\",\"poll\":1,\"workers\":{workers},\"tokens\":[{{\"token\":\"t0\",\"role\":\"operator\"}}],\"stopAfter\":{most}}}"
+    )?;
+    Ok(Config::read(alloc, text.as_bytes())?)
+}
+
+fn serve<R>(rt: R, alloc: Global, config: &Config) -> Result<(), NodeFault>
+where
+    R: Net<Listener = TcpListener, Stream = TcpStream>
+        + Threads
+        + Wait
+        + time::Clock
+        + Copy
+        + Drop
+        + Send
+        + 'static,
+{
+    match Moment::read("2024-07-01T10:00:00Z") {
+        Ok(at) => serve_with(rt, alloc, config, Still(at)),
+        Err(_) => Err(NodeFault::Store),
+    }
+}
+
+/// An address at which nobody listens.
+fn free<R: Net<Listener = TcpListener, Stream = TcpStream>>(rt: &R) -> io::Result<SocketAddr> {
+    TcpListener::bind(rt, "127.0.0.1:0")?.local_addr()
+}
+
+fn start<R>(rt: R, alloc: Global, workers: u64, most: u64) -> Result<Node, Fail>
+where
+    R: Net<Listener = TcpListener, Stream = TcpStream>
+        + Threads
+        + Wait
+        + time::Clock
+        + Copy
+        + Drop
+        + Send
+        + 'static,
+{
+    let at = free(&rt)?;
+    let config = config(alloc, at, workers, most)?;
+    match thread::spawn(&rt, move || serve(rt, alloc, &config)) {
+        Ok(handle) => Ok(Node { at, handle }),
+        Err(_) => Err(Fail::new("no thread")),
+    }
+}
+
+/// Connects, as soon as somebody listens there.
+fn connect<R>(rt: &R, at: SocketAddr) -> io::Result<TcpStream>
+where
+    R: Net<Listener = TcpListener, Stream = TcpStream> + time::Clock,
+{
+    for _ in 0..200u32 {
+        if let Ok(stream) = TcpStream::connect(rt, at) {
+            return Ok(stream);
+        }
+        thread::sleep(rt, Duration::from_millis(20));
+    }
+    TcpStream::connect(rt, at)
+}
+
+fn read_reply(alloc: Global, stream: &mut TcpStream) -> io::Result<String> {
+    let mut reply = String::new(alloc);
+    stream.read_to_string(&mut reply)?;
+    Ok(reply)
+}
+
+fn ask<R>(rt: &R, alloc: Global, at: SocketAddr, request: &[u8]) -> io::Result<String>
+where
+    R: Net<Listener = TcpListener, Stream = TcpStream> + time::Clock,
+{
+    let mut stream = connect(rt, at)?;
+    stream.write_all(request)?;
+    read_reply(alloc, &mut stream)
+}
+
+#[test]
+fn a_day(rt: HostRuntime) -> Result<(), Fail> {
+    let alloc = rt.alloc();
+    let node = start(rt, alloc, 1, 2)?;
+    let created = ask(&rt, alloc, node.at, POST)?;
+    let listed = ask(&rt, alloc, node.at, GET)?;
+    assert!(rt; node.handle.join(&rt).is_ok());
+    assert_eq!(rt; created.as_str(), CREATED);
+    assert_eq!(rt; listed.as_str(), LISTED);
+    assert!(rt;
+        TcpStream::connect(&rt, node.at).is_err(),
+        "it listens no more"
+    );
+    Ok(())
+}
+
+/// Whether so many requests one after the other are each answered within two seconds.
+fn are_quick<R>(rt: &R, alloc: Global, at: SocketAddr, count: u32) -> io::Result<bool>
+where
+    R: Net<Listener = TcpListener, Stream = TcpStream> + time::Clock,
+{
+    let mut quick = true;
+    for _ in 0..count {
+        let begun = Instant::now(rt)?;
+        let reply = ask(rt, alloc, at, GET)?;
+        quick &= begun.elapsed(rt)? < Duration::from_secs(2) && reply.as_str() == NONE;
+    }
+    Ok(quick)
+}
+
+#[test]
+fn peers_that_do_nothing(rt: HostRuntime) -> Result<(), Fail> {
+    let alloc = rt.alloc();
+    let node = start(rt, alloc, 3, 10)?;
+    let silent = connect(&rt, node.at)?;
+    let mut deaf = connect(&rt, node.at)?;
+    deaf.write_all(GET)?;
+    assert!(rt; are_quick(&rt, alloc, node.at, 8)?);
+    drop(silent);
+    drop(deaf);
+    assert!(rt; node.handle.join(&rt).is_ok());
+    Ok(())
+}
+
+/// Two silent peers have both passes. Who comes then waits for the first of them to be given up.
+#[test]
+fn silent_peers_alone(rt: HostRuntime) -> Result<(), Fail> {
+    let alloc = rt.alloc();
+    let node = start(rt, alloc, 2, 3)?;
+    let mut first = connect(&rt, node.at)?;
+    let mut second = connect(&rt, node.at)?;
+    let listed = ask(&rt, alloc, node.at, GET)?;
+    assert_eq!(rt; listed.as_str(), NONE);
+    assert!(rt; read_reply(alloc, &mut first)?.is_empty());
+    assert!(rt; read_reply(alloc, &mut second)?.is_empty());
+    assert!(rt; node.handle.join(&rt).is_ok());
+    Ok(())
+}
+
+#[test]
+fn a_byte_at_a_time(rt: HostRuntime) -> Result<(), Fail> {
+    let alloc = rt.alloc();
+    let node = start(rt, alloc, 1, 1)?;
+    let mut stream = connect(&rt, node.at)?;
+    stream.set_nodelay(true)?;
+    for byte in POST {
+        stream.write_all(&[*byte])?;
+        thread::sleep(&rt, Duration::from_millis(2));
+    }
+    let created = read_reply(alloc, &mut stream)?;
+    assert_eq!(rt; created.as_str(), CREATED);
+    assert!(rt; node.handle.join(&rt).is_ok());
+    Ok(())
+}
+
+#[test]
+fn a_body_that_is_too_large(rt: HostRuntime) -> Result<(), Fail> {
+    let alloc = rt.alloc();
+    let node = start(rt, alloc, 1, 1)?;
+    let mut stream = connect(&rt, node.at)?;
+    stream.write_all(LARGE)?;
+    for _ in 0..1000u32 {
+        stream.write_all(&[b' '; 4096])?;
+    }
+    let told = read_reply(alloc, &mut stream)?;
+    assert_eq!(rt; told.as_str(), TOO_LARGE);
+    assert!(rt; node.handle.join(&rt).is_ok());
+    Ok(())
+}
+
+#[test]
+fn connections_that_are_cut(rt: HostRuntime) -> Result<(), Fail> {
+    let alloc = rt.alloc();
+    let node = start(rt, alloc, 2, 4)?;
+    let mut half = connect(&rt, node.at)?;
+    half.write_all(CUT)?;
+    half.shutdown(Shutdown::Write)?;
+    let told = read_reply(alloc, &mut half)?;
+    assert_eq!(rt; told.as_str(), MALFORMED);
+    let mut gone = connect(&rt, node.at)?;
+    gone.write_all(CUT)?;
+    drop(gone);
+    let listed = ask(&rt, alloc, node.at, GET)?;
+    assert_eq!(rt; listed.as_str(), NONE);
+    let created = ask(&rt, alloc, node.at, POST_AND_MORE)?;
+    assert_eq!(rt;
+        created.as_str(),
+        CREATED,
+        "what stands behind a request is passed over"
+    );
+    assert!(rt; node.handle.join(&rt).is_ok());
+    Ok(())
+}
+
+#[test]
+fn a_taken_address(rt: HostRuntime) -> Result<(), Fail> {
+    let alloc = rt.alloc();
+    let taken = TcpListener::bind(&rt, "127.0.0.1:0")?;
+    let config = config(alloc, taken.local_addr()?, 1, 1)?;
+    assert_eq!(rt; serve(rt, alloc, &config), Err(NodeFault::Bind));
+    Ok(())
+}
+
+#[test]
+fn addresses(rt: HostRuntime) -> Result<(), Fail> {
+    let alloc = rt.alloc();
+    assert_eq!(rt;
+        address_of(alloc, "localhost:8081"),
+        address_of(alloc, "127.0.0.1:8081")
+    );
+    assert!(rt; address_of(alloc, "127.0.0.1:8081").is_some());
+    assert!(rt; address_of(alloc, "[::1]:80").is_some());
+    for none in [
+        "",
+        "localhost",
+        "localhost:65536",
+        "example.org:80",
+        "127.0.0.1",
+    ] {
+        assert!(rt; address_of(alloc, none).is_none());
+    }
+    Ok(())
+}
+
+/// The system's clock is past the moment at which this was written, and does not stand still for long.
+#[test]
+fn the_clock(rt: HostRuntime) -> Result<(), Fail> {
+    let written = Moment::read("2024-07-01T10:00:00Z")?;
+    let first = HostClock(rt).now(&rt);
+    thread::sleep(&rt, Duration::from_millis(20));
+    let second = HostClock(rt).now(&rt);
+    assert!(rt; written.nanos() < first.nanos());
+    assert!(rt; first.nanos() < second.nanos());
+    Ok(())
+}
