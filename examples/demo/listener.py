@@ -64,10 +64,7 @@ def main(arguments):
         print("usage: listener.py PORT [FAILURES]", file=sys.stderr)
         return 2
     listener = PrintingListener(int(arguments[1]) if len(arguments) == 2 else 0)
-    try:
-        Server(int(arguments[0]), listener.answer).serve_forever()
-    except KeyboardInterrupt:
-        pass
+    Server(int(arguments[0]), listener.answer).run()
     return 0
 
 

@@ -114,10 +114,7 @@ def main(arguments):
         print("usage: utility.py PORT FILE [TOKEN]", file=sys.stderr)
         return 2
     utility = FileUtility(arguments[2] if len(arguments) == 3 else "change-me-upstream", arguments[1])
-    try:
-        Server(int(arguments[0]), utility.answer).serve_forever()
-    except KeyboardInterrupt:
-        pass
+    Server(int(arguments[0]), utility.answer).run()
     return 0
 
 

@@ -23,6 +23,13 @@ class Server(socketserver.ThreadingMixIn, socketserver.TCPServer):
         """Serves in a thread of its own."""
         threading.Thread(target=self.serve_forever, kwargs={"poll_interval": 0.1}, daemon=True).start()
 
+    def run(self):
+        """Serves until whoever started it interrupts it."""
+        try:
+            self.serve_forever()
+        except KeyboardInterrupt:
+            pass
+
     def stop(self):
         self.shutdown()
         self.server_close()
