@@ -3,3 +3,4 @@ pub mod Words
 pub mod Same
 pub mod Entry
 pub mod Receipts
+pub mod Refused

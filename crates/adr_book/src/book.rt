@@ -1,14 +1,13 @@
 //! The methods of a book over any desk: where the desk is sound, its state is what the trail leads to from the base.
 ghost use Rattle.std.specs.Prelude.{◌≡◌, ◌+◌, ◌<◌, ◌≤◌, [], ◌∷◌, ◌++◌, Ok, IfOk, IfErr, OnOk, OnErr, length};
 ghost use Rattle.adr_text.specs.Refusals.{IsRefusalOf};
-ghost use Rattle.adr_text.specs.declared.refusal.Refusal.TheVariants.{TrailFull, Stale};
-ghost use Rattle.adr_queries.specs.Listed.{listed_for, IsListed};
-ghost use Rattle.adr_machine.specs.Listed.{listed};
+ghost use Rattle.adr_queries.specs.Listed.{IsListed};
 ghost use Rattle.adr_machine.specs.Steps.{image_of};
 ghost use Rattle.adr_book.specs.Trail.{LeadsTo};
 ghost use Rattle.adr_book.specs.Words.{base_of, since_of, trail_of, turn_of, state_of, settings_of, IsSound, IsKept, seen_by, taken_by};
 ghost use Rattle.adr_book.specs.Same.{IsSame, IsUntouched};
 ghost use Rattle.adr_book.specs.Receipts.{IsOf, Confirms};
+ghost use Rattle.adr_book.specs.Refused.{MayRefuse, MayRefuseQuery};
 ghost use Rattle.adr_book.specs.Entry.{entry_to_ask, entry_to_step, step_in, reply_in, EndsAfter};
 
 use crate::kept::{Book, MOST_TURNS, Pass, Receipt};
@@ -111,7 +110,7 @@ impl<D: Desk, L: Ledger> Book<D, L> {
         ensures seen { IfOk result (λ r. (seen_by pass.new ≡ r.turn) × (seen_by pass.old < r.turn)) }
         ensures refused { IfErr result (λ refusal. IsSound self.new → IsRefusalOf refusal (step_in self.old pass.old now command.now)) }
         ensures entry { EndsAfter (entry_to_step self.old pass.old) result }
-        ensures listed { IfErr result (IsListed D.may_refuse (Stale (seen_by pass.old) ∷ TrailFull ∷ listed command.now)) }
+        ensures listed { IfErr result (MayRefuse D.may_refuse (seen_by pass.old) command.now) }
         ensures unchanged { OnErr result (IsSame self.old self.new × (pass.new ≡ pass.old)) }
         ensures placed { IfOk result (λ r. IsSound self.new → IsOf self.new r) }
         ensures confirms { IsSound self.new → Confirms self.old self.new }
@@ -148,7 +147,7 @@ impl<D: Desk, L: Ledger> Book<D, L> {
         ensures turn { IfOk result (λ r. (r.0 ≡ turn_of self.old) × (seen_by pass.new ≡ r.0) × (seen_by pass.old ≤ r.0)) }
         ensures refused { IfErr result (λ refusal. IsSound self.new → IsRefusalOf refusal (reply_in self.old pass.old query)) }
         ensures entry { EndsAfter (entry_to_ask self.old pass.old) result }
-        ensures listed { IfErr result (IsListed D.may_refuse (Stale (seen_by pass.old) ∷ listed_for query)) }
+        ensures listed { IfErr result (MayRefuseQuery D.may_refuse (seen_by pass.old) query) }
         ensures book { IsSame self.old self.new }
         ensures share { taken_by pass.new ≡ taken_by pass.old }
         ensures unchanged { OnErr result (pass.new ≡ pass.old) }

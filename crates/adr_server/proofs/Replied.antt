@@ -9,23 +9,29 @@ use Rattle.adr_request.specs.declared.request.HttpRequest.{HttpRequest}
 use Rattle.adr_reply.specs.Problems.{FailsBy, Tells}
 use Rattle.adr_reply.specs.declared.problem.Problem.{Problem}
 use Rattle.adr_reply.specs.declared.problem.Problem.TheVariants.{Refused}
+use Rattle.adr_machine.specs.declared.desk.Desk.{Ghosts}
+use Rattle.adr_book.specs.declared.kept.Pass.{Pass}
+use Rattle.adr_book.specs.declared.office.Office.{Office}
 use Rattle.adr_script.specs.declared.asked.Asked.{Asked}
 use Rattle.adr_http.specs.Plans.{plan_of}
 use Rattle.adr_http.specs.Serving.{outcome_bytes, problem_bytes}
+use Rattle.adr_server.specs.Outcomes.{IsOutcome}
 use Rattle.adr_server.specs.Replies.{Answers, RepliesTo}
 
--- for the outcome that there was
-pub by_outcome : (client : List ℕ) (a : Asked) (outcome : Result Answer Refusal) (out : List ℕ) → out ≡ outcome_bytes client a outcome → Answers client (Ok a) out
-by_outcome client a outcome out is = (outcome, is)
+module _ {D L : Type 0} {g : Ghosts D} (office : Office D L g) (client : List ℕ) (before after : Pass L) where
+  -- for the outcome that there was
+  pub by_outcome : (a : Asked) (outcome : Result Answer Refusal) (out : List ℕ)
+      → IsOutcome office a before after outcome → out ≡ outcome_bytes client a outcome → Answers office client (Ok a) before after out
+  by_outcome a outcome out of is = (outcome, of, is)
 
-module _ (client : List ℕ) (roles : List (List ℕ × Role)) (request : HttpRequest) (out : List ℕ) where
-  abbrev Replied : Type 0
-  Replied = RepliesTo client roles (Ok request) out
+  module _ (roles : List (List ℕ × Role)) (request : HttpRequest) (out : List ℕ) where
+    abbrev Replied : Type 0
+    Replied = RepliesTo office client roles (Ok request) before after out
 
-  by_problem : (problem : Problem) → FailsBy problem (plan_of roles (request_parts request)) → out ≡ problem_bytes problem → Replied
-  by_problem (Refused OutOfMemory) fails is = inr is
-  by_problem problem fails is = inl (subst (λ (plan : Result Asked Problem). Answers client plan out) (sym fails) is)
+    by_problem : (problem : Problem) → FailsBy problem (plan_of roles (request_parts request)) → after ≡ before → out ≡ problem_bytes problem → Replied
+    by_problem (Refused OutOfMemory) fails unchanged is = inr is
+    by_problem problem fails unchanged is = inl (subst (λ (plan : Result Asked Problem). Answers office client plan before after out) (sym fails) (unchanged, is))
 
-  pub by_plan : (plan : Result Asked Problem) → Tells (λ a. a) plan (plan_of roles (request_parts request)) → Answers client plan out → Replied
-  by_plan (Ok a) told is = inl (subst (λ (plan : Result Asked Problem). Answers client plan out) (sym told) is)
-  by_plan (Err problem) told is = by_problem problem told is
+    pub by_plan : (plan : Result Asked Problem) → Tells (λ a. a) plan (plan_of roles (request_parts request)) → Answers office client plan before after out → Replied
+    by_plan (Ok a) told is = inl (subst (λ (plan : Result Asked Problem). Answers office client plan before after out) (sym told) is)
+    by_plan (Err problem) told is = by_problem problem told is.0 is.1

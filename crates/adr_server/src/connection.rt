@@ -1,11 +1,13 @@
 //! One connection: a request is read, its step is taken under the lock, and the reply is written.
-ghost use Rattle.std.specs.Prelude.{◌≡◌, ◌<◌, Ok, IfOk};
+ghost use Rattle.std.specs.Prelude.{◌≡◌, ◌<◌, Ok, IfOk, OnErr};
 ghost use Rattle.adr_reply.specs.Problems.{Tells};
 ghost use Rattle.adr_request.specs.Requests.{request_parts};
 ghost use Rattle.adr_http.specs.Plans.{plan_of};
 ghost use Rattle.adr_http.specs.Serving.{outgoing_bytes};
+ghost use Rattle.adr_server.specs.Outcomes.{IsStep, IsLook, IsOutcome, TakesOneAtMost};
 ghost use Rattle.adr_server.specs.Replies.{Answers, RepliesTo};
 
+use crate::again::copied;
 use crate::paced::{Pace, Paced, Term};
 use crate::shared::Shared;
 use adr_book::{Office, Pass};
@@ -13,7 +15,7 @@ use adr_http::{
     Asked, HttpRequest, Outgoing, Problem, Routes, ServeFault, plan, problem_bytes, read_request,
     render, reply_to_end,
 };
-use adr_machine::{Answer, Desk};
+use adr_machine::{Answer, Command, Desk, Query};
 use adr_script::reply_to;
 use adr_text::{Moment, Reader, Refusal, Writer};
 use adr_wire::{ReadEnd, write_all};
@@ -50,22 +52,51 @@ const MOST_RESTS: u32 = 512;
 /// How many bytes each of them takes at most.
 const REST_BYTES: usize = 16_384;
 
-// Takes the step of what was asked under the lock, or looks.
+// Takes a step under the lock.
+fn take_step<D: Desk + Drop, L: Ledger, R: Wait>(
+    rt: &R,
+    office: &Office<D, L>,
+    pass: &mut Pass<L>,
+    now: Moment,
+    command: &Command,
+) -> Result<Answer, Refusal>
+    ensures outcome { IsStep office.now command.now pass.old pass.new result }
+    ensures one { TakesOneAtMost pass.old pass.new }
+{
+    Ok(office.book.lock(rt).step(pass, now, command)?.answer)
+}
+
+// Looks under the lock.
+#[tactic(auto, using(crate::proofs::Outcomes::by_memory))]
+fn look<D: Desk + Drop, L: Ledger, R: Wait>(
+    rt: &R,
+    office: &Office<D, L>,
+    pass: &mut Pass<L>,
+    query: &Query,
+) -> Result<Answer, Refusal>
+    ensures outcome { IsLook office.now query.now pass.old pass.new result }
+    ensures one { TakesOneAtMost pass.old pass.new }
+{
+    let query = copied(query)?;
+    Ok(office.book.lock(rt).look(pass, query)?.1)
+}
+
+// Takes the step of what was asked, or looks.
 fn take<D: Desk + Drop, L: Ledger, R: Wait>(
     rt: &R,
     office: &Office<D, L>,
     pass: &mut Pass<L>,
     now: Moment,
     asked: &Asked,
-) -> Result<Answer, Refusal> {
+) -> Result<Answer, Refusal>
+    ensures outcome { IsOutcome office.now asked.now pass.old pass.new result }
+    ensures one { TakesOneAtMost pass.old pass.new }
+{
     match asked {
         Asked::Command(command) | Asked::Page(command, _) => {
-            Ok(office.book.lock(rt).step(pass, now, command)?.answer)
+            take_step(rt, office, pass, now, command)
         }
-        Asked::Query(query) => {
-            let query = query.clone()?;
-            Ok(office.book.lock(rt).look(pass, query)?.1)
-        }
+        Asked::Query(query) => look(rt, office, pass, query),
         Asked::Nothing => Ok(Answer::Done),
     }
 }
@@ -80,7 +111,8 @@ fn answer_asked<D: Desk + Drop, L: Ledger, C: Clock, R: Wait>(
     pass: &mut Pass<L>,
     asked: &Asked,
 ) -> Result<Vec<u8>, AllocError>
-    ensures { IfOk result (λ out. Answers shared.now.client (Ok asked.now) out.items) }
+    ensures answers { IfOk result (λ out. Answers office.now shared.now.client (Ok asked.now) pass.old pass.new out.items) }
+    ensures one { TakesOneAtMost pass.old pass.new }
 {
     let outcome = take(rt, office, pass, clock.now(rt), asked);
     let reply = reply_to(shared.alloc, &shared.client, asked, &outcome)?;
@@ -96,7 +128,8 @@ fn answer<D: Desk + Drop, L: Ledger, C: Clock, R: Wait>(
     pass: &mut Pass<L>,
     plan: &Result<Asked, Problem>,
 ) -> Result<Vec<u8>, AllocError>
-    ensures { IfOk result (λ out. Answers shared.now.client plan.now out.items) }
+    ensures answers { IfOk result (λ out. Answers office.now shared.now.client plan.now pass.old pass.new out.items) }
+    ensures one { TakesOneAtMost pass.old pass.new }
 {
     match plan {
         Ok(asked) => answer_asked(rt, office, shared, clock, pass, asked),
@@ -122,7 +155,8 @@ fn reply_to_request<D: Desk + Drop, L: Ledger, C: Clock, R: Wait>(
     pass: &mut Pass<L>,
     request: &HttpRequest,
 ) -> Outgoing
-    ensures { RepliesTo shared.now.client shared.now.roles (Ok request.now) (outgoing_bytes result) }
+    ensures replies { RepliesTo office.now shared.now.client shared.now.roles (Ok request.now) pass.old pass.new (outgoing_bytes result) }
+    ensures one { TakesOneAtMost pass.old pass.new }
 {
     let plan = planned(shared, request);
     match answer(rt, office, shared, clock, pass, &plan) {
@@ -140,7 +174,9 @@ fn reply<D: Desk + Drop, L: Ledger, C: Clock, R: Wait>(
     pass: &mut Pass<L>,
     reading: &Result<HttpRequest, ReadEnd>,
 ) -> Result<Outgoing, ServeFault>
-    ensures { IfOk result (λ out. RepliesTo shared.now.client shared.now.roles reading.now (outgoing_bytes out)) }
+    ensures replies { IfOk result (λ out. RepliesTo office.now shared.now.client shared.now.roles reading.now pass.old pass.new (outgoing_bytes out)) }
+    ensures none { OnErr reading.now (pass.new ≡ pass.old) }
+    ensures one { TakesOneAtMost pass.old pass.new }
 {
     match reading {
         Ok(request) => Ok(reply_to_request(rt, office, shared, clock, pass, request)),
@@ -210,7 +246,8 @@ where
     }
 }
 
-/// Serves a connection: one request, one reply. Reading and writing are outside the lock.
+/// Serves a connection: one request, for which one step is taken at most, and one reply. Reading and writing are outside the
+/// lock.
 pub fn serve<D: Desk + Drop, L: Ledger, C: Clock, R: Wait + time::Clock>(
     rt: &R,
     office: &Office<D, L>,
@@ -218,7 +255,9 @@ pub fn serve<D: Desk + Drop, L: Ledger, C: Clock, R: Wait + time::Clock>(
     clock: &C,
     pass: &mut Pass<L>,
     stream: &TcpStream,
-) {
+)
+    ensures one { TakesOneAtMost pass.old pass.new }
+{
     let reading = read_over::<R, Brand>(shared.alloc, rt, stream, Blank::new(2));
     if let Ok(out) = reply(rt, office, shared, clock, pass, &reading) {
         write_over::<R, Brand>(rt, stream, out.bytes(), Blank::new(2));

@@ -5,12 +5,14 @@ ghost use Rattle.adr_link.specs.declared.reply.LinkFault.{LinkFault};
 ghost use Rattle.adr_link.specs.Outcomes.{outcome_of};
 ghost use Rattle.adr_server.specs.Addresses.{IsAddressOf};
 
+use crate::delivery::deliver;
 use crate::paced::{Pace, Paced, Term};
 use adr_delivery::Job;
-use adr_link::{HttpReply, LinkFault, Outcome, Upstream, outcome_of, read_reply};
-use adr_text::{Reader, Refusal, Writer};
+use adr_link::{HttpReply, LinkFault, Outcome, Upstream, read_reply};
+use adr_text::{Reader, Refusal, Rows, Writer};
 use adr_wire::write_all;
-use adr_work::Gate;
+use adr_work::{Asker, Gate};
+use http_server::Log;
 use std::alloc::Global;
 use std::io;
 use std::marker::Brand;
@@ -117,19 +119,40 @@ impl<N: Net<Stream = TcpStream> + Clock + Drop> SocketGate<N> {
     }
 
     // Sends a job, and tells what came of it.
-    fn deliver(&self, job: &Job) -> Result<Outcome, Refusal>
+    fn tell(&self, job: &Job) -> Result<Outcome, Refusal>
         ensures { IfOk result (λ outcome. (came : Result HttpReply LinkFault) × (outcome ≡ outcome_of job.now came)) }
     {
         let endpoint = self.upstream.job_endpoint(self.alloc, job)?;
-        let request = self.upstream.job_request(self.alloc, job)?;
-        let came = self.ask(endpoint.as_str(), &request);
-        Ok(outcome_of(self.alloc, job, &came)?)
+        let mut asker = EndpointAsker {
+            gate: self,
+            endpoint: endpoint.as_str(),
+            log: Log::new(),
+        };
+        deliver(self.alloc, &mut asker, &self.upstream, job)
+    }
+}
+
+/// Asks who listens at an endpoint.
+#[derive(Drop)]
+struct EndpointAsker<'a, N: Net<Stream = TcpStream> + Clock + Drop> {
+    gate: &'a SocketGate<N>,
+    endpoint: &'a str,
+    log: Log<Rows<u8>, Result<HttpReply, LinkFault>>,
+}
+
+impl<N: Net<Stream = TcpStream> + Clock + Drop> Asker for EndpointAsker<'_, N> {
+    ghost exchanges = { λ a. a.log.items };
+
+    fn ask(&mut self, request: &Rows<u8>) -> Result<HttpReply, LinkFault> {
+        let came = self.gate.ask(self.endpoint, request.as_slice());
+        self.log = self.log.and(request, &came);
+        came
     }
 }
 
 impl<N: Net<Stream = TcpStream> + Clock + Drop> Gate for SocketGate<N> {
     fn send<R: Wait>(&self, _rt: &R, job: &Job) -> Outcome {
-        match self.deliver(job) {
+        match self.tell(job) {
             Ok(outcome) => outcome,
             Err(_) => Outcome::Failed { forget: false },
         }

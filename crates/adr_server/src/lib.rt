@@ -2,9 +2,11 @@
 //! its outbox.
 #![tactic(auto)]
 
+mod again;
 mod bell;
 mod clock;
 mod connection;
+mod delivery;
 mod front;
 mod gate;
 mod paced;

@@ -12,9 +12,10 @@ use Rattle.adr_machine.specs.Steps.{step}
 use Rattle.adr_book.specs.declared.kept.Book.{Book}
 use Rattle.adr_book.specs.declared.kept.Pass.{Pass}
 use Rattle.adr_book.specs.Entry.{not_ahead, with_room, step_in}
+use Rattle.adr_book.specs.Refused.{MayRefuse}
 use Rattle.adr_book.specs.Same.{IsSame}
 use Rattle.adr_book.specs.Words.{IsSound, seen_by, settings_of, state_of, trail_of, turn_of}
-use Rattle.adr_work.specs.Refused.{MayRefuse, Refuses, EndsBy}
+use Rattle.adr_work.specs.Refused.{Refuses, EndsBy}
 
 -- memory ran out
 pub ends_memory : (refuses : Command → Refusal → Type 0) (refusal : Refusal) → refusal ≡ OutOfMemory → EndsBy refuses refusal

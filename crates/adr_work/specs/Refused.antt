@@ -1,22 +1,17 @@
 -- Which refusals end a round.
-use Rattle.std.specs.Prelude.{◌≡◌, ℕ, ◌⊎◌, ◌∷◌}
+use Rattle.std.specs.Prelude.{◌≡◌, ℕ, ◌⊎◌}
 use Rattle.adr_text.specs.Refusals.{IsRefusalOf}
 use Rattle.adr_text.specs.declared.refusal.Refusal.{Refusal}
-use Rattle.adr_text.specs.declared.refusal.Refusal.TheVariants.{OutOfMemory, TrailFull, Stale}
-use Rattle.adr_queries.specs.Listed.{IsListed}
+use Rattle.adr_text.specs.declared.refusal.Refusal.TheVariants.{OutOfMemory}
 use Rattle.adr_machine.specs.declared.command.Command.{Command}
 use Rattle.adr_machine.specs.declared.desk.Desk.{Ghosts}
-use Rattle.adr_machine.specs.Listed.{listed}
 use Rattle.adr_book.specs.declared.kept.Book.{Book}
 use Rattle.adr_book.specs.declared.kept.Pass.{Pass}
 use Rattle.adr_book.specs.Entry.{step_in}
+use Rattle.adr_book.specs.Refused.{MayRefuse}
 use Rattle.adr_book.specs.Words.{IsSound, seen_by}
 
--- a step may be refused so, with a pass that was told of this turn: for the pass, for the trail, or as is listed for the command
-abbrev pub MayRefuse : Type 0 → ℕ → Command → Refusal → Type 0
-MayRefuse may_refuse seen command refusal = IsListed may_refuse (Stale seen ∷ TrailFull ∷ listed command) refusal
-
--- the same with some pass
+-- a step may be refused so, with some pass
 abbrev pub MayRefuseSome : Type 0 → Command → Refusal → Type 0
 MayRefuseSome may_refuse command refusal = (seen : ℕ) × MayRefuse may_refuse seen command refusal
 

@@ -2,8 +2,8 @@
 ghost use Rattle.std.specs.Prelude.{◌<◌, IfErr};
 ghost use Rattle.crossbeam_queue.specs.Passes.{view};
 ghost use Rattle.adr_machine.specs.declared.command.Command.TheVariants.{Lease};
+ghost use Rattle.adr_book.specs.Refused.{MayRefuse};
 ghost use Rattle.adr_book.specs.Words.{seen_by};
-ghost use Rattle.adr_work.specs.Refused.{MayRefuse};
 ghost use Rattle.adr_work.specs.Seats.{IsSeatOf, OnlyPuts};
 
 use crate::crew::Ended;
