@@ -1,6 +1,6 @@
 //! A job of the outbox, sent by whoever asks.
 ghost use Rattle.std.specs.Prelude.{IfOk, IfErr};
-ghost use Rattle.adr_text.specs.Refusals.{IsRefusalOf};
+ghost use Rattle.adr_text.specs.Refusals.{Fails};
 ghost use Rattle.adr_link.specs.Targets.{job_bytes};
 ghost use Rattle.adr_server.specs.Deliveries.{IsDelivered};
 
@@ -19,7 +19,7 @@ pub fn deliver<A: Asker>(
     job: &Job,
 ) -> Result<Outcome, Refusal>
     ensures delivered { IfOk result (IsDelivered upstream.now job.now (A.exchanges asker.old) (A.exchanges asker.new)) }
-    ensures refused { IfErr result (λ refusal. IsRefusalOf refusal (job_bytes upstream.now job.now)) }
+    ensures refused { IfErr result (λ refusal. Fails refusal (job_bytes upstream.now job.now)) }
 {
     let request = Rows::from_vec(upstream.job_request(alloc, job)?);
     let came = asker.ask(&request);
