@@ -33,13 +33,13 @@ module _ {D L : Type 0} {g : Ghosts D} where
     pub turn : taken_by after ≡ taken_by before
     pub answers : IsSound new → reply_in old before query ≡ Ok answer
 
-  -- a book refused the query so, as is listed for it, and as the machine does, where the desk is sound
+  -- a book refused the query so: for want of memory, by its store, or as is listed and, where the desk is sound, as the machine does
   pub record RefusesQuery (before : Pass L) (query : Query) (refusal : Refusal) (old new : Book D L g) : Type 0 where
     pub same : IsSame old new
     pub listed : MayRefuseQuery g.may_refuse (seen_by before) query refusal
     pub refuses : IsSound new → IsRefusalOf refusal (reply_in old before query)
 
-  -- what came of a command, by some book of the office
+  -- what came of a command, by some book over a desk like the office's
   abbrev pub IsStep : Office D L g → Command → Pass L → Pass L → Result Answer Refusal → Type 0
   IsStep office command before after (Ok answer) = (old : Book D L g) × (new : Book D L g) × IsTaken before after command answer old new
   IsStep office command before after (Err refusal) = (after ≡ before) × ((book : Book D L g) × Refuses book before command refusal)
