@@ -1,5 +1,5 @@
 -- What came of a call of the book is what may come of what was asked.
-use Rattle.std.proofs.Common.{◌≡◌, refl, inl, inr, ℕ, ◌+◌, [], ◌∷◌, ◌++◌, Result, Ok, Err, sym, subst}
+use Rattle.std.proofs.Common.{◌≡◌, inl, inr, ℕ, ◌+◌, [], ◌∷◌, ◌++◌, Result, Ok, Err, sym, subst}
 use Rattle.std.specs.Result.{IsErrAnd}
 use Rattle.adr_text.specs.Refusals.{IsRefusalOf}
 use Rattle.adr_text.specs.declared.refusal.Refusal.{Refusal}
@@ -14,8 +14,7 @@ use Rattle.adr_book.specs.declared.office.Office.{Office}
 use Rattle.adr_book.specs.Entry.{step_in, reply_in}
 use Rattle.adr_book.specs.Refused.{MayRefuse, MayRefuseQuery}
 use Rattle.adr_book.specs.Same.{IsSame}
-use Rattle.adr_book.specs.Words.{IsSound, settings_of, state_of, trail_of, seen_by, taken_by}
-use Rattle.adr_work.proofs.Refusing.{refuses_same}
+use Rattle.adr_book.specs.Words.{IsSound, state_of, trail_of, seen_by, taken_by}
 use Rattle.adr_server.specs.Outcomes.{IsStep, IsLook}
 
 module _ {D L : Type 0} {g : Ghosts D} (office : Office D L g) (before after : Pass L) (old new : Book D L g) where
@@ -23,18 +22,18 @@ module _ {D L : Type 0} {g : Ghosts D} (office : Office D L g) (before after : P
   pub by_taken : (now : ℕ) (command : Command) (answer : Answer)
       → trail_of new ≡ trail_of old ++ (now, command) ∷ [] → taken_by after ≡ taken_by before + 1
       → (IsSound new → step_in old before now command ≡ Ok (answer, state_of new))
-      → IsStep office command before after (Ok answer)
-  by_taken now command answer trail turn answers = (old, new, record { now = now; trail = trail; turn = turn; answers = answers })
+      → IsStep office now command before after (Ok answer)
+  by_taken now command answer trail turn answers = (old, new, record { trail = trail; turn = turn; answers = answers })
 
   -- the step was refused, and this was handed on
   pub by_refused : (now : ℕ) (command : Command) (r : Result Answer Refusal) (refusal : Refusal) → IsErrAnd r (λ x. x ≡ refusal)
-      → IsSame old new → after ≡ before → settings_of new ≡ settings_of old
+      → IsSame old new → after ≡ before
       → MayRefuse g.may_refuse (seen_by before) command refusal → (IsSound new → IsRefusalOf refusal (step_in old before now command))
-      → IsStep office command before after r
-  by_refused now command (Ok answer) refusal is same unchanged settings may of = absurd is
-  by_refused now command (Err x) refusal is same unchanged settings may of =
-      subst (λ e. IsStep office command before after (Err e)) (sym is)
-      (unchanged, (new, refuses_same old new before before now command refusal same refl settings may of))
+      → IsStep office now command before after r
+  by_refused now command (Ok answer) refusal is same unchanged listed refuses = absurd is
+  by_refused now command (Err x) refusal is same unchanged listed refuses =
+      subst (λ e. IsStep office now command before after (Err e)) (sym is)
+      (unchanged, (old, new, record { same = same; listed = listed; refuses = refuses }))
 
   -- the query was answered
   pub by_answered : (query : Query) (answer : Answer)

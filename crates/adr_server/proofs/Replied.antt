@@ -20,9 +20,9 @@ use Rattle.adr_server.specs.Replies.{Answers, RepliesTo}
 
 module _ {D L : Type 0} {g : Ghosts D} (office : Office D L g) (client : List ℕ) (before after : Pass L) where
   -- for the outcome that there was
-  pub by_outcome : (a : Asked) (outcome : Result Answer Refusal) (out : List ℕ)
-      → IsOutcome office a before after outcome → out ≡ outcome_bytes client a outcome → Answers office client (Ok a) before after out
-  by_outcome a outcome out of is = (outcome, of, is)
+  pub by_outcome : (now : ℕ) (a : Asked) (outcome : Result Answer Refusal) (out : List ℕ)
+      → IsOutcome office now a before after outcome → out ≡ outcome_bytes client a outcome → Answers office client (Ok a) before after out
+  by_outcome now a outcome out of is = (now, outcome, of, is)
 
   module _ (roles : List (List ℕ × Role)) (request : HttpRequest) (out : List ℕ) where
     abbrev Replied : Type 0

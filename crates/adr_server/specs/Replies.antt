@@ -17,10 +17,10 @@ use Rattle.adr_http.specs.Serving.{outcome_bytes, problem_bytes, want_bytes, IsT
 use Rattle.adr_server.specs.Outcomes.{IsOutcome}
 
 module _ {D L : Type 0} {g : Ghosts D} where
-  -- the bytes are the reply of a node of that name to what was planned: to what came of what was asked, or the problem, for which no step is taken
+  -- the bytes are the reply of a node of that name to what was planned: to what came at some moment of what was asked, or the problem, for which no step is taken
   abbrev pub Answers : Office D L g → List ℕ → Result Asked Problem → Pass L → Pass L → List ℕ → Type 0
   Answers office client (Ok a) before after out =
-      (outcome : Result Answer Refusal) × IsOutcome office a before after outcome × (out ≡ outcome_bytes client a outcome)
+      (now : ℕ) × (outcome : Result Answer Refusal) × IsOutcome office now a before after outcome × (out ≡ outcome_bytes client a outcome)
   Answers office client (Err problem) before after out = (after ≡ before) × (out ≡ problem_bytes problem)
 
   -- they are the reply to what was read, for whose fault no step is taken: want of memory may stand in the place of an answer

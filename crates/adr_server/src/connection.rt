@@ -60,7 +60,7 @@ fn take_step<D: Desk + Drop, L: Ledger, R: Wait>(
     now: Moment,
     command: &Command,
 ) -> Result<Answer, Refusal>
-    ensures outcome { IsStep office.now command.now pass.old pass.new result }
+    ensures outcome { IsStep office.now now command.now pass.old pass.new result }
     ensures one { TakesOneAtMost pass.old pass.new }
 {
     Ok(office.book.lock(rt).step(pass, now, command)?.answer)
@@ -89,7 +89,7 @@ fn take<D: Desk + Drop, L: Ledger, R: Wait>(
     now: Moment,
     asked: &Asked,
 ) -> Result<Answer, Refusal>
-    ensures outcome { IsOutcome office.now asked.now pass.old pass.new result }
+    ensures outcome { IsOutcome office.now now asked.now pass.old pass.new result }
     ensures one { TakesOneAtMost pass.old pass.new }
 {
     match asked {

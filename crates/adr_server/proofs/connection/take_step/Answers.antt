@@ -6,7 +6,7 @@ returns-in_err-step-clause-outcome g c =
     let of = c.in_err-step.ensures in
     by_refused c.args.office.now c.args.pass.now c.step.new.pass c.deref_mut.result.now c.step.new.self
     c.args.now c.args.command.now c.from_residual.result c.in_err-step.field-0.0 c.from_residual.ensures.1
-    of.unchanged.0 of.unchanged.1 of.same_settings of.listed of.refused
+    of.unchanged.0 of.unchanged.1 of.listed of.refused
 
 pub returns-clause-outcome : goal.returns-clause-outcome
 returns-clause-outcome g c =
