@@ -32,7 +32,6 @@ mod row;
 mod same;
 mod same_outbox;
 mod site_reports;
-mod subs;
 mod texts;
 mod twin;
 mod whole_run;

@@ -1,6 +1,6 @@
 //! Whether two bases hold the same vens, resources, shares, reports and subscriptions.
-use crate::subs::is_same_sub;
-use adr_objects::{Number, ReportBody, ReportHead};
+use adr_objects::Number;
+use adr_same::Same;
 use adr_state::{Base, Report, Resource, Resources, ShareKey, Ven, Weight};
 use adr_subscription::Sub;
 use adr_text::Table;
@@ -42,26 +42,9 @@ fn are_same_shares(shares: &Table<ShareKey, Weight>, others: &Table<ShareKey, We
             .all(|(key, weight)| others.get(key) == Some(weight))
 }
 
-fn is_same_head(head: &ReportHead, other: &ReportHead) -> bool {
-    head.program == other.program
-        && head.event == other.event
-        && head.resource == other.resource
-        && head.client == other.client
-        && head.name == other.name
-        && head.resource_name == other.resource_name
-}
-
-/// Whether two reports say the same.
-pub fn is_same_report(report: &ReportBody, other: &ReportBody) -> bool {
-    is_same_head(&report.head, &other.head)
-        && report.intervals.as_slice() == other.intervals.as_slice()
-}
-
 fn has_report(reports: &Table<Number, Report>, number: &Number, report: &Report) -> bool {
     match reports.get(number) {
-        Some(other) => {
-            report.revision == other.revision && is_same_report(&report.body, &other.body)
-        }
+        Some(other) => { report.revision == other.revision && report.body.is_same(&other.body) }
         None => false,
     }
 }
@@ -76,9 +59,7 @@ fn are_same_reports(reports: &Table<Number, Report>, others: &Table<Number, Repo
 fn has_sub(subs: &Table<Number, Sub>, number: &Number, sub: &Sub) -> bool {
     match subs.get(number) {
         Some(other) => {
-            sub.owner == other.owner
-                && sub.stamps == other.stamps
-                && is_same_sub(&sub.body, &other.body)
+            sub.owner == other.owner && sub.stamps == other.stamps && sub.body.is_same(&other.body)
         }
         None => false,
     }

@@ -1,5 +1,5 @@
-//! Whether two outboxes hold the same, and whether the same is to be sent.
-use adr_delivery::{Addressee, Entry, Job, Outbox};
+//! Whether two outboxes hold the same.
+use adr_delivery::{Addressee, Entry, Outbox};
 use adr_objects::Number;
 use adr_text::{ObjectId, Table};
 
@@ -58,24 +58,4 @@ pub fn is_same_outbox(outbox: &Outbox, other: &Outbox) -> bool {
     are_same_entries(&outbox.entries, &other.entries)
         && are_same_remotes(&outbox.remotes, &other.remotes)
         && outbox.counts == other.counts
-}
-
-/// Whether both send the same, with the same token, to the same place, under the same lease.
-pub fn is_same_job(job: &Job, other: &Job) -> bool {
-    job.entry == other.entry
-        && job.lease == other.lease
-        && job.destination == other.destination
-        && job.method == other.method
-        && job.target == other.target
-        && job.token == other.token
-        && job.body == other.body
-}
-
-/// Whether both have a job, the same, or none.
-pub fn are_same_jobs(job: &Option<Job>, other: &Option<Job>) -> bool {
-    match (job, other) {
-        (Some(job), Some(other)) => is_same_job(job, other),
-        (None, None) => true,
-        _ => false,
-    }
 }
