@@ -12,7 +12,7 @@ use Rattle.adr_wire.specs.declared.end.MessageFault.{MessageFault}
 use Rattle.adr_wire.specs.Pieces.{OnFault, IsReading}
 use Rattle.adr_request.specs.declared.request.HttpRequest.{HttpRequest}
 use Rattle.adr_request.specs.Requests.{RequestParts, request_parts, IsRequest}
-use Rattle.adr_script.specs.Turns.{Turn, Takes, as_defined, without_memory, refused_by_store, without_text, MayLeave, no_step, step_taken}
+use Rattle.adr_asked.specs.Turns.{Turn, Takes, as_defined, without_memory, refused_by_store, without_text, MayLeave, no_step, step_taken}
 use Rattle.adr_http.specs.Serving.{want_bytes, IsBuilt, of_turn, of_memory, of_store, IsTold, IsToldAtEnd, IsServed, as_read, not_read}
 
 -- a turn whose text could not be built is told by want of memory

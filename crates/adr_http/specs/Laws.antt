@@ -5,7 +5,7 @@ use Rattle.adr_routes.specs.declared.path.Path.{Path}
 use Rattle.adr_routes.specs.Methods.{has}
 use Rattle.adr_routes.specs.Places.{methods_of}
 use Rattle.adr_routes.specs.Paths.{place_of}
-use Rattle.adr_script.specs.Requests.{asked_by}
+use Rattle.adr_asked.specs.Requests.{asked_by}
 
 -- by a method that the path has something is asked or refused, whoever asks; by any other nothing is
 abbrev pub MethodsAreServed : Type 0

@@ -4,8 +4,8 @@ use Rattle.adr_queries.specs.declared.role.Role.{Role}
 use Rattle.adr_request.specs.Requests.{RequestParts}
 use Rattle.adr_reply.specs.declared.problem.Problem.{Problem}
 use Rattle.adr_reply.specs.declared.problem.Problem.TheVariants.{Unauthorized}
-use Rattle.adr_script.specs.declared.asked.Asked.{Asked}
-use Rattle.adr_script.specs.Requests.{asked_of}
+use Rattle.adr_asked.specs.declared.asked.Asked.{Asked}
+use Rattle.adr_asked.specs.Requests.{asked_of}
 use Rattle.adr_http.specs.Roles.{role_of}
 
 -- the role of the token that is shown, where one is and is known

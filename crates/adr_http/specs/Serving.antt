@@ -17,9 +17,9 @@ use Rattle.adr_reply.specs.Replies.{reply_bytes}
 use Rattle.adr_reply.specs.Problems.{problem_reply}
 use Rattle.adr_reply.specs.declared.problem.Problem.{Problem}
 use Rattle.adr_reply.specs.declared.problem.Problem.TheVariants as problem
-use Rattle.adr_script.specs.declared.asked.Asked.{Asked}
-use Rattle.adr_script.specs.Bodies.{reply_of}
-use Rattle.adr_script.specs.Turns.{asked_step, asks_desk, Turn, at_once, turn_by, Takes}
+use Rattle.adr_asked.specs.declared.asked.Asked.{Asked}
+use Rattle.adr_asked.specs.Replies.{reply_of}
+use Rattle.adr_asked.specs.Turns.{asked_step, asks_desk, Turn, at_once, turn_by, Takes}
 use Rattle.adr_http.specs.Plans.{plan_of}
 use Rattle.adr_http.specs.declared.outgoing.Outgoing.{Outgoing}
 use Rattle.adr_http.specs.declared.outgoing.Outgoing.TheVariants.{Bytes, Memory}

@@ -1,16 +1,16 @@
 //! The reply to a request.
 ghost use Rattle.std.specs.Prelude.{◌≡◌, Ok, IfOk, OnErr};
 ghost use Rattle.adr_request.specs.Requests.{request_parts};
-ghost use Rattle.adr_script.specs.Turns.{MayLeave};
+ghost use Rattle.adr_asked.specs.Turns.{MayLeave};
 ghost use Rattle.adr_http.specs.Serving.{problem_bytes, plan_turn, request_turn, IsBuilt};
 
 use crate::planning::plan;
 use crate::roles::Roles;
+use adr_asked::{Asked, reply_to, take_asked, without};
 use adr_machine::Desk;
 use adr_reply::{Problem, render};
 use adr_request::HttpRequest;
 use adr_routes::Routes;
-use adr_script::{Asked, reply_to, take_asked, without};
 use adr_text::Moment;
 use std::alloc::{AllocError, Global};
 

@@ -9,10 +9,11 @@ mod planning;
 mod roles;
 mod serve;
 
+pub use adr_asked::Asked;
 pub use adr_reply::{MEMORY_REPLY, Problem, Reply, render};
 pub use adr_request::{HttpRequest, read_request};
 pub use adr_routes::Routes;
-pub use adr_script::{Asked, ScriptFault, run_script};
+pub use adr_script::{ScriptFault, run_script};
 pub use answering::{answer, problem_bytes};
 pub use fault::ServeFault;
 pub use outgoing::Outgoing;

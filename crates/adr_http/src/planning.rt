@@ -6,11 +6,11 @@ ghost use Rattle.adr_request.specs.Requests.{request_parts};
 ghost use Rattle.adr_http.specs.Plans.{role_shown, plan_of};
 
 use crate::roles::Roles;
+use adr_asked::{Asked, asked_of};
 use adr_machine::Role;
 use adr_reply::Problem;
 use adr_request::HttpRequest;
 use adr_routes::Routes;
-use adr_script::{Asked, asked_of};
 use std::alloc::Global;
 
 /// The role of the token that is shown, where one is and is known.

@@ -4,7 +4,7 @@ ghost use Rattle.adr_wire.specs.Calls.{NoneFails, LastFails, RunsOut};
 ghost use Rattle.adr_wire.specs.Pieces.{OfWhatCame, IsReading};
 ghost use Rattle.adr_wire.specs.declared.end.ReadEnd.TheVariants as read_end;
 ghost use Rattle.adr_request.specs.Requests.{RequestParts, request_parts, IsRequest};
-ghost use Rattle.adr_script.specs.Turns.{Takes};
+ghost use Rattle.adr_asked.specs.Turns.{Takes};
 ghost use Rattle.adr_http.specs.Serving.{problem_bytes, want_bytes, fault_problem, request_turn, outgoing_bytes, IsTold, IsToldAtEnd, IsServed, Serves, ServesPart};
 ghost use Rattle.adr_http.specs.declared.fault.ServeFault.TheVariants.{Read, Write};
 

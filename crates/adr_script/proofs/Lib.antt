@@ -1,4 +1,3 @@
-pub mod Asking
 pub mod Numbers
 pub mod Turns
 pub mod Lines

@@ -7,10 +7,11 @@ use Rattle.adr_text.specs.declared.refusal.Refusal.{Refusal}
 use Rattle.adr_text.specs.declared.refusal.Refusal.TheVariants.{OutOfMemory}
 use Rattle.adr_state.specs.declared.state.State.{State}
 use Rattle.adr_queries.specs.declared.answer.Answer.{Answer}
-use Rattle.adr_script.specs.declared.asked.Asked.{Asked}
+use Rattle.adr_asked.specs.declared.asked.Asked.{Asked}
 use Rattle.adr_state.specs.declared.limits.Settings.{Settings}
 use Rattle.adr_script.specs.Bodies.{told_by, want_by, outcome_text}
-use Rattle.adr_script.specs.Turns.{Turn, at_once, turn_by, turn_of, Outcome, as_machine, no_memory, store_refused, Takes, as_defined, without_memory, refused_by_store, without_text, MayLeave, no_step, step_taken}
+use Rattle.adr_asked.specs.Turns.{Turn, at_once, turn_by, Outcome, as_machine, no_memory, store_refused, Takes, as_defined, without_memory, refused_by_store, without_text, MayLeave, no_step, step_taken}
+use Rattle.adr_script.specs.Turns.{turn_of}
 
 -- an answer to what is asked, printed under some name, is a turn
 module _ (client role : List ℕ) (a : Asked) {may_refuse : Type 0} {asks : Bool} {s t : State} {r : Result (Answer × State) Refusal} {answer : Result Answer Refusal} where

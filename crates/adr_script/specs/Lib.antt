@@ -1,6 +1,4 @@
 pub mod Words
-pub mod Queries
-pub mod Filters
 pub mod Requests
 pub mod Steps
 pub mod Bodies

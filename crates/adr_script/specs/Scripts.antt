@@ -1,11 +1,10 @@
 -- The run of a script: each line in its turn, and what is printed of them.
-use Rattle.std.specs.Prelude.{◌≡◌, ◌<◌, ◌+◌, ◌==◌, ℕ, true, not, List, [], ◌∷◌, ◌++◌, length, take, All, Option}
+use Rattle.std.specs.Prelude.{◌≡◌, ◌<◌, ◌+◌, ◌==◌, ℕ, not, List, [], ◌∷◌, ◌++◌, length, take, All, Option}
 use Rattle.std.specs.List.{count_by}
 use Rattle.std.specs.Io.KnownBytes.{Appends}
-use Rattle.adr_text.specs.Calls.{Calls}
 use Rattle.adr_state.specs.declared.state.State.{State}
 use Rattle.adr_state.specs.declared.limits.Settings.{Settings}
-use Rattle.adr_script.specs.Lines.{most_bytes, most_lines, most_reads, IsShort}
+use Rattle.adr_script.specs.Lines.{most_bytes, most_lines, IsShort}
 use Rattle.adr_script.specs.Turns.{IsTurn}
 
 -- from s, a line prints out and leaves t

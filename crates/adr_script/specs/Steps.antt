@@ -8,8 +8,8 @@ use Rattle.adr_schema.specs.Pages.{page_of}
 use Rattle.adr_machine.specs.declared.command.Command.TheVariants.{Evidence, Gone, ScanBegin, ScanEnd, Lease, Sent, Failed}
 use Rattle.adr_queries.specs.declared.query.Query.TheVariants.{Probes}
 use Rattle.adr_state.specs.Digits.{number_within}
-use Rattle.adr_script.specs.declared.asked.Asked.{Asked}
-use Rattle.adr_script.specs.declared.asked.Asked.TheVariants as asked
+use Rattle.adr_asked.specs.declared.asked.Asked.{Asked}
+use Rattle.adr_asked.specs.declared.asked.Asked.TheVariants as asked
 use Rattle.adr_wire.specs.Cuts.{cut}
 use Rattle.adr_routes.specs.Words.{id_from}
 use Rattle.adr_script.specs.Words.{number_from, if_there}

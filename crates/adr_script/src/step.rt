@@ -5,8 +5,8 @@ ghost use Rattle.adr_text.specs.Refusals.{Gives};
 ghost use Rattle.adr_wire.specs.Cuts.{cut};
 ghost use Rattle.adr_script.specs.Steps.{kind_from, page_step, gone_step, scan_step, probes_step, lease_named, sent_step, failed_step, word_step, step_of};
 
-use crate::asked::Asked;
 use crate::words::number_from;
+use adr_asked::Asked;
 use adr_machine::{Command, Query, number_within};
 use adr_objects::{Kind, Number};
 use adr_routes::id_from;

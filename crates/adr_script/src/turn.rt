@@ -3,32 +3,20 @@ ghost use Rattle.std.specs.Prelude.{◌≡◌, Ok, Some, ℕ, List, IfOk, OnErr,
 ghost use Rattle.adr_reply.specs.Problems.{Tells};
 ghost use Rattle.adr_text.specs.declared.refusal.Refusal.TheVariants.{OutOfMemory};
 ghost use Rattle.adr_script.specs.Bodies.{want_by};
-ghost use Rattle.adr_script.specs.Turns.{asked_step, asks_desk, words_asked, turn_of, line_turn, want_line, Outcome, Takes, MayLeave, IsTurn};
+ghost use Rattle.adr_asked.specs.Turns.{Takes, MayLeave};
+ghost use Rattle.adr_script.specs.Turns.{words_asked, turn_of, line_turn, want_line, IsTurn};
 
-use crate::asked::Asked;
 use crate::bodies::{bad_line, outcome_text, told_by};
 use crate::request::request_of;
 use crate::step::step_of;
 use crate::words::moment_from;
-use adr_machine::{Answer, Desk};
+use adr_asked::{Asked, take_asked, without};
+use adr_machine::Desk;
 use adr_reply::Problem;
 use adr_routes::Routes;
 use adr_text::{Moment, Refusal};
 use adr_wire::cut;
 use std::alloc::{AllocError, Global};
-
-/// Takes the step that is asked for.
-pub fn take_asked<D: Desk>(desk: &mut D, now: Moment, asked: &Asked) -> Result<Answer, Refusal>
-    ensures outcome { D.is_sound desk.new → Outcome D.may_refuse (asks_desk asked.now) (D.state desk.old) (asked_step (D.settings desk.old) (D.state desk.old) now asked.now) result (D.state desk.new) }
-    ensures was_sound { D.is_sound desk.new → D.is_sound desk.old }
-    ensures same_settings { D.settings desk.new ≡ D.settings desk.old }
-{
-    match asked {
-        Asked::Command(command) | Asked::Page(command, _) => desk.apply(now, command),
-        Asked::Query(query) => desk.ask(query),
-        Asked::Nothing => Ok(Answer::Done),
-    }
-}
 
 /// Takes the step of what was asked for, and prints it.
 fn answer_asked<D: Desk>(
@@ -82,14 +70,6 @@ fn answer_words<D: Desk>(
         Ok(None) => bad_line(alloc),
         Err(problem) => told_by(alloc, role, *problem),
     }
-}
-
-/// What is left when a value is done with. Over any type, since that is dropped here: where its type is known, each kind
-/// of what is asked would be a path of its own.
-pub fn without<T: Drop, U>(_done_with: T, left: U) -> U
-    ensures { result ≡ left }
-{
-    left
 }
 
 /// The turn of a role, or of the node itself.

@@ -12,7 +12,7 @@ use Rattle.adr_reply.specs.declared.problem.Problem.TheVariants.{Refused}
 use Rattle.adr_machine.specs.declared.desk.Desk.{Ghosts}
 use Rattle.adr_book.specs.declared.kept.Pass.{Pass}
 use Rattle.adr_book.specs.declared.office.Office.{Office}
-use Rattle.adr_script.specs.declared.asked.Asked.{Asked}
+use Rattle.adr_asked.specs.declared.asked.Asked.{Asked}
 use Rattle.adr_http.specs.Plans.{plan_of}
 use Rattle.adr_http.specs.Serving.{outcome_bytes, problem_bytes}
 use Rattle.adr_server.specs.Outcomes.{IsOutcome}

@@ -15,8 +15,8 @@ use Rattle.adr_book.specs.Entry.{step_in, reply_in}
 use Rattle.adr_book.specs.Refused.{MayRefuse, MayRefuseQuery}
 use Rattle.adr_book.specs.Same.{IsSame}
 use Rattle.adr_book.specs.Words.{IsSound, state_of, trail_of, seen_by, taken_by}
-use Rattle.adr_script.specs.declared.asked.Asked.{Asked}
-use Rattle.adr_script.specs.declared.asked.Asked.TheVariants as asked
+use Rattle.adr_asked.specs.declared.asked.Asked.{Asked}
+use Rattle.adr_asked.specs.declared.asked.Asked.TheVariants as asked
 
 module _ {D L : Type 0} {g : Ghosts D} where
   -- a book took the step at this moment: the command stands in its trail, it is one turn more of the pass, and the answer is the machine's, where the desk is sound

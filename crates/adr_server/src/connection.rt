@@ -10,13 +10,13 @@ ghost use Rattle.adr_server.specs.Replies.{Answers, RepliesTo};
 use crate::again::copied;
 use crate::paced::{Pace, Paced, Term};
 use crate::shared::Shared;
+use adr_asked::reply_to;
 use adr_book::{Office, Pass};
 use adr_http::{
     Asked, HttpRequest, Outgoing, Problem, Routes, ServeFault, plan, problem_bytes, read_request,
     render, reply_to_end,
 };
 use adr_machine::{Answer, Command, Desk, Query};
-use adr_script::reply_to;
 use adr_text::{Moment, Reader, Refusal, Writer};
 use adr_wire::{ReadEnd, write_all};
 use adr_work::Clock;

@@ -1,14 +1,13 @@
 -- What was asked, or why nothing is.
-use Rattle.std.proofs.Common.{◌≡◌, Option, Some, None, Result, Ok, Err, ap, sym, subst, ◌∙◌}
+use Rattle.std.proofs.Common.{◌≡◌, Option, Some, None, Result, Ok, Err, ap, sym, subst}
 use Rattle.adr_text.specs.Refusals.{Gives}
 use Rattle.adr_text.specs.declared.refusal.Refusal.{Refusal}
-use Rattle.adr_text.specs.declared.refusal.Refusal.TheVariants.{OutOfMemory, Store, OutboxFull, Exhausted, TrailFull, NotFound, Conflict, Forbidden, BadShare, LimitReached, ResourceNotOfEvent, NoScan, LeaseLost, BadShape, NotWhole, Stale}
+use Rattle.adr_text.specs.declared.refusal.Refusal.TheVariants.{OutOfMemory}
 use Rattle.adr_routes.specs.declared.methods.Methods.{Methods}
 use Rattle.adr_reply.specs.Problems.{Tells}
 use Rattle.adr_reply.specs.declared.problem.Problem.{Problem}
-use Rattle.adr_reply.specs.declared.problem.Problem.TheVariants.{Refused, NoMethod}
-use Rattle.adr_script.specs.declared.asked.Asked.{Asked}
-use Rattle.adr_script.specs.Requests.{asked_or}
+use Rattle.adr_asked.specs.declared.asked.Asked.{Asked}
+use Rattle.adr_asked.specs.Requests.{asked_or}
 
 -- what was read stands, or memory ran out
 read_tells : (methods : Methods) (read asked : Result (Option Asked) Refusal) → Gives (λ a. a) read asked → Tells (λ a. a) (asked_or methods read) (asked_or methods asked)

@@ -1,7 +1,7 @@
 use Rattle.std.proofs.Common.{◌≡◌, ◌++◌, map, drop}
 use Rattle.std.specs.Cow.{cow_str_bytes}
-use Rattle.adr_script.specs.Filters.{names_in}
-use Rattle.adr_script.proofs.filter.names_in.Given as goal
+use Rattle.adr_asked.specs.Filters.{names_in}
+use Rattle.adr_asked.proofs.filter.names_in.Given as goal
 
 -- the names so far, and those among the values that are left
 abbrev pub invariant-loop-value : goal.invariant-loop-value

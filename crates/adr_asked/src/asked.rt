@@ -1,6 +1,6 @@
-//! What a line asks of the machine.
+//! What is asked of the machine, by a line or by a request.
 ghost use Rattle.std.specs.Prelude.{◌≡◌, ◌≤◌, ◌<◌};
-ghost use Rattle.adr_script.specs.Bodies.{posts, status_for};
+ghost use Rattle.adr_asked.specs.Replies.{posts, status_for};
 
 use adr_machine::{Command, Query};
 

@@ -1,7 +1,7 @@
 use Rattle.std.proofs.Common.{◌≡◌, ◌++◌, drop}
 use Rattle.std.specs.String.{string_bytes}
-use Rattle.adr_script.specs.Bodies.{behind_commas}
-use Rattle.adr_script.proofs.bodies.list_text.Given as goal
+use Rattle.adr_asked.specs.Replies.{behind_commas}
+use Rattle.adr_asked.proofs.replies.list_text.Given as goal
 
 abbrev pub invariant-loop-object : goal.invariant-loop-object
 invariant-loop-object l =

@@ -13,7 +13,7 @@ use Rattle.adr_queries.specs.declared.filter.EventFilter.{EventFilter}
 use Rattle.adr_queries.specs.declared.filter.ReportFilter.{ReportFilter}
 use Rattle.adr_queries.specs.declared.filter.TargetFilter.{TargetFilter}
 use Rattle.adr_queries.specs.declared.filter.TargetFilter.TheVariants.{Any, VenName, ResourceName, Other}
-use Rattle.adr_script.specs.Queries.{values_of, only_one}
+use Rattle.adr_asked.specs.Queries.{values_of, only_one}
 
 -- the program that is asked for, where one is: a value that is no id is that of none
 abbrev pub programs_of : Option (List ℕ) → Option (List (List ℕ))

@@ -4,7 +4,7 @@ ghost use Rattle.std.specs.Prelude.{◌≡◌, map, IfOk};
 ghost use Rattle.std.specs.Cow.{cow_str_bytes};
 ghost use Rattle.std.specs.Option.{option_copied};
 ghost use Rattle.adr_text.specs.Refusals.{Gives};
-ghost use Rattle.adr_script.specs.Filters.{programs_of, program_filter, name_in, names_in, target_of, target_asked, target_filter, filter_asked, clients_of, client_filter, report_filter_asked};
+ghost use Rattle.adr_asked.specs.Filters.{programs_of, program_filter, name_in, names_in, target_of, target_asked, target_filter, filter_asked, clients_of, client_filter, report_filter_asked};
 
 use crate::query::{only_one, values_of};
 use adr_machine::{EventFilter, ReportFilter, TargetFilter};

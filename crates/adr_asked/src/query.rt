@@ -5,7 +5,7 @@ ghost use Rattle.std.specs.Option.{option_copied};
 ghost use Rattle.form_urlencoded.specs.Form.{raw_pairs};
 ghost use Rattle.adr_text.specs.Refusals.{Gives};
 ghost use Rattle.adr_state.specs.Digits.{most_number};
-ghost use Rattle.adr_script.specs.Queries.{values_of, only_one, number_or, number_in, page_asked, decoded_text};
+ghost use Rattle.adr_asked.specs.Queries.{values_of, only_one, number_or, number_in, page_asked, decoded_text};
 ghost use Rattle.std.specs.Prelude.{bytes_eq};
 
 use adr_machine::{Page, number_within};

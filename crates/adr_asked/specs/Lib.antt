@@ -1,0 +1,5 @@
+pub mod Queries
+pub mod Filters
+pub mod Requests
+pub mod Replies
+pub mod Turns
