@@ -1,2 +1,5 @@
+pub mod Tokens
 pub mod Served
+pub mod Desks
+pub mod Mapped
 pub mod MethodsByPath

@@ -12,13 +12,12 @@ use Rattle.adr_queries.specs.declared.role.Role.{Role}
 use Rattle.adr_queries.specs.declared.role.Role.TheVariants.{Operator, Ven, Utility}
 use Rattle.adr_routes.specs.declared.path.Path.{Path}
 use Rattle.adr_routes.specs.declared.path.Path.TheVariants as path
-use Rattle.adr_routes.specs.Methods.{has}
 use Rattle.adr_routes.specs.Places.{methods_of}
 use Rattle.adr_routes.specs.Paths.{place_of}
 use Rattle.adr_asked.specs.declared.asked.Asked.{Asked}
 use Rattle.adr_asked.specs.Filters.{filter_asked, report_filter_asked}
 use Rattle.adr_asked.specs.Queries.{page_asked}
-use Rattle.adr_asked.specs.Requests.{asked_by_get, listing_asked, asked_by_post, notice_asked, notified, asked_by_put, asked_by_delete, asked_by}
+use Rattle.adr_asked.specs.Requests.{asked_by_get, listing_asked, asked_by_post, notice_asked, asked_by_put, asked_by_delete, asked_by}
 use Rattle.adr_http.specs.Laws.{MethodsAreServed}
 
 -- what was read is asked, or refused: it is never nothing

@@ -1,79 +1,64 @@
-//! The reply to a request.
-ghost use Rattle.std.specs.Prelude.{◌≡◌, Ok, IfOk, OnErr};
+//! The reply to a request, whoever takes what it asks.
+ghost use Rattle.std.specs.Prelude.{Ok, IfOk, OnErr};
 ghost use Rattle.adr_request.specs.Requests.{request_parts};
-ghost use Rattle.adr_asked.specs.Turns.{MayLeave};
-ghost use Rattle.adr_http.specs.Serving.{problem_bytes, plan_turn, request_turn, IsBuilt};
+ghost use Rattle.adr_http.specs.Plans.{plan_of};
+ghost use Rattle.adr_http.specs.Takers.{TakesOnce, IsBuiltBy, MayLeaveBy};
 
 use crate::planning::plan;
+use crate::replying::{outcome_bytes, problem_bytes};
 use crate::roles::Roles;
-use adr_asked::{Asked, reply_to, take_asked, without};
-use adr_machine::Desk;
-use adr_reply::{Problem, render};
+use crate::taker::Taker;
+use adr_asked::{Asked, without};
+use adr_reply::Problem;
 use adr_request::HttpRequest;
 use adr_routes::Routes;
-use adr_text::Moment;
 use std::alloc::{AllocError, Global};
 
-/// The reply that tells a problem.
-pub fn problem_bytes(alloc: Global, problem: Problem) -> Result<Vec<u8>, AllocError>
-    ensures { IfOk result (λ out. out.items ≡ problem_bytes problem) }
-{
-    let reply = problem.reply(alloc)?;
-    render(alloc, &reply)
-}
-
-/// Takes the step of what was asked, and gives the reply.
-fn answer_asked<D: Desk>(
+/// Takes what was asked, and gives the reply to what comes of it.
+fn answer_asked<T: Taker>(
     alloc: Global,
-    desk: &mut D,
-    now: Moment,
+    taker: &mut T,
     asked: &Asked,
 ) -> Result<Vec<u8>, AllocError>
-    ensures ok { IfOk result (λ out. D.is_sound desk.new → IsBuilt D.may_refuse (D.state desk.old) (plan_turn (D.settings desk.old) (D.state desk.old) now (Ok asked.now)) out.items (D.state desk.new)) }
-    ensures err { OnErr result (D.is_sound desk.new → MayLeave (D.state desk.old) (plan_turn (D.settings desk.old) (D.state desk.old) now (Ok asked.now)) (D.state desk.new)) }
-    ensures was_sound { D.is_sound desk.new → D.is_sound desk.old }
-    ensures same_settings { D.settings desk.new ≡ D.settings desk.old }
+    ensures ok { IfOk result (λ out. IsBuiltBy T.takes (T.client taker.old) taker.old (Ok asked.now) out.items taker.new) }
+    ensures err { OnErr result (MayLeaveBy T.takes taker.old (Ok asked.now) taker.new) }
+    ensures once { TakesOnce T.takes taker.old taker.new }
 {
-    let outcome = take_asked(desk, now, asked);
-    let reply = reply_to(alloc, &desk.settings().client, asked, &outcome)?;
-    render(alloc, &reply)
+    let outcome = taker.take(asked);
+    outcome_bytes(alloc, taker.client(), asked, &outcome)
 }
 
 /// The reply to what was planned.
-fn answer_plan<D: Desk>(
+fn answer_plan<T: Taker>(
     alloc: Global,
-    desk: &mut D,
-    now: Moment,
+    taker: &mut T,
     plan: &Result<Asked, Problem>,
 ) -> Result<Vec<u8>, AllocError>
-    ensures ok { IfOk result (λ out. D.is_sound desk.new → IsBuilt D.may_refuse (D.state desk.old) (plan_turn (D.settings desk.old) (D.state desk.old) now plan.now) out.items (D.state desk.new)) }
-    ensures err { OnErr result (D.is_sound desk.new → MayLeave (D.state desk.old) (plan_turn (D.settings desk.old) (D.state desk.old) now plan.now) (D.state desk.new)) }
-    ensures was_sound { D.is_sound desk.new → D.is_sound desk.old }
-    ensures same_settings { D.settings desk.new ≡ D.settings desk.old }
+    ensures ok { IfOk result (λ out. IsBuiltBy T.takes (T.client taker.old) taker.old plan.now out.items taker.new) }
+    ensures err { OnErr result (MayLeaveBy T.takes taker.old plan.now taker.new) }
+    ensures once { TakesOnce T.takes taker.old taker.new }
 {
     match plan {
-        Ok(asked) => answer_asked(alloc, desk, now, asked),
+        Ok(asked) => answer_asked(alloc, taker, asked),
         Err(problem) => problem_bytes(alloc, *problem),
     }
 }
 
-/// Takes the step that a request asks for, at that moment, and gives the bytes of the reply. Where memory runs out for
-/// these, the step may have been taken.
-pub fn answer<D: Desk>(
+/// Takes what a request asks, once at most, and gives the bytes of the reply. Where memory runs out for these, it may have
+/// been taken.
+pub(crate) fn answer_by<T: Taker>(
     alloc: Global,
-    desk: &mut D,
     roles: &Roles,
     routes: &Routes,
+    taker: &mut T,
     request: &HttpRequest,
-    now: Moment,
 ) -> Result<Vec<u8>, AllocError>
-    ensures ok { IfOk result (λ out. D.is_sound desk.new → IsBuilt D.may_refuse (D.state desk.old) (request_turn (D.settings desk.old) roles.now (D.state desk.old) now (request_parts request.now)) out.items (D.state desk.new)) }
-    ensures err { OnErr result (D.is_sound desk.new → MayLeave (D.state desk.old) (request_turn (D.settings desk.old) roles.now (D.state desk.old) now (request_parts request.now)) (D.state desk.new)) }
-    ensures was_sound { D.is_sound desk.new → D.is_sound desk.old }
-    ensures same_settings { D.settings desk.new ≡ D.settings desk.old }
+    ensures ok { IfOk result (λ out. IsBuiltBy T.takes (T.client taker.old) taker.old (plan_of roles.now (request_parts request.now)) out.items taker.new) }
+    ensures err { OnErr result (MayLeaveBy T.takes taker.old (plan_of roles.now (request_parts request.now)) taker.new) }
+    ensures once { TakesOnce T.takes taker.old taker.new }
 {
     // The plan is looked at by reference: taken apart, each kind of what is asked would be a path of its own here.
     let plan = plan(alloc, roles, routes, request);
-    let bytes = answer_plan(alloc, desk, now, &plan);
+    let bytes = answer_plan(alloc, taker, &plan);
     without(plan, bytes)
 }

@@ -1,5 +1,5 @@
 //! The tokens of a node, and what each allows.
-ghost use Rattle.std.specs.Prelude.{◌≡◌, ◌<◌, IfSome, IfOk, map, length};
+ghost use Rattle.std.specs.Prelude.{◌≡◌, ◌<◌, IfSome, IfOk, map, length, bytes_eq};
 ghost use Rattle.std.specs.Option.{option_copied};
 ghost use Rattle.adr_http.specs.Roles.{granted, role_of, roles_of};
 
@@ -43,12 +43,27 @@ impl Model for Roles {
     ghost view = { λ r. map granted r.grants.items };
 }
 
+/// Whether the two are the same token. Where they are as long, every byte is looked at: the time that this takes doesn't
+/// tell where they differ.
+fn is_same_token(one: &[u8], other: &[u8]) -> bool
+    ensures { result ≡ bytes_eq one.now other.now }
+{
+    if one.len() != other.len() {
+        return false;
+    }
+    let mut different = 0u8;
+    for i in 0..one.len() {
+        different |= one[i] ^ other[i];
+    }
+    different == 0
+}
+
 /// The role of the first of these with that token.
 fn role_in<'g>(grants: &'g [Grant], token: &[u8]) -> Option<&'g Role>
     ensures { option_copied result ≡ role_of (map granted grants.now) token.now }
 {
     for grant in grants {
-        if grant.token.as_slice() == token {
+        if is_same_token(&grant.token, token) {
             return Some(&grant.role);
         }
     }
