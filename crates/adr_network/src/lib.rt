@@ -1,0 +1,13 @@
+//! Networks, and whether an address is in one.
+#![tactic(auto)]
+
+mod bits;
+pub mod laws;
+mod network;
+mod networks;
+mod read;
+#[cfg(test)]
+mod tests;
+
+pub use network::Network;
+pub use networks::Networks;

@@ -1,0 +1,38 @@
+-- What stands behind what the node keeps.
+use Rattle.std.specs.Prelude.{ℕ, ◌+◌, List}
+use Rattle.adr_state.specs.declared.keys.MirrorKey.{MirrorKey}
+use Rattle.adr_state.specs.declared.keys.ViewKey.{ViewKey}
+use Rattle.adr_state.specs.declared.keys.ViewKey.TheVariants.{Program, Event, Report, Rollup}
+use Rattle.adr_state.specs.declared.base.Mark.{Mark}
+use Rattle.adr_state.specs.declared.base.Mark.TheVariants.{Live, Dead}
+use Rattle.adr_state.specs.declared.base.Base.{Base}
+use Rattle.adr_state.specs.declared.state.State.{State}
+use Rattle.adr_weight.specs.declared.places.TheConstants.{MARK_ROW, MIRROR_KEY, STAMPS_ROW}
+use Rattle.adr_weight.specs.Sums.{nothing, text_weight, option_weight, set_weight, table_weight}
+use Rattle.adr_weight.specs.Upstream.{body_weight}
+use Rattle.adr_weight.specs.Sites.{portfolio_weight}
+use Rattle.adr_weight.specs.Outboxes.{outbox_weight}
+
+abbrev pub mirror_key_weight : MirrorKey → ℕ
+mirror_key_weight key = text_weight key.id
+
+abbrev pub mirror_keys_weight : List MirrorKey → ℕ
+mirror_keys_weight keys = set_weight MIRROR_KEY mirror_key_weight keys
+
+abbrev pub view_key_weight : ViewKey → ℕ
+view_key_weight (Program id) = text_weight id
+view_key_weight (Event id resource) = text_weight id
+view_key_weight (Report number) = 0
+view_key_weight (Rollup id) = text_weight id
+
+abbrev pub mark_weight : Mark → ℕ
+mark_weight (Live moment body) = body_weight body
+mark_weight Dead = 0
+
+abbrev pub base_weight : Base → ℕ
+base_weight b = table_weight MARK_ROW mirror_key_weight mark_weight b.mirror
+    + option_weight mirror_keys_weight b.scan
+    + portfolio_weight b.portfolio
+
+abbrev pub state_weight : State → ℕ
+state_weight s = base_weight s.base + table_weight STAMPS_ROW view_key_weight nothing s.stamps + outbox_weight s.outbox

@@ -1,0 +1,38 @@
+-- What stands behind vens, resources, shares and reports as they are kept.
+use Rattle.std.specs.Prelude.{ℕ, ◌+◌}
+use Rattle.adr_objects.specs.declared.report.ReportHead.{ReportHead}
+use Rattle.adr_state.specs.declared.portfolio.Ven.{Ven}
+use Rattle.adr_state.specs.declared.portfolio.Resource.{Resource}
+use Rattle.adr_state.specs.declared.portfolio.Report.{Report}
+use Rattle.adr_state.specs.declared.portfolio.Portfolio.{Portfolio}
+use Rattle.adr_state.specs.declared.keys.ShareKey.{ShareKey}
+use Rattle.adr_weight.specs.declared.places.TheConstants.{VEN_ROW, RESOURCE_ROW, SHARE_ROW, REPORT_ROW, SUB_ROW}
+use Rattle.adr_weight.specs.Sums.{nothing, text_weight, option_weight, table_weight}
+use Rattle.adr_weight.specs.Posted.{usages_weight}
+use Rattle.adr_weight.specs.Subscriptions.{sub_weight}
+
+abbrev pub ven_weight : Ven → ℕ
+ven_weight v = text_weight v.name
+
+abbrev pub resource_weight : Resource → ℕ
+resource_weight r = text_weight r.name
+
+abbrev pub share_key_weight : ShareKey → ℕ
+share_key_weight key = text_weight key.program
+
+abbrev pub report_head_weight : ReportHead → ℕ
+report_head_weight h = text_weight h.program
+    + text_weight h.event
+    + text_weight h.client
+    + option_weight text_weight h.name
+    + text_weight h.resource_name
+
+abbrev pub report_weight : Report → ℕ
+report_weight r = report_head_weight r.body.head + usages_weight r.body.intervals
+
+abbrev pub portfolio_weight : Portfolio → ℕ
+portfolio_weight p = table_weight VEN_ROW nothing ven_weight p.vens
+    + table_weight RESOURCE_ROW nothing resource_weight p.resources
+    + table_weight SHARE_ROW share_key_weight nothing p.shares
+    + table_weight REPORT_ROW nothing report_weight p.reports
+    + table_weight SUB_ROW nothing sub_weight p.subs
