@@ -64,3 +64,8 @@ answers_end settings s trail i c done within at none =
     let left = drop (i + 1) trail in
     let first = at_drop_more (answers_along settings s) trail i c within ∙ ap (λ (d : ℕ × Command). answers_along settings s (d ∷ left)) (sym at) in
     ap (λ (rest : List Answer). done ++ rest) (first ∙ untold (step_at settings s c) (λ t. answers_along settings t left) none) ∙ append-nil done
+
+-- a desk that stayed is still where the trail leads
+pub led_same : (settings settings' : Settings) (base s t : State) (trail : List (ℕ × Command))
+    → settings' ≡ settings → t ≡ s → led settings base trail ≡ Some s → led settings' base trail ≡ Some t
+led_same settings settings' base s t trail same stays leads = ap (λ l. led l base trail) same ∙ leads ∙ ap Some (sym stays)

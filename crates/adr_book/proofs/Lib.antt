@@ -1,3 +1,4 @@
 pub mod Leading
 pub mod Listing
 pub mod Placed
+pub mod Weighing

@@ -1,5 +1,5 @@
 -- Refusals of a desk among those of a book.
-use Rattle.std.proofs.Common.{◌≡◌, true, false, List, ◌++◌, Contains, Result, Ok, Err, IfErr, subst, sym}
+use Rattle.std.proofs.Common.{◌≡◌, arith, ℕ, nat_lt, Bool, true, false, List, ◌∷◌, ◌++◌, Contains, refl, if◌then◌else◌, Result, Ok, Err, IfErr, subst, sym}
 use Rattle.std.specs.List.{list_all}
 use Rattle.std.specs.Result.{IsErrAnd}
 use Rattle.std.proofs.lemmas.List.Elements.{All-contains, Contains-append_right}
@@ -7,7 +7,8 @@ use Rattle.std.proofs.lemmas.List.Sums.{AllPass-from_list_all}
 use Rattle.adr_text.specs.declared.refusal.Refusal.{Refusal}
 use Rattle.adr_text.specs.declared.refusal.Refusal.TheVariants.{OutOfMemory, Store, TrailFull, Stale}
 use Rattle.adr_queries.specs.Listed.{is_of_machine, IsListed}
-use Rattle.adr_book.specs.Entry.{IsOfDesk, EndsAfter}
+use Rattle.adr_text.specs.Refusals.{◌>>=◌}
+use Rattle.adr_book.specs.Entry.{not_ahead, is_full_at, with_room, IsOfDesk, EndsAfter}
 
 -- a refusal that is handed on
 pub handed_on : {T : Type 0} (P : Refusal → Type 0) (r : Result T Refusal) (e : Refusal) → IsErrAnd r (λ x. x ≡ e) → P e → IfErr r P
@@ -34,3 +35,20 @@ module _ (P : Type 0) (these : List Refusal) (all : list_all is_of_machine these
 pub ends_after : {A : Type 0} (tested : Result (Unit {0}) Refusal) (u : Unit {0}) (r : Result A Refusal) → tested ≡ Ok u → IfErr r IsOfDesk → EndsAfter tested r
 ends_after (Ok v) u r is so = so
 ends_after (Err e) u r is so = absurd (cc)
+
+-- who is not let in for a step is refused for the pass or for the trail
+module _ (P : Type 0) (these : List Refusal) (seen : ℕ) (e : Refusal) where
+  abbrev by_ahead : Bool → Result (Unit {0}) Refusal
+  by_ahead ahead = if ahead then Err (Stale seen) else Ok tt
+
+  abbrev by_full : Bool → Result (Unit {0}) Refusal
+  by_full full = if full then Err TrailFull else Ok tt
+
+  by_tests : (ahead full : Bool) → (by_ahead ahead >>= λ _. by_full full) ≡ Err e
+      → IsListed P (Stale seen ∷ TrailFull ∷ these) e
+  by_tests true full is = let this : Stale seen ≡ e = cc is in subst (IsListed P (Stale seen ∷ TrailFull ∷ these)) this (0, omega arith, refl)
+  by_tests false true is = let this : TrailFull ≡ e = cc is in subst (IsListed P (Stale seen ∷ TrailFull ∷ these)) this (1, omega arith, refl)
+  by_tests false false is = absurd cc
+
+  pub entry_listed : (turn limit count : ℕ) → (not_ahead seen turn >>= λ _. with_room limit count turn) ≡ Err e → IsListed P (Stale seen ∷ TrailFull ∷ these) e
+  entry_listed turn limit count is = by_tests (nat_lt turn seen) (is_full_at limit count turn) is

@@ -1,5 +1,5 @@
 -- What is tested before the desk is asked, and what a call with a pass then takes.
-use Rattle.std.specs.Prelude.{◌≡◌, ℕ, ◌||◌, nat_le, nat_lt, if◌then◌else◌, length, Result, Ok, Err, IfErr}
+use Rattle.std.specs.Prelude.{◌≡◌, ℕ, Bool, ◌||◌, nat_le, nat_lt, max, if◌then◌else◌, length, Result, Ok, Err, IfErr}
 use Rattle.adr_text.specs.Refusals.{◌>>=◌}
 use Rattle.adr_text.specs.declared.refusal.Refusal.{Refusal}
 use Rattle.adr_text.specs.declared.refusal.Refusal.TheVariants.{TrailFull, Stale}
@@ -12,18 +12,36 @@ use Rattle.adr_machine.specs.declared.desk.Desk.{Ghosts}
 use Rattle.adr_machine.specs.Steps.{step}
 use Rattle.adr_book.specs.declared.kept.Book.{Book}
 use Rattle.adr_book.specs.declared.kept.Pass.{Pass}
-use Rattle.adr_book.specs.Trail.{most_turns}
-use Rattle.adr_book.specs.Words.{trail_of, turn_of, state_of, settings_of, seen_by}
+use Rattle.adr_weight.specs.Sums.{capped}
+use Rattle.adr_weight.specs.Bases.{state_weight}
+use Rattle.adr_book.specs.Trail.{most_turns, trail_weight}
+use Rattle.adr_book.specs.Words.{base_of, trail_of, turn_of, state_of, settings_of, seen_by}
 
 -- a holder that was told of this turn comes to a book of that one: it may not be ahead
 abbrev pub not_ahead : ℕ → ℕ → Result (Unit {0}) Refusal
 not_ahead seen turn = if nat_lt turn seen then Err (Stale seen) else Ok tt
 
--- one command more, where so many may stand in the trail and so many do
+-- whether there is no room for one command more, where so many may stand in the trail and so many do
+abbrev pub is_full_at : ℕ → ℕ → ℕ → Bool
+is_full_at limit count turn = nat_le limit count || nat_le most_turns turn
+
+-- one command more
 abbrev pub with_room : ℕ → ℕ → ℕ → Result (Unit {0}) Refusal
-with_room limit count turn = if nat_le limit count || nat_le most_turns turn then Err TrailFull else Ok tt
+with_room limit count turn = if is_full_at limit count turn then Err TrailFull else Ok tt
 
 module _ {D L : Type 0} {g : Ghosts D} where
+  -- a book takes no command more
+  abbrev pub is_full : Book D L g → Bool
+  is_full book = is_full_at (settings_of book).limits.trail (length (trail_of book)) (turn_of book)
+
+  -- its trail takes more memory than so much, and than the base
+  abbrev pub is_heavy : ℕ → Book D L g → Bool
+  is_heavy most book = nat_lt (max most (capped (state_weight (base_of book)))) (capped (trail_weight (trail_of book)))
+
+  -- room is to be made for one command more
+  abbrev pub needs_room : ℕ → Book D L g → Bool
+  needs_room most book = is_full book || is_heavy most book
+
   -- who comes with a pass to ask
   abbrev pub entry_to_ask : Book D L g → Pass L → Result (Unit {0}) Refusal
   entry_to_ask book pass = not_ahead (seen_by pass) (turn_of book)

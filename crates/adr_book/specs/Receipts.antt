@@ -12,6 +12,10 @@ use Rattle.adr_book.specs.declared.kept.AuditFault.TheVariants.{Mismatch, Refuse
 use Rattle.adr_book.specs.Trail.{answers_along}
 use Rattle.adr_book.specs.Words.{base_of, since_of, trail_of, settings_of}
 
+-- the receipt of a command
+abbrev pub receipt_of : ℕ → Command → Answer → Receipt
+receipt_of turn command answer = record { turn = turn; command = command; answer = answer }
+
 -- a receipt past the base has its command in the trail at its turn, and these answers have its answer there
 abbrev pub HasPlace : ℕ → List (ℕ × Command) → List Answer → Receipt → Type 0
 HasPlace since trail answers r =

@@ -6,13 +6,14 @@ ghost use Rattle.adr_machine.specs.Steps.{image_of};
 ghost use Rattle.adr_book.specs.Trail.{LeadsTo};
 ghost use Rattle.adr_book.specs.Words.{base_of, since_of, trail_of, turn_of, state_of, settings_of, IsSound, IsKept, seen_by, taken_by};
 ghost use Rattle.adr_book.specs.Same.{IsSame, IsUntouched};
-ghost use Rattle.adr_book.specs.Receipts.{IsOf, Confirms};
+ghost use Rattle.adr_book.specs.Receipts.{receipt_of, IsOf, Confirms};
 ghost use Rattle.adr_book.specs.Refused.{MayRefuse, MayRefuseQuery};
-ghost use Rattle.adr_book.specs.Entry.{entry_to_ask, entry_to_step, step_in, reply_in, EndsAfter};
+ghost use Rattle.adr_book.specs.Entry.{is_full, is_heavy, needs_room, entry_to_ask, entry_to_step, step_in, reply_in, EndsAfter};
 
-use crate::kept::{Book, MOST_TURNS, Pass, Receipt};
+use crate::kept::{Book, MOST_TURNS, PLACE, Pass, Receipt};
 use adr_machine::{Answer, Command, Desk, Image, Query, Settings};
 use adr_text::{Moment, Refusal};
+use adr_weight::Weigh;
 use std::alloc::Global;
 use std::sync::ledger::{Blank, Ledger, Share};
 
@@ -72,6 +73,29 @@ impl<D: Desk, L: Ledger> Book<D, L> {
         self.turn
     }
 
+    /// Whether it takes no command more.
+    fn is_full(&self) -> bool
+        ensures { result ≡ is_full self.now }
+    {
+        let limit = self.settings().limits.trail.get();
+        limit <= self.trail.len() as u64 || MOST_TURNS <= self.turn
+    }
+
+    /// Whether its trail takes more memory than so much, and than the base.
+    fn is_heavy(&self, most: u64) -> bool
+        ensures { result ≡ is_heavy most self.now }
+    {
+        most.max(self.base_weight) < self.weight
+    }
+
+    /// Whether room is to be made for one command more: the trail is full, or takes more memory than so much and than the
+    /// base, whose making so costs no more than the commands that led to it.
+    pub fn needs_room(&self, most: u64) -> bool
+        ensures { result ≡ needs_room most self.now }
+    {
+        self.is_full() || self.is_heavy(most)
+    }
+
     /// Whether who comes with the pass may ask: nobody was told of a later turn than the book's.
     fn admit(&self, pass: &Pass<L>) -> Result<(), Refusal>
         ensures { result ≡ entry_to_ask self.now pass.now }
@@ -87,14 +111,59 @@ impl<D: Desk, L: Ledger> Book<D, L> {
         ensures { result ≡ entry_to_step self.now pass.now }
     {
         self.admit(pass)?;
-        let limit = self.settings().limits.trail.get();
-        if limit <= self.trail.len() as u64 || MOST_TURNS <= self.turn {
+        if self.is_full() {
             return Err(Refusal::TrailFull);
         }
         Ok(())
     }
 
-    /// Takes one step. An accepted command takes one turn.
+    /// Takes one step, and answers it. An accepted command takes one turn. It is copied once, for the trail.
+    pub fn take(
+        &mut self,
+        pass: &mut Pass<L>,
+        now: Moment,
+        command: &Command,
+    ) -> Result<Answer, Refusal>
+        ensures machine { IfOk result (λ answer. IsSound self.new → step_in self.old pass.old now command.now ≡ Ok (answer, state_of self.new)) }
+        ensures trail { OnOk result (trail_of self.new ≡ trail_of self.old ++ (now, command.now) ∷ []) }
+        ensures base { OnOk result ((base_of self.new ≡ base_of self.old) × (since_of self.new ≡ since_of self.old)) }
+        ensures turn { OnOk result (turn_of self.new ≡ turn_of self.old + 1) }
+        ensures share { OnOk result (taken_by pass.new ≡ taken_by pass.old + 1) }
+        ensures seen { OnOk result ((seen_by pass.new ≡ turn_of self.new) × (seen_by pass.old < turn_of self.new)) }
+        ensures refused { IfErr result (λ refusal. IsSound self.new → IsRefusalOf refusal (step_in self.old pass.old now command.now)) }
+        ensures entry { EndsAfter (entry_to_step self.old pass.old) result }
+        ensures listed { IfErr result (MayRefuse D.may_refuse (seen_by pass.old) command.now) }
+        ensures unchanged { OnErr result (IsSame self.old self.new × (pass.new ≡ pass.old)) }
+        ensures placed { IfOk result (λ answer. IsSound self.new → IsOf self.new (receipt_of (turn_of self.new) command.now answer)) }
+        ensures confirms { IsSound self.new → Confirms self.old self.new }
+        ensures same_settings { settings_of self.new ≡ settings_of self.old }
+        ensures was_sound { IsSound self.new → IsSound self.old }
+    {
+        self.admit_step(pass)?;
+        let kept = command.copy()?;
+        let Book {
+            base: _,
+            since: _,
+            trail,
+            weight,
+            base_weight: _,
+            turn,
+            desk,
+            total,
+        } = self;
+        trail.reserve(1)?;
+        let answer = desk.apply(now, command)?;
+        trail.push_reserved((now, kept));
+        *weight = weight
+            .saturating_add(PLACE)
+            .saturating_add(command.weight());
+        *turn += 1;
+        pass.turn = *turn;
+        total.add(&mut pass.share, 1);
+        Ok(answer)
+    }
+
+    /// Takes one step, and gives the receipt of it.
     pub fn step(
         &mut self,
         pass: &mut Pass<L>,
@@ -119,26 +188,31 @@ impl<D: Desk, L: Ledger> Book<D, L> {
     {
         self.admit_step(pass)?;
         let given = command.copy()?;
-        let kept = command.copy()?;
-        let Book {
-            base: _,
-            since: _,
-            trail,
-            turn,
-            desk,
-            total,
-        } = self;
-        trail.reserve(1)?;
-        let answer = desk.apply(now, command)?;
-        trail.push_reserved((now, kept));
-        *turn += 1;
-        pass.turn = *turn;
-        total.add(&mut pass.share, 1);
+        let answer = self.take(pass, now, command)?;
         Ok(Receipt {
-            turn: *turn,
+            turn: self.turn,
             command: given,
             answer,
         })
+    }
+
+    /// Answers a query in the book's state.
+    pub fn ask(&mut self, pass: &mut Pass<L>, query: &Query) -> Result<Answer, Refusal>
+        ensures machine { IfOk result (λ answer. IsSound self.new → reply_in self.old pass.old query.now ≡ Ok answer) }
+        ensures turn { OnOk result ((seen_by pass.new ≡ turn_of self.old) × (seen_by pass.old ≤ turn_of self.old)) }
+        ensures refused { IfErr result (λ refusal. IsSound self.new → IsRefusalOf refusal (reply_in self.old pass.old query.now)) }
+        ensures entry { EndsAfter (entry_to_ask self.old pass.old) result }
+        ensures listed { IfErr result (MayRefuseQuery D.may_refuse (seen_by pass.old) query.now) }
+        ensures book { IsSame self.old self.new }
+        ensures share { taken_by pass.new ≡ taken_by pass.old }
+        ensures unchanged { OnErr result (pass.new ≡ pass.old) }
+        ensures same_settings { settings_of self.new ≡ settings_of self.old }
+        ensures was_sound { IsSound self.new → IsSound self.old }
+    {
+        self.admit(pass)?;
+        let answer = self.desk.ask(query)?;
+        pass.turn = self.turn;
+        Ok(answer)
     }
 
     /// Answers a query in the book's state, with the book's turn.
@@ -154,9 +228,7 @@ impl<D: Desk, L: Ledger> Book<D, L> {
         ensures same_settings { settings_of self.new ≡ settings_of self.old }
         ensures was_sound { IsSound self.new → IsSound self.old }
     {
-        self.admit(pass)?;
-        let answer = self.desk.ask(&query)?;
-        pass.turn = self.turn;
+        let answer = self.ask(pass, &query)?;
         Ok((self.turn, answer))
     }
 
@@ -178,12 +250,16 @@ impl<D: Desk, L: Ledger> Book<D, L> {
             base,
             since,
             trail,
+            weight,
+            base_weight,
             turn,
             desk: _,
             total: _,
         } = self;
+        *base_weight = image.weight();
         *base = image;
         trail.clear();
+        *weight = 0;
         *since = *turn;
         Ok(())
     }
@@ -204,10 +280,13 @@ impl<D: Desk, L: Ledger> Book<D, L> {
     {
         let base = desk.image()?;
         let (total, share) = blank.open::<L>();
+        let base_weight = base.weight();
         let book = Book {
             base,
             since: 0,
             trail: Vec::new(alloc),
+            weight: 0,
+            base_weight,
             turn: 0,
             desk,
             total,

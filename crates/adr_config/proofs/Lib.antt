@@ -1,1 +1,2 @@
 mod Listening
+pub mod Calling

@@ -4,12 +4,13 @@ use Rattle.std.specs.declared.net.socket_addr.SocketAddr.{SocketAddr}
 use Rattle.std.specs.Net.Grammar.{IsSocketText}
 use Rattle.std.proofs.NetLemmas.Theorems.{IsSocketText_unique}
 use Rattle.serde_json.specs.Data.{Data}
-use Rattle.adr_text.specs.Faults.{Finds, Lacks}
+use Rattle.adr_text.specs.Faults.{Lacks}
 use Rattle.adr_text.specs.Fields.{value_in}
 use Rattle.adr_text.specs.declared.fault.Fault.{Fault}
 use Rattle.adr_text.specs.declared.fault.Fault.TheVariants.{OutOfMemory}
 use Rattle.adr_config.specs.declared.config.Config.{Config}
-use Rattle.adr_config.specs.Configs.{IsConfig, Listens, Says, config_at}
+use Rattle.adr_config.specs.Callbacks.{FindsNone}
+use Rattle.adr_config.specs.Configs.{IsConfig, Listens, Says, SaysAt}
 
 one_listens : (d : Data) (a b : SocketAddr) → Listens d a → Listens d b → a ≡ b
 one_listens d a b (t, is, text) (u, was, other) = let same : t ≡ u = cc in IsSocketText_unique t a b text (subst (λ v. IsSocketText v b) (sym same) other)
@@ -22,24 +23,23 @@ none_listens e d (inr h) = inr none
     none : (config : Config) → ¬ (Says d config)
     none config (listen, at, said) = h listen at
 
--- where one is, the configuration is what the rest gives
-pub says_by : (listen : SocketAddr) (d : Data) → Listens d listen → (r : Result Config Fault) → Finds (λ c. c) r (config_at listen d) → IfOk r (Says d)
+-- where one is, the configuration is one that listens there
+pub says_by : (listen : SocketAddr) (d : Data) → Listens d listen → (r : Result Config Fault) → IfOk r (SaysAt listen d) → IfOk r (Says d)
 says_by listen d at (Ok c) found = (listen, at, found)
 says_by listen d at (Err e) found = tt
 
-pub says_none : (listen : SocketAddr) (d : Data) → Listens d listen → (r : Result Config Fault) → Finds (λ c. c) r (config_at listen d) → IfErr r (λ e. (e ≡ OutOfMemory) ⊎ ((config : Config) → ¬ (Says d config)))
+pub says_none : (listen : SocketAddr) (d : Data) → Listens d listen → (r : Result Config Fault) → IfErr r (λ e. FindsNone e (SaysAt listen d)) → IfErr r (λ e. FindsNone e (Says d))
 says_none listen d at (Ok c) found = tt
-says_none listen d at (Err e) found = by e found
+says_none listen d at (Err e) found = by found
   where
-    no_other : (e : Fault) → config_at listen d ≡ Err e → (config : Config) → ¬ (Says d config)
-    no_other e fails config (other, there, said) =
+    no_other : ((config : Config) → ¬ (SaysAt listen d config)) → (config : Config) → ¬ (Says d config)
+    no_other none config (other, there, said) =
         let same : other ≡ listen = one_listens d other listen there at in
-        let here : config_at listen d ≡ Ok config = subst (λ l. config_at l d ≡ Ok config) same said in
-        absurd cc
+        none config (subst (λ l. SaysAt l d config) same said)
 
-    by : (e : Fault) → Lacks e (config_at listen d) → (e ≡ OutOfMemory) ⊎ ((config : Config) → ¬ (Says d config))
-    by OutOfMemory lacks = inl refl
-    by e fails = inr (no_other e fails)
+    by : FindsNone e (SaysAt listen d) → FindsNone e (Says d)
+    by (inl wanting) = inl wanting
+    by (inr none) = inr (no_other none)
 
 -- bytes that are no value are no configuration
 pub no_value : (e : Fault) (bytes : List ℕ) → Lacks e (value_in bytes) → (e ≡ OutOfMemory) ⊎ ((config : Config) → ¬ (IsConfig bytes config))

@@ -10,8 +10,10 @@ use Rattle.adr_text.specs.declared.fault.Fault.{Fault}
 use Rattle.adr_state.specs.declared.limits.Limits.{Limits}
 use Rattle.adr_state.specs.declared.limits.Settings.{Settings}
 use Rattle.adr_state.specs.Limits.{largest}
+use Rattle.adr_network.specs.declared.network.Network.{Network}
 use Rattle.adr_link.specs.Upstreams.{UpstreamParts, upstream_of}
 use Rattle.adr_config.specs.declared.config.Config.{Config}
+use Rattle.adr_config.specs.Callbacks.{CallsBack}
 use Rattle.adr_config.specs.Grants.{limits_in, roles_in}
 use Rattle.adr_config.specs.Members.{limit_in}
 
@@ -33,24 +35,32 @@ settings_in d = do
   limits ← optional (member_of (codes "limits") d) limits_in
   Ok (record { client = client; limits = limits_or_largest limits })
 
--- what is said by a configuration that listens there
-unfoldable pub config_at : SocketAddr → Data → Result Config Fault
-config_at listen d = do
+-- what is said by a configuration that listens there and lets addresses in those networks be called
+unfoldable pub config_at : SocketAddr → Option (List Network) → Data → Result Config Fault
+config_at listen callbacks d = do
   upstream ← upstream_in d
   settings ← settings_in d
   poll ← required (member_of (codes "poll") d) (limit_in 3_600)
   workers ← required (member_of (codes "workers") d) (limit_in 16)
   roles ← required (member_of (codes "tokens") d) roles_in
   stop_after ← optional (member_of (codes "stopAfter") d) (limit_in 4_294_967_295)
-  Ok (record { listen = listen; upstream = upstream; settings = settings; poll = poll; workers = workers; roles = roles; stop_after = stop_after })
+  Ok (record { listen = listen; upstream = upstream; callbacks = callbacks; settings = settings; poll = poll; workers = workers; roles = roles; stop_after = stop_after })
 
 -- an address and a port are where it listens
 abbrev pub Listens : Data → SocketAddr → Type 0
 Listens d listen = (text : List ℕ) × (required (member_of (codes "listen") d) text_of ≡ Ok text) × IsSocketText text listen
 
+-- networks are those in which it lets addresses be called
+abbrev pub Calls : Data → Option (List Network) → Type 0
+Calls d networks = CallsBack (member_of (codes "callbacks") d) networks
+
+-- a JSON value says this configuration, which listens there
+abbrev pub SaysAt : SocketAddr → Data → Config → Type 0
+SaysAt listen d config = (callbacks : Option (List Network)) × Calls d callbacks × (config_at listen callbacks d ≡ Ok config)
+
 -- a JSON value says this configuration
 abbrev pub Says : Data → Config → Type 0
-Says d config = (listen : SocketAddr) × Listens d listen × (config_at listen d ≡ Ok config)
+Says d config = (listen : SocketAddr) × Listens d listen × SaysAt listen d config
 
 -- the bytes are a JSON text that does
 abbrev pub IsConfig : List ℕ → Config → Type 0

@@ -1,3 +1,4 @@
 pub mod Members
 pub mod Grants
+pub mod Callbacks
 pub mod Configs

@@ -1,6 +1,7 @@
 //! What a node that serves is set to.
 use adr_http::Roles;
 use adr_link::Upstream;
+use adr_network::Networks;
 use adr_state::{Limit, Settings};
 use std::net::SocketAddr;
 
@@ -11,6 +12,8 @@ pub struct Config {
     pub listen: SocketAddr,
     /// The utility's address, and the token that it is shown.
     pub upstream: Upstream,
+    /// The networks in which the addresses of subscriptions may be called.
+    pub callbacks: Networks,
     /// The name under which it reports to the utility, and how many objects it keeps.
     pub settings: Settings,
     /// How many seconds lie between two rounds in which the utility is asked.

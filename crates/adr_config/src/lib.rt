@@ -1,6 +1,7 @@
 //! The configuration of a node that serves, read from JSON.
 #![tactic(auto)]
 
+mod callbacks;
 mod config;
 mod grants;
 mod limits;

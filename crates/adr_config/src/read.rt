@@ -3,20 +3,21 @@ ghost use Rattle.std.specs.Prelude.{◌≡◌, ◌⊎◌, codes, IfOk, IfErr};
 ghost use Rattle.serde_json.specs.View.{view};
 ghost use Rattle.adr_text.specs.Faults.{Finds};
 ghost use Rattle.adr_text.specs.Fields.{member_of, required, optional};
-ghost use Rattle.adr_text.specs.declared.fault.Fault.TheVariants.{OutOfMemory as Wanting};
 ghost use Rattle.adr_text.specs.declared.refusal.Refusal.TheVariants.{OutOfMemory, BadShape};
-ghost use Rattle.std.specs.declared.net.socket_addr.SocketAddr.{SocketAddr as Address};
+ghost use Rattle.adr_config.specs.Callbacks.{FindsNone};
 ghost use Rattle.adr_config.specs.Members.{limit_in};
 ghost use Rattle.adr_config.specs.Grants.{roles_in};
 ghost use Rattle.adr_config.specs.declared.config.Config.{Config as Configuration};
-ghost use Rattle.adr_config.specs.Configs.{upstream_in, settings_in, config_at, Listens, Says, IsConfig};
+ghost use Rattle.adr_config.specs.Configs.{upstream_in, settings_in, config_at, Listens, SaysAt, Says, IsConfig};
 
+use crate::callbacks::callbacks;
 use crate::config::Config;
 use crate::grants::roles;
 use crate::limits::limits;
 use crate::members::limit;
 use adr_http::Roles;
 use adr_link::Upstream;
+use adr_network::Networks;
 use adr_state::{Limit, Limits, Settings};
 use adr_subscription::FreeText;
 use adr_text::{Fault, Refusal, maybe, member, needed, read_value};
@@ -78,10 +79,15 @@ fn stop_after(value: &Value) -> Result<Option<Limit<4_294_967_295>>, Fault>
     }
 }
 
-/// The configuration of a node that listens there.
+/// The configuration of a node that listens there, and lets addresses in those networks be called.
 #[tactic(auto, unfolding(crate::specs::Configs::config_at))]
-fn config_at(alloc: Global, listen: SocketAddr, value: &Value) -> Result<Config, Fault>
-    ensures { Finds (λ c. c) result (config_at listen (view value.now)) }
+fn config_at(
+    alloc: Global,
+    listen: SocketAddr,
+    callbacks: Networks,
+    value: &Value,
+) -> Result<Config, Fault>
+    ensures { Finds (λ c. c) result (config_at listen callbacks (view value.now)) }
 {
     let upstream = upstream(alloc, value)?;
     let settings = settings(alloc, value)?;
@@ -92,6 +98,7 @@ fn config_at(alloc: Global, listen: SocketAddr, value: &Value) -> Result<Config,
     Ok(Config {
         listen,
         upstream,
+        callbacks,
         settings,
         poll,
         workers,
@@ -103,20 +110,32 @@ fn config_at(alloc: Global, listen: SocketAddr, value: &Value) -> Result<Config,
 /// Where it listens: an IP address, a colon and a port.
 fn listen(alloc: Global, value: &Value) -> Result<SocketAddr, Fault>
     ensures ok { IfOk result (Listens (view value.now)) }
-    ensures err { IfErr result (λ e. (e ≡ Wanting) ⊎ ((address : Address) → ¬ (Listens (view value.now) address))) }
+    ensures err { IfErr result (λ e. FindsNone e (Listens (view value.now))) }
 {
     let text: FreeText = needed(alloc, value, "listen")?;
     text.as_str().parse().map_err(|_| Fault::BadShape)
 }
 
+/// The configuration of a node that listens there.
+#[tactic(auto, using(crate::proofs::Calling::says_at, crate::proofs::Calling::says_none_at))]
+fn config_listening(alloc: Global, listen: SocketAddr, value: &Value) -> Result<Config, Fault>
+    ensures ok { IfOk result (SaysAt listen (view value.now)) }
+    ensures err { IfErr result (λ e. FindsNone e (SaysAt listen (view value.now))) }
+{
+    match callbacks(alloc, value) {
+        Ok(callbacks) => config_at(alloc, listen, callbacks, value),
+        Err(fault) => Err(fault),
+    }
+}
+
 /// The configuration that a JSON value says.
-#[tactic(auto, using(crate::proofs::Listening::says_by, crate::proofs::Listening::says_none))]
+#[tactic(auto, using(crate::proofs::Listening::says_by))]
 fn config(alloc: Global, value: &Value) -> Result<Config, Fault>
     ensures ok { IfOk result (Says (view value.now)) }
-    ensures err { IfErr result (λ e. (e ≡ Wanting) ⊎ ((config : Configuration) → ¬ (Says (view value.now) config))) }
+    ensures err { IfErr result (λ e. FindsNone e (Says (view value.now))) }
 {
     match listen(alloc, value) {
-        Ok(listen) => config_at(alloc, listen, value),
+        Ok(listen) => config_listening(alloc, listen, value),
         Err(fault) => Err(fault),
     }
 }
@@ -125,7 +144,7 @@ fn config(alloc: Global, value: &Value) -> Result<Config, Fault>
 #[tactic(auto, using(crate::proofs::Listening::no_value))]
 fn config_of(alloc: Global, bytes: &[u8]) -> Result<Config, Fault>
     ensures ok { IfOk result (IsConfig bytes.now) }
-    ensures err { IfErr result (λ e. (e ≡ Wanting) ⊎ ((config : Configuration) → ¬ (IsConfig bytes.now config))) }
+    ensures err { IfErr result (λ e. FindsNone e (IsConfig bytes.now)) }
 {
     match read_value(alloc, bytes) {
         Ok(value) => config(alloc, &value),

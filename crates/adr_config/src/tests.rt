@@ -1,16 +1,20 @@
 //! What no clause says: that an example is read, that each wrong member is refused, and by which words the members go.
 use crate::config::Config;
+use adr_http::Roles;
 use adr_machine::Role;
+use adr_network::Networks;
 use adr_state::{Limits, Settings};
 use adr_text::Refusal;
 use std::alloc::{AllocError, Global};
+use std::net::{IpAddr, SocketAddr};
 use std::test::Fail;
 
 /// The members of an example, each with its value.
-const MEMBERS: [(&str, &str); 9] = [
+const MEMBERS: [(&str, &str); 10] = [
     ("listen", "\"127.0.0.1:8080\""),
     ("upstream", "\"http://127.0.0.1:8081/openadr3\""),
     ("upstreamToken", "\"up\""),
+    ("callbacks", "[\"10.20.0.0/16\",\"::1/128\"]"),
     ("clientName", "\"aggregator\""),
     ("poll", "3600"),
     ("workers", "16"),
@@ -121,6 +125,27 @@ const MORE: [(&str, &str); 5] = [
     ("stopAfter", "null"),
 ];
 
+/// Values of `callbacks` that are refused.
+const NO_NETWORKS: [&str; 8] = [
+    "{}",
+    "true",
+    "\"10.20.0.0/16\"",
+    "[7]",
+    "[null]",
+    "[\"10.20.0.0\"]",
+    "[\"10.20.3.4/16\"]",
+    "[\"::1/128\",\"localhost/8\"]",
+];
+
+/// Values of `callbacks`, an address, and whether it may be called.
+const CALLS: [(&str, &str, bool); 5] = [
+    ("null", "127.0.0.1", true),
+    ("[]", "127.0.0.1", false),
+    ("[\"0.0.0.0/0\"]", "127.0.0.1", true),
+    ("[\"192.0.2.7/32\"]", "192.0.2.6", false),
+    ("[\"::/0\"]", "::ffff:127.0.0.1", false),
+];
+
 /// Texts that are no object.
 const NO_OBJECTS: [&str; 7] = ["", "{", "[]", "7", "null", "\"listen\"", "{\"poll\":1}}"];
 
@@ -170,31 +195,92 @@ fn is_refused(alloc: Global, other: &str, value: Option<&str>) -> bool {
     matches!(read(alloc, other, value), Err(Refusal::BadShape))
 }
 
-fn has_client(settings: &Settings) -> bool {
+fn is_example_of_settings(settings: &Settings) -> bool {
     settings.client.as_str() == "aggregator"
+        && settings.limits.vens.get() == 7
+        && settings.limits.trail.get() == 1_000_000
+        && settings.limits.keys.get() == 100_000
+}
+
+fn is_example_of_roles(roles: &Roles) -> bool {
+    matches!(roles.find(b"t0"), Some(Role::Operator))
+        && matches!(roles.find(b"u0"), Some(Role::Utility))
+        && matches!(roles.find(b"v0"), Some(Role::Ven(id)) if id.as_str() == "v1")
+        && roles.find(b"v1").is_none()
+}
+
+fn is_example_of_counts(config: &Config) -> bool {
+    config.poll.get() == 3600
+        && config.workers.get() == 16
+        && config.stop_after.map(|most| most.get()) == Some(2)
+}
+
+fn listens_there(config: &Config) -> bool {
+    match "127.0.0.1:8080".parse::<SocketAddr>() {
+        Ok(address) => config.listen == address,
+        Err(_) => false,
+    }
+}
+
+/// Whether the address may be called.
+fn allows(networks: &Networks, address: &str) -> bool {
+    match address.parse::<IpAddr>() {
+        Ok(address) => networks.allow(&address),
+        Err(_) => false,
+    }
+}
+
+fn is_example_of_callbacks(networks: &Networks) -> bool {
+    allows(networks, "10.20.3.4")
+        && allows(networks, "::ffff:10.20.3.4")
+        && allows(networks, "::1")
+        && !allows(networks, "10.21.3.4")
+        && !allows(networks, "127.0.0.1")
+}
+
+/// Whether it says what the example does.
+fn is_example(config: &Config) -> bool {
+    listens_there(config)
+        && is_example_of_callbacks(&config.callbacks)
+        && is_example_of_settings(&config.settings)
+        && is_example_of_counts(config)
+        && is_example_of_roles(&config.roles)
 }
 
 #[test]
 fn an_example(rt: HostRuntime) -> Result<(), Fail> {
     let alloc = rt.alloc();
     let config = read(alloc, "stopAfter", Some("2"))?;
-    assert_eq!(rt;
-        config.listen,
-        "127.0.0.1:8080".parse().map_err(|_| "address")?
-    );
+    assert!(rt; is_example(&config));
     assert_eq!(rt; config.upstream.endpoint(alloc)?.as_str(), "127.0.0.1:8081");
-    assert!(rt; has_client(&config.settings));
-    assert_eq!(rt; config.settings.limits.vens.get(), 7);
-    assert_eq!(rt; config.settings.limits.trail.get(), 1_000_000);
-    assert_eq!(rt; config.settings.limits.keys.get(), 100_000);
-    assert_eq!(rt; config.poll.get(), 3600);
-    assert_eq!(rt; config.workers.get(), 16);
-    assert!(rt; matches!(config.roles.find(b"t0"), Some(Role::Operator)));
-    assert!(rt; matches!(config.roles.find(b"u0"), Some(Role::Utility)));
-    assert!(rt; matches!(config.roles.find(b"v0"), Some(Role::Ven(id)) if id.as_str() == "v1"));
-    assert!(rt; config.roles.find(b"v1").is_none());
-    assert_eq!(rt; config.stop_after.map(|most| most.get()), Some(2));
     Ok(())
+}
+
+/// Whether the address may be called, where the example says that of `callbacks`.
+fn calls(alloc: Global, value: Option<&str>, address: &str) -> Result<bool, Refusal> {
+    let config = read(alloc, "callbacks", value)?;
+    Ok(allows(&config.callbacks, address))
+}
+
+#[test]
+fn who_may_be_called(rt: HostRuntime) {
+    let alloc = rt.alloc();
+    assert!(rt; matches!(calls(alloc, None, "127.0.0.1"), Ok(true)));
+    for (value, address, may) in CALLS {
+        let answer = calls(alloc, Some(value), address);
+        assert!(rt;
+            matches!(answer, Ok(answer) if answer == may),
+            "{value}: {address}"
+        );
+    }
+}
+
+#[test]
+fn what_names_no_networks(rt: HostRuntime) {
+    let alloc = rt.alloc();
+    for value in NO_NETWORKS {
+        assert!(rt; is_refused(alloc, "callbacks", Some(value)), "{value}");
+    }
 }
 
 #[test]

@@ -1,3 +1,1 @@
-mod Outcomes
-mod Replied
-mod Deliveries
+pub mod Deliveries

@@ -1,5 +1,4 @@
 pub mod Addresses
-pub mod Passes
+pub mod Crews
 pub mod Outcomes
-pub mod Replies
 pub mod Deliveries

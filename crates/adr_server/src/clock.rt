@@ -3,8 +3,8 @@ ghost use Rattle.std.specs.Prelude.{◌≡◌, min};
 ghost use Rattle.std.specs.Duration.{as_nanos};
 ghost use Rattle.adr_text.specs.Moments.{last_nanos};
 
+use adr_lock::Clock;
 use adr_text::Moment;
-use adr_work::Clock;
 use std::sync::Wait;
 use std::time;
 use std::time::{Duration, SystemTime};

@@ -1,14 +1,13 @@
-//! The node over sockets: it listens, serves each connection on a thread of its own, asks the utility in rounds, and sends
+//! The node over sockets: it listens, serves connections on some threads, asks the utility in rounds, and sends
 //! its outbox.
 #![tactic(auto)]
 
-mod again;
-mod bell;
 mod clock;
 mod connection;
+mod crew;
 mod delivery;
-mod front;
 mod gate;
+mod office_taker;
 mod paced;
 mod poller;
 mod server;

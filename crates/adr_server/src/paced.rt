@@ -1,5 +1,5 @@
 //! Streams on which nobody waits long.
-ghost use Rattle.std.specs.Prelude.{◌≤◌, IfOk};
+ghost use Rattle.std.specs.Prelude.{◌≡◌, ◌≤◌, IfOk};
 ghost use Rattle.std.specs.Duration.{as_nanos};
 
 use std::io;
@@ -7,40 +7,45 @@ use std::io::{ErrorKind, Read, Write};
 use std::net::TcpStream;
 use std::time::{Clock, Duration, Instant};
 
-/// How long each call may wait, and how long all of them together.
+/// How long each call may wait, and how long all of them together, from the first one on.
 #[derive(Clone, Copy)]
-pub struct Pace {
-    pub each: Duration,
-    pub whole: Duration,
-}
-
-/// A pace that has begun. What is called under it ends with it.
-#[derive(Drop)]
-pub struct Term<'a, T: Clock> {
-    time: &'a T,
+pub struct Term {
     each: Duration,
-    until: Instant,
+    whole: Duration,
+    until: Option<Instant>,
 }
 
-impl<'a, T: Clock> Term<'a, T> {
-    /// The pace begins now.
-    pub fn begin(time: &'a T, pace: Pace) -> io::Result<Term<'a, T>> {
-        let until = Instant::now(time)?
-            .checked_add(pace.whole)
+impl Term {
+    /// Nothing has been called yet.
+    pub fn new(each: Duration, whole: Duration) -> Term {
+        Term {
+            each,
+            whole,
+            until: None,
+        }
+    }
+
+    /// When it is over. It begins here, if it has not begun.
+    fn until(&mut self, now: Instant) -> io::Result<Instant>
+        ensures { self.new.each ≡ self.old.each }
+    {
+        if let Some(until) = self.until {
+            return Ok(until);
+        }
+        let until = now
+            .checked_add(self.whole)
             .ok_or(io::Error::from(ErrorKind::InvalidInput))?;
-        Ok(Term {
-            time,
-            each: pace.each,
-            until,
-        })
+        self.until = Some(until);
+        Ok(until)
     }
 
     /// How long the next call may wait.
-    pub fn wait(&self) -> io::Result<Duration>
-        ensures { IfOk result (λ wait. as_nanos wait ≤ as_nanos self.now.each) }
+    pub fn wait<T: Clock>(&mut self, time: &T) -> io::Result<Duration>
+        ensures { IfOk result (λ wait. as_nanos wait ≤ as_nanos self.old.each) }
     {
-        let now = Instant::now(self.time)?;
-        match self.until.checked_duration_since(now) {
+        let now = Instant::now(time)?;
+        let until = self.until(now)?;
+        match until.checked_duration_since(now) {
             Some(left) if left > Duration::ZERO => Ok(left.min(self.each)),
             _ => Err(io::Error::from(ErrorKind::TimedOut)),
         }
@@ -50,13 +55,15 @@ impl<'a, T: Clock> Term<'a, T> {
 /// A stream whose reads and writes fail once they have waited too long.
 #[derive(Drop)]
 pub struct Paced<'a, T: Clock> {
-    pub term: &'a Term<'a, T>,
+    pub time: &'a T,
     pub stream: &'a TcpStream,
+    pub term: Term,
 }
 
 impl<T: Clock> Read for Paced<'_, T> {
     fn read(&mut self, buf: &mut [u8]) -> io::Result<usize> {
-        self.stream.set_read_timeout(Some(self.term.wait()?))?;
+        let wait = self.term.wait(self.time)?;
+        self.stream.set_read_timeout(Some(wait))?;
         let mut stream = self.stream;
         stream.read(buf)
     }
@@ -64,7 +71,8 @@ impl<T: Clock> Read for Paced<'_, T> {
 
 impl<T: Clock> Write for Paced<'_, T> {
     fn write(&mut self, buf: &[u8]) -> io::Result<usize> {
-        self.stream.set_write_timeout(Some(self.term.wait()?))?;
+        let wait = self.term.wait(self.time)?;
+        self.stream.set_write_timeout(Some(wait))?;
         let mut stream = self.stream;
         stream.write(buf)
     }

@@ -1,8 +1,9 @@
 //! The rounds in which the utility is asked.
 use adr_book::{Office, Pass};
 use adr_link::Upstream;
+use adr_lock::Clock;
 use adr_machine::Desk;
-use adr_work::{Clock, Gate, poll_round};
+use adr_work::{Gate, poll_round};
 use std::alloc::Global;
 use std::sync::Wait;
 use std::sync::atomic::{AtomicBool, Ordering};

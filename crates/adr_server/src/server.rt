@@ -1,18 +1,17 @@
 //! The node as a server.
-ghost use Rattle.std.specs.Prelude.{◌≡◌, ◌+◌, ◌*◌, ◌<◌, IfOk, length};
-ghost use Rattle.adr_server.specs.Passes.{passes_of};
+ghost use Rattle.std.specs.Prelude.{◌≡◌, ◌+◌, ◌*◌, IfOk, length};
 
-use crate::front::{Front, Served, serve_on};
-use crate::gate::SocketGate;
+use crate::crew::{Crew, Served};
+use crate::gate::{Peers, SocketGate, StoppedGate};
 use crate::poller::poll_loop;
 use crate::shared::Shared;
 use adr_book::{Office, Pass};
 use adr_config::Config;
 use adr_desk::MemoryDesk;
-use adr_link::Upstream;
+use adr_lock::Clock;
 use adr_machine::Desk;
 use adr_text::Refusal;
-use adr_work::{Clock, JobQueue, start, stop};
+use adr_work::{JobQueue, ROOM, start, stop};
 use std::alloc::{AllocError, AllocFailed, Global};
 use std::marker::Brand;
 use std::net::{Net, TcpListener, TcpStream};
@@ -55,43 +54,31 @@ impl<T: Drop> From<AllocFailed<T>> for NodeFault {
     }
 }
 
-/// The capacity of the queue between the dispatcher and the senders.
-const ROOM: usize = 16;
-
 /// How long the node rests after it could not accept or serve a connection, in milliseconds.
 const REST: u64 = 10;
 
-// Accepts connections, so many where that is said. One that memory is wanting for is dropped, and then the node rests, as
-// where none could be accepted.
-fn accept_each<D, L, C, R>(
-    rt: R,
-    alloc: Global,
-    served: &Served<D, L, C>,
+// Accepts connections, so many where that is said, and puts each for the threads. One that memory is wanting for is
+// dropped, and then the node rests, as where none could be accepted.
+fn accept_each<L: Ledger, R: Wait + time::Clock>(
+    rt: &R,
     listener: &TcpListener,
-    front: &mut Front<L>,
+    crew: &Crew<L>,
     most: Option<u64>,
-)
-where
-    D: Desk + Drop + Send + 'static,
-    L: Ledger + Send + Sync + 'static,
-    C: Clock + Drop + Send + Sync + 'static,
-    R: Threads + Wait + time::Clock + Copy + Send + 'static,
-    ensures { passes_of front.new ≡ passes_of front.old }
-{
+) {
     let mut accepted = 0u64;
     for _ in rt.forever() {
         if most == Some(accepted) {
             break;
         }
-        let is_served = match listener.accept() {
+        let is_put = match listener.accept() {
             Ok((stream, _)) => {
                 accepted = accepted.saturating_add(1);
-                serve_on(rt, alloc, served, front, stream).is_ok()
+                crew.put(rt, stream)
             }
             Err(_) => false,
         };
-        if !is_served {
-            thread::sleep(&rt, Duration::from_millis(REST));
+        if !is_put {
+            thread::sleep(rt, Duration::from_millis(REST));
         }
     }
 }
@@ -111,24 +98,20 @@ where
     C: Clock + Drop + Send + Sync + 'static,
     R: Threads + Wait + time::Clock + Copy + Send + 'static,
 {
-    let mut front = Front::new(alloc, passes)?;
-    accept_each(rt, alloc, served, listener, &mut front, most);
-    front.join(&rt);
+    let crew = Crew::start(rt, alloc, served, passes)?;
+    accept_each(&rt, listener, &crew, most);
+    crew.stop(&rt);
     Ok(())
 }
 
-fn gate<R>(
-    rt: R,
-    alloc: Global,
-    upstream: &Arc<Upstream, Global>,
-) -> Result<SocketGate<R>, AllocError>
+fn gate<R>(rt: R, alloc: Global, peers: &Arc<Peers, Global>) -> Result<SocketGate<R>, AllocError>
 where
     R: Net<Listener = TcpListener, Stream = TcpStream> + time::Clock + Copy + Drop,
 {
     Ok(SocketGate {
         net: rt,
         alloc,
-        upstream: Arc::try_clone(upstream)?,
+        peers: Arc::try_clone(peers)?,
     })
 }
 
@@ -136,7 +119,7 @@ where
 fn gates<R>(
     rt: R,
     alloc: Global,
-    upstream: &Arc<Upstream, Global>,
+    peers: &Arc<Peers, Global>,
     count: u64,
 ) -> Result<Vec<SocketGate<R>>, AllocError>
 where
@@ -145,7 +128,7 @@ where
 {
     let mut gates = Vec::new(alloc);
     for _i in 0..count {
-        gates.push(gate(rt, alloc, upstream)?)?;
+        gates.push(gate(rt, alloc, peers)?)?;
     }
     Ok(gates)
 }
@@ -155,7 +138,7 @@ fn poller<D, L, C, R>(
     rt: R,
     alloc: Global,
     served: &Served<D, L, C>,
-    upstream: &Arc<Upstream, Global>,
+    peers: &Arc<Peers, Global>,
     stopped: &Arc<AtomicBool, Global>,
     seconds: u64,
     pass: Pass<L>,
@@ -176,11 +159,22 @@ where
     let office = Arc::try_clone(&served.office)?;
     let clock = Arc::try_clone(&served.clock)?;
     let stopped = Arc::try_clone(stopped)?;
-    let gate = gate(rt, alloc, upstream)?;
-    let upstream = Arc::try_clone(upstream)?;
+    let gate = StoppedGate {
+        gate: gate(rt, alloc, peers)?,
+        stopped: Arc::try_clone(&stopped)?,
+    };
+    let peers = Arc::try_clone(peers)?;
     let work = move || -> Pass<L> {
         poll_loop(
-            &rt, alloc, &*office, &gate, &*upstream, &*clock, seconds, &*stopped, pass,
+            &rt,
+            alloc,
+            &*office,
+            &gate,
+            &peers.upstream,
+            &*clock,
+            seconds,
+            &*stopped,
+            pass,
         )
     };
     Ok(thread::spawn(&rt, work)?)
@@ -192,6 +186,14 @@ fn shared(alloc: Global, config: &Config) -> Result<Shared, AllocError> {
         alloc,
         roles: config.roles.copy(alloc)?,
         client: config.settings.client.clone()?,
+    })
+}
+
+// Whom the node calls.
+fn peers(config: &Config) -> Result<Peers, AllocError> {
+    Ok(Peers {
+        upstream: config.upstream.copy()?,
+        callbacks: config.callbacks.copy()?,
     })
 }
 
@@ -233,14 +235,14 @@ where
         shared: Arc::new(alloc, shared(alloc, config)?)?,
         clock: Arc::new(alloc, clock)?,
     };
-    let upstream = Arc::new(alloc, config.upstream.copy()?)?;
+    let peers = Arc::new(alloc, peers(config)?)?;
     let stopped = Arc::new(alloc, AtomicBool::new(false))?;
     let Some(pass) = passes.pop() else {
         unreachable!()
     };
     let sending = passes.split_off(count as usize)?;
     let (queue, whole) = JobQueue::new(alloc, ROOM)?;
-    let gates = gates(rt, alloc, &upstream, count)?;
+    let gates = gates(rt, alloc, &peers, count)?;
     let workers = start(
         rt,
         alloc,
@@ -253,7 +255,7 @@ where
     )?;
     let seconds = config.poll.get();
     let most = config.stop_after.map(|most| most.get());
-    let poller = poller(rt, alloc, &served, &upstream, &stopped, seconds, pass);
+    let poller = poller(rt, alloc, &served, &peers, &stopped, seconds, pass);
     let ended = match &poller {
         Ok(_) => accept_all(rt, alloc, &served, &listener, passes, most),
         Err(_) => Err(AllocError),
@@ -267,8 +269,8 @@ where
     Ok(ended?)
 }
 
-/// Serves by a configuration and a clock: connections, each on a thread of its own, rounds of polling the utility, and
-/// the outbox, until it has accepted as many connections as the configuration says, or for ever.
+/// Serves by a configuration and a clock: connections, on so many threads, rounds of polling the utility, and the outbox,
+/// until it has accepted as many connections as the configuration says, or for ever.
 pub fn serve_with<C, R>(rt: R, alloc: Global, config: &Config, clock: C) -> Result<(), NodeFault>
 where
     C: Clock + Drop + Send + Sync + 'static,

@@ -1,14 +1,21 @@
 //! Days over loopback, of what no clause can say: that connections are served side by side and to their end, and that a
 //! peer who does not do its part holds up no other.
-use crate::gate::address_of;
+use crate::gate::{Peers, SocketGate, StoppedGate, address_of};
 use crate::{HostClock, NodeFault, serve_with};
 use adr_config::Config;
-use adr_text::Moment;
-use adr_work::Clock;
+use adr_delivery::{Job, JobMethod};
+use adr_link::{LinkFault, Outcome, Upstream};
+use adr_lock::Clock;
+use adr_network::{Network, Networks};
+use adr_objects::Number;
+use adr_subscription::FreeText;
+use adr_text::{Moment, Rows};
+use adr_work::Gate;
 use std::alloc::Global;
 use std::io::{Read, Write};
 use std::net::{Net, Shutdown, SocketAddr, TcpListener, TcpStream};
-use std::sync::Wait;
+use std::sync::atomic::AtomicBool;
+use std::sync::{Arc, Wait};
 use std::test::Fail;
 use std::thread::{JoinHandle, Threads};
 use std::time::{Duration, Instant};
@@ -279,6 +286,115 @@ fn addresses(rt: HostRuntime) -> Result<(), Fail> {
     ] {
         assert!(rt; address_of(alloc, none).is_none());
     }
+    Ok(())
+}
+
+/// The networks in which addresses may be called: that one, or none.
+fn networks(alloc: Global, network: Option<&str>) -> Result<Networks, Fail> {
+    let mut only = Rows::new(alloc);
+    if let Some(network) = network {
+        only.push(Network::read(network).ok_or("a network")?)?;
+    }
+    Ok(Networks::of(only))
+}
+
+fn gate<R>(rt: R, alloc: Global, upstream: &str, callbacks: Networks) -> Result<SocketGate<R>, Fail>
+where
+    R: Net<Listener = TcpListener, Stream = TcpStream> + time::Clock + Copy + Drop,
+{
+    let peers = Peers {
+        upstream: Upstream::new(alloc, upstream, None)?,
+        callbacks,
+    };
+    Ok(SocketGate {
+        net: rt,
+        alloc,
+        peers: Arc::new(alloc, peers)?,
+    })
+}
+
+/// A job for a subscription, or for the utility, which is 0.
+fn job(alloc: Global, destination: u64, target: &str) -> Result<Job, Fail> {
+    Ok(Job {
+        entry: Number::new(7),
+        lease: 1,
+        destination: Number::new(destination),
+        method: JobMethod::Post,
+        target: FreeText::new(alloc, target)?,
+        token: None,
+        body: FreeText::new(alloc, "{}")?,
+    })
+}
+
+/// Answers so many connections, each by a 200 to whatever it asks.
+fn answer_each(listener: &TcpListener, count: u32) -> io::Result<()> {
+    for _ in 0..count {
+        let (mut stream, _) = listener.accept()?;
+        let mut asked = [0u8; 4096];
+        let _ = stream.read(&mut asked)?;
+        stream.write_all(b"HTTP/1.1 200 OK\r\nContent-Length: 2\r\n\r\n{}")?;
+    }
+    Ok(())
+}
+
+/// A subscription is called in the networks that are named alone, and the utility wherever it is. Nobody is called once
+/// the node is to stop.
+#[test]
+fn who_may_be_called(rt: HostRuntime) -> Result<(), Fail> {
+    let alloc = rt.alloc();
+    let listener = TcpListener::bind(&rt, "127.0.0.1:0")?;
+    let at = listener.local_addr()?;
+    let answers = match thread::spawn(&rt, move || answer_each(&listener, 2).is_ok()) {
+        Ok(handle) => handle,
+        Err(_) => return Err(Fail::new("no thread")),
+    };
+    let address = format!(in alloc; "http://{at}/n")?;
+    let subscriber = job(alloc, 6, address.as_str())?;
+    let none = gate(rt, alloc, address.as_str(), networks(alloc, None)?)?;
+    assert!(rt;
+        matches!(
+            none.send(&rt, &subscriber),
+            Outcome::Failed { forget: false }
+        )
+    );
+    let other = gate(
+        rt,
+        alloc,
+        address.as_str(),
+        networks(alloc, Some("127.0.0.2/32"))?,
+    )?;
+    assert!(rt;
+        matches!(
+            other.send(&rt, &subscriber),
+            Outcome::Failed { forget: false }
+        )
+    );
+    let utility = job(alloc, 0, "/reports")?;
+    assert!(rt; matches!(none.send(&rt, &utility), Outcome::Sent(_)));
+    let stopped = StoppedGate {
+        gate: gate(rt, alloc, address.as_str(), Networks::any())?,
+        stopped: Arc::new(alloc, AtomicBool::new(true))?,
+    };
+    assert!(rt;
+        matches!(
+            stopped.send(&rt, &subscriber),
+            Outcome::Failed { forget: false }
+        )
+    );
+    assert!(rt;
+        matches!(
+            stopped.fetch(&rt, b"GET / HTTP/1.1\r\n\r\n"),
+            Err(LinkFault::Read)
+        )
+    );
+    let own = gate(
+        rt,
+        alloc,
+        address.as_str(),
+        networks(alloc, Some("127.0.0.0/8"))?,
+    )?;
+    assert!(rt; matches!(own.send(&rt, &subscriber), Outcome::Sent(None)));
+    assert!(rt; answers.join(&rt));
     Ok(())
 }
 

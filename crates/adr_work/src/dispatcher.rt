@@ -7,11 +7,11 @@ ghost use Rattle.adr_book.specs.Words.{seen_by};
 ghost use Rattle.adr_work.specs.Seats.{IsSeatOf, OnlyPuts};
 
 use crate::crew::Ended;
-use crate::gate::Clock;
 use crate::leased::job_in;
 use crate::queue::{JobQueue, Seat};
 use adr_book::{Office, Pass};
 use adr_delivery::Job;
+use adr_lock::{Call, Clock, take_under_lock};
 use adr_machine::{Answer, Command, Desk, Query, Role};
 use adr_text::Refusal;
 use std::sync::Wait;
@@ -28,9 +28,8 @@ fn lease<D: Desk + Drop, L: Ledger, C: Clock, R: Wait>(
 ) -> Result<Option<Job>, Refusal>
     ensures { IfErr result (MayRefuse D.may_refuse (seen_by pass.new) Lease) }
 {
-    let now = clock.now(rt);
-    let receipt = office.book.lock(rt).step(pass, now, &Command::Lease)?;
-    Ok(job_in(&receipt.answer)?)
+    let answer = take_under_lock(rt, office, clock, pass, Call::Step(&Command::Lease))?;
+    Ok(job_in(&answer)?)
 }
 
 /// Leases jobs and puts each into the queue, outside the lock, while the queue is open and has room and a job is due. A
@@ -60,17 +59,18 @@ pub fn dispatch<D: Desk + Drop, L: Ledger, C: Clock, R: Wait>(
 }
 
 /// Whether an entry waits in the outbox. It takes no turn, as a lease does that finds none. Where that is refused, one may.
-fn may_wait<D: Desk + Drop, L: Ledger, R: Wait>(
+fn may_wait<D: Desk + Drop, L: Ledger, C: Clock, R: Wait>(
     rt: &R,
     office: &Office<D, L>,
+    clock: &C,
     pass: &mut Pass<L>,
 ) -> bool {
     let query = Query::Outbox {
         role: Role::Operator,
     };
-    let looked = office.book.lock(rt).look(pass, query);
+    let looked = take_under_lock(rt, office, clock, pass, Call::Look(&query));
     match &looked {
-        Ok((_, Answer::Counts(counts))) => 0 < counts.pending,
+        Ok(Answer::Counts(counts)) => 0 < counts.pending,
         _ => true,
     }
 }
@@ -92,7 +92,7 @@ pub fn dispatch_loop<D: Desk + Drop, L: Ledger, C: Clock, R: Wait + time::Clock>
         let Some(seen) = queue.ends(rt) else {
             break;
         };
-        if may_wait(rt, office, &mut pass) {
+        if may_wait(rt, office, clock, &mut pass) {
             let _ = dispatch(rt, office, queue, clock, &mut pass, &mut seat);
         }
         queue.wait_for_end(rt, seen);

@@ -1,7 +1,6 @@
-//! What the work rests on: where requests are sent to, and what time it is.
+//! Where requests are sent to.
 use adr_delivery::Job;
 use adr_link::{HttpReply, LinkFault, Outcome};
-use adr_text::Moment;
 use std::sync::Wait;
 
 /// Where jobs and requests are sent.
@@ -11,11 +10,4 @@ pub trait Gate {
 
     /// Sends the bytes of a request to the utility, and gives the reply, or the fault where none came.
     fn fetch<R: Wait>(&self, rt: &R, request: &[u8]) -> Result<HttpReply, LinkFault>;
-}
-
-/// Tells what time it is.
-pub trait Clock {
-    /// The present moment. Of a time out of range the nearest moment is given, and the first one where the clock cannot
-    /// be read.
-    fn now<R: Wait>(&self, rt: &R) -> Moment;
 }

@@ -4,10 +4,11 @@ ghost use Rattle.adr_work.specs.Refused.{MayRefuseSome, Refuses};
 ghost use Rattle.adr_work.specs.BookRounds.{commands_in};
 
 use crate::asker::Asker;
-use crate::gate::{Clock, Gate};
+use crate::gate::Gate;
 use crate::teller::Teller;
 use adr_book::{Book, Office, Pass};
 use adr_link::{HttpReply, LinkFault};
+use adr_lock::{Call, Clock, take_under_lock};
 use adr_machine::{Answer, Command, Desk};
 use adr_text::{Refusal, Rows};
 use http_server::Log;
@@ -48,14 +49,15 @@ impl<D: Desk + Drop, L: Ledger, C: Clock, R: Wait> Teller for OfficeTeller<'_, D
     ghost refuses = { λ t command refusal. MayRefuseSome D.may_refuse command refusal };
 
     fn tell(&mut self, command: &Command) -> Result<Answer, Refusal> {
-        let now = self.clock.now(self.rt);
-        let receipt = self
-            .office
-            .book
-            .lock(self.rt)
-            .step(self.pass, now, command)?;
-        self.log = self.log.and(command, &receipt.answer);
-        Ok(receipt.answer)
+        let answer = take_under_lock(
+            self.rt,
+            self.office,
+            self.clock,
+            self.pass,
+            Call::Step(command),
+        )?;
+        self.log = self.log.and(command, &answer);
+        Ok(answer)
     }
 }
 
@@ -77,8 +79,8 @@ impl<D: Desk + Drop, L: Ledger, C: Clock, R: Wait> Teller for BookTeller<'_, D, 
     #[tactic(auto, using(crate::proofs::Refusing::refuses_same))]
     fn tell(&mut self, command: &Command) -> Result<Answer, Refusal> {
         let now = self.clock.now(self.rt);
-        let receipt = self.book.step(&mut self.pass, now, command)?;
-        self.log = self.log.and(command, &receipt.answer);
-        Ok(receipt.answer)
+        let answer = self.book.take(&mut self.pass, now, command)?;
+        self.log = self.log.and(command, &answer);
+        Ok(answer)
     }
 }

@@ -4,12 +4,13 @@ ghost use Rattle.adr_work.specs.BookRounds.{KeepsRound};
 ghost use Rattle.adr_work.specs.Refused.{MayRefuseSome, Refuses, EndsBy};
 
 use crate::asker::Asker;
-use crate::gate::{Clock, Gate};
+use crate::gate::Gate;
 use crate::line::{BookTeller, GateAsker, OfficeTeller};
 use crate::page::PollEnd;
 use crate::polling::poll;
 use adr_book::{Book, Office, Pass};
 use adr_link::Upstream;
+use adr_lock::Clock;
 use adr_machine::Desk;
 use adr_text::Refusal;
 use http_server::Log;

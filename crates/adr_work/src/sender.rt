@@ -4,11 +4,12 @@ ghost use Rattle.crossbeam_queue.specs.Passes.{view};
 ghost use Rattle.adr_work.specs.Seats.{IsSeatOf, OnlyTakes};
 
 use crate::crew::Ended;
-use crate::gate::{Clock, Gate};
+use crate::gate::Gate;
 use crate::queue::{JobQueue, Seat};
 use crate::settlement::settlement_of;
 use adr_book::{Office, Pass};
 use adr_delivery::Job;
+use adr_lock::{Call, Clock, take_under_lock};
 use adr_machine::Desk;
 use std::sync::Wait;
 use std::sync::ledger::Ledger;
@@ -25,8 +26,7 @@ fn deliver<D: Desk + Drop, L: Ledger, G: Gate, C: Clock, R: Wait>(
 ) {
     let outcome = gate.send(rt, job);
     let command = settlement_of(job, outcome);
-    let now = clock.now(rt);
-    let _ = office.book.lock(rt).step(pass, now, &command);
+    let _ = take_under_lock(rt, office, clock, pass, Call::Step(&command));
 }
 
 /// Takes jobs, sends and settles them, until the queue is closed. Once it is, the job in hand is settled, and no further

@@ -8,10 +8,11 @@ ghost use Rattle.adr_work.specs.Crew.{threads_of, queue_of, IsWholeOf};
 
 use crate::crew::{Ended, Handed, Stopped, Thread, Workers};
 use crate::dispatcher::dispatch_loop;
-use crate::gate::{Clock, Gate};
+use crate::gate::Gate;
 use crate::queue::{JobQueue, Seat};
 use crate::sender::send_loop;
 use adr_book::{Office, Pass};
+use adr_lock::Clock;
 use adr_machine::Desk;
 use std::alloc::{AllocError, Global};
 use std::snapshot::Snapshot;
@@ -126,11 +127,13 @@ impl<L: Ledger> Workers<L> {
             mut whole,
             mut threads,
         } = self;
+        // There is room for the thread before it is made: one that is made is joined, come what may.
+        if threads.reserve(1).is_err() {
+            abandon(&rt, &queue, threads);
+            return Err(AllocError);
+        }
         let seat = queue.hand_out(&mut whole);
-        let (Ok(()), Ok(thread)) = (
-            threads.reserve(1),
-            sender(rt, office, &queue, clock, gate, pass, seat),
-        ) else {
+        let Ok(thread) = sender(rt, office, &queue, clock, gate, pass, seat) else {
             abandon(&rt, &queue, threads);
             return Err(AllocError);
         };
@@ -164,11 +167,13 @@ impl<L: Ledger> Workers<L> {
             mut whole,
             mut threads,
         } = self;
+        // There is room for the thread before it is made: one that is made is joined, come what may.
+        if threads.reserve(1).is_err() {
+            abandon(&rt, &queue, threads);
+            return Err(AllocError);
+        }
         let seat = queue.hand_out(&mut whole);
-        let (Ok(()), Ok(thread)) = (
-            threads.reserve(1),
-            dispatcher(rt, office, &queue, clock, pass, seat),
-        ) else {
+        let Ok(thread) = dispatcher(rt, office, &queue, clock, pass, seat) else {
             abandon(&rt, &queue, threads);
             return Err(AllocError);
         };

@@ -1,7 +1,7 @@
 //! Senders work side by side, and outside the lock.
 ghost use Rattle.std.specs.Prelude.{◌≡◌, ◌<◌};
 
-use crate::day::{Day, MOST_LOOKS, Meanwhile, UntilNoneWaits, run_day};
+use crate::day::{Day, Meanwhile, UntilNoneWaits, run_day};
 use crate::desk::{Still, desk_of_jobs, empty_desk, ten, ven};
 use adr_book::{Office, Pass};
 use adr_delivery::Job;
@@ -15,6 +15,7 @@ use std::sync::atomic::{AtomicU64, Ordering};
 use std::sync::ledger::{Blank, Ledger};
 use std::sync::{Arc, Wait};
 use std::test::*;
+use std::time::Duration;
 use std::{thread, time};
 
 /// What has happened so far.
@@ -45,28 +46,35 @@ fn set(flag: &AtomicU64) {
     flag.store(1, Ordering::SeqCst);
 }
 
+/// How often the gate looks before it gives up.
+const MOST_TURNS: u32 = 1_000_000;
+
+/// How long it naps in between, in microseconds: so it gives up after a minute at least, however busy the processors are.
+const NAP: u64 = 50;
+
 // Waits for a flag; gives up in the end.
-fn wait_for(flag: &AtomicU64, tired: &AtomicU64) {
-    for _ in 0..MOST_LOOKS {
+fn wait_for<R: Wait + time::Clock>(rt: &R, flag: &AtomicU64, tired: &AtomicU64) {
+    for _ in 0..MOST_TURNS {
         if is_set(flag) {
             return;
         }
-        thread::yield_now();
+        thread::sleep(rt, Duration::from_micros(NAP));
     }
     set(tired);
 }
 
 /// Holds job 3 until job 4 was sent and a step was answered.
 #[derive(Drop)]
-struct Holding {
+struct Holding<T: Wait + time::Clock + Drop> {
+    rt: T,
     seen: Arc<Seen, Global>,
 }
 
-impl Gate for Holding {
+impl<T: Wait + time::Clock + Drop> Gate for Holding<T> {
     fn send<R: Wait>(&self, _rt: &R, job: &Job) -> Outcome {
         if job.entry.get() == 3 {
-            wait_for(&self.seen.fourth, &self.seen.tired);
-            wait_for(&self.seen.step, &self.seen.tired);
+            wait_for(&self.rt, &self.seen.fourth, &self.seen.tired);
+            wait_for(&self.rt, &self.seen.step, &self.seen.tired);
         } else {
             set(&self.seen.fourth);
         }
@@ -110,11 +118,15 @@ impl Meanwhile for Enrolling {
     }
 }
 
-fn gates(alloc: Global, seen: &Arc<Seen, Global>) -> Result<Vec<Holding>, Refusal> {
+fn gates<T: Wait + time::Clock + Copy + Drop>(
+    rt: T,
+    alloc: Global,
+    seen: &Arc<Seen, Global>,
+) -> Result<Vec<Holding<T>>, Refusal> {
     let mut gates = Vec::new(alloc);
     for _ in 0..2u32 {
         let seen = Arc::try_clone(seen)?;
-        gates.push(Holding { seen })?;
+        gates.push(Holding { rt, seen })?;
     }
     Ok(gates)
 }
@@ -130,7 +142,7 @@ fn two_senders_side_by_side(rt: HostRuntime) -> Result<(), Fail> {
             tired: AtomicU64::new(0),
         },
     )?;
-    let gates = gates(alloc, &seen)?;
+    let gates = gates(rt, alloc, &seen)?;
     assert_eq!(rt; gates.len(), 2);
     let enrolling = Enrolling {
         at: ten()?,

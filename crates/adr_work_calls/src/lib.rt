@@ -6,7 +6,11 @@
 #[cfg(test)]
 mod day;
 #[cfg(test)]
+mod dead;
+#[cfg(test)]
 mod desk;
+#[cfg(test)]
+mod enrolling;
 #[cfg(test)]
 mod failing;
 #[cfg(test)]

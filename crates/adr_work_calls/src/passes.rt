@@ -125,10 +125,24 @@ fn by_two<L: Ledger, R: Wait + Abort>(rt: &R, alloc: Global, blank: Blank) -> Re
         unreachable!()
     };
     take_turns(rt, alloc, &office, &mut first, &mut second)?;
+    let turn = gathered(office, passes, first, second).map_err(|_| "both passes")?;
+    assert_eq!(rt; turn, 2);
+    Ok(())
+}
+
+// What both passes have taken.
+fn gathered<D: Desk + Drop, L: Ledger>(
+    office: Office<D, L>,
+    passes: Vec<Pass<L>>,
+    first: Pass<L>,
+    second: Pass<L>,
+) -> Result<u64, Refusal>
+    requires { (length passes.items ≡ 0) × (L.parts ≡ 2) }
+{
+    let mut passes = passes;
     passes.push(first)?;
     passes.push(second)?;
-    assert_eq!(rt; office.gather(passes), 2);
-    Ok(())
+    Ok(office.gather(passes))
 }
 
 // A step, a look, a step that finds the trail full, and after a new base that step again, whose receipt is audited.

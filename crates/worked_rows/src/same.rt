@@ -2,50 +2,30 @@
 use crate::portfolio::is_same_portfolio;
 use crate::same_outbox::is_same_outbox;
 use adr_machine::Desk;
-use adr_objects::{Body, Stamps, canonical};
+use adr_objects::Stamps;
+use adr_same::Same;
 use adr_state::{Base, Image, Mark, MirrorKey, Polled, State, ViewKey};
 use adr_text::{Refusal, Table};
-use std::alloc::{AllocError, Global};
 
-// Bodies are one where their canonical texts are.
-fn is_same_body(alloc: Global, body: &Body, other: &Body) -> Result<bool, AllocError> {
-    let text = canonical(alloc, body)?;
-    let other = canonical(alloc, other)?;
-    Ok(text.as_str() == other.as_str())
-}
-
-fn is_same_mark(alloc: Global, mark: &Mark, other: &Mark) -> Result<bool, AllocError> {
+fn is_same_mark(mark: &Mark, other: &Mark) -> bool {
     match (mark, other) {
         (Mark::Live(moment, body), Mark::Live(later, version)) => {
-            Ok(moment == later && is_same_body(alloc, body, version)?)
+            moment == later && body.is_same(version)
         }
-        (Mark::Dead, Mark::Dead) => Ok(true),
-        _ => Ok(false),
+        (Mark::Dead, Mark::Dead) => true,
+        _ => false,
     }
 }
 
-fn has_mark(
-    alloc: Global,
-    mirror: &Table<MirrorKey, Mark>,
-    key: &MirrorKey,
-    mark: &Mark,
-) -> Result<bool, AllocError> {
+fn has_mark(mirror: &Table<MirrorKey, Mark>, key: &MirrorKey, mark: &Mark) -> bool {
     match mirror.get(key) {
-        Some(other) => is_same_mark(alloc, mark, other),
-        None => Ok(false),
+        Some(other) => is_same_mark(mark, other),
+        None => false,
     }
 }
 
-fn is_same_mirror(
-    alloc: Global,
-    mirror: &Table<MirrorKey, Mark>,
-    other: &Table<MirrorKey, Mark>,
-) -> Result<bool, AllocError> {
-    let mut same = mirror.len() == other.len();
-    for (key, mark) in mirror.iter() {
-        same = same && has_mark(alloc, other, key, mark)?;
-    }
-    Ok(same)
+fn is_same_mirror(mirror: &Table<MirrorKey, Mark>, other: &Table<MirrorKey, Mark>) -> bool {
+    mirror.len() == other.len() && mirror.iter().all(|(key, mark)| has_mark(other, key, mark))
 }
 
 fn is_within(keys: &Polled, others: &Polled) -> bool {
@@ -62,9 +42,10 @@ fn is_same_scan(scan: &Option<Polled>, other: &Option<Polled>) -> bool {
 
 /// Whether both hold the same mirror, the same scan, the same vens, resources, shares, reports and subscriptions, and the
 /// same serial.
-fn is_same_base(alloc: Global, base: &Base, other: &Base) -> Result<bool, AllocError> {
-    let mirror = is_same_mirror(alloc, &base.mirror, &other.mirror)?;
-    Ok(mirror && is_same_scan(&base.scan, &other.scan) && is_same_portfolio(base, other))
+fn is_same_base(base: &Base, other: &Base) -> bool {
+    is_same_mirror(&base.mirror, &other.mirror)
+        && is_same_scan(&base.scan, &other.scan)
+        && is_same_portfolio(base, other)
 }
 
 fn are_same_stamps(stamps: &Table<ViewKey, Stamps>, others: &Table<ViewKey, Stamps>) -> bool {
@@ -75,14 +56,14 @@ fn are_same_stamps(stamps: &Table<ViewKey, Stamps>, others: &Table<ViewKey, Stam
 }
 
 /// Whether both hold the same base, the same stamps of what is shown, and the same outbox.
-fn is_same(alloc: Global, state: &State, other: &State) -> Result<bool, AllocError> {
-    let base = is_same_base(alloc, &state.base, &other.base)?;
-    let stamps = are_same_stamps(&state.stamps, &other.stamps);
-    Ok(base && stamps && is_same_outbox(&state.outbox, &other.outbox))
+fn is_same(state: &State, other: &State) -> bool {
+    is_same_base(&state.base, &other.base)
+        && are_same_stamps(&state.stamps, &other.stamps)
+        && is_same_outbox(&state.outbox, &other.outbox)
 }
 
 /// Whether a desk holds the state of an image.
-pub fn holds<D: Desk>(alloc: Global, desk: &mut D, image: &Image) -> Result<bool, Refusal> {
+pub fn holds<D: Desk>(desk: &mut D, image: &Image) -> Result<bool, Refusal> {
     let other = desk.image()?;
-    Ok(is_same(alloc, image.state(), other.state())?)
+    Ok(is_same(image.state(), other.state()))
 }

@@ -11,7 +11,6 @@ use std::alloc::{AllocError, Global};
 
 /// A plain desk that answers, and the tables beside it.
 pub struct Twin {
-    alloc: Global,
     plain: PlainDesk,
     tables: MemoryDesk,
     /// How many calls the tables answered otherwise, or held another state after.
@@ -25,7 +24,6 @@ pub struct Twin {
 impl Drop for Twin {
     fn drop(self) {
         let Twin {
-            alloc: _,
             plain: _,
             tables: _,
             apart: _,
@@ -39,7 +37,6 @@ impl Twin {
     /// Both with the state at first.
     pub fn new(alloc: Global, settings: Settings, again: Settings) -> Result<Twin, Refusal> {
         Ok(Twin {
-            alloc,
             plain: PlainDesk::new(alloc, settings),
             tables: MemoryDesk::open_memory(alloc, again)?,
             apart: 0,
@@ -67,19 +64,19 @@ fn asks_so<D: Desk>(desk: &mut D, query: &Query, said: &Result<Answer, Refusal>)
 }
 
 /// Whether a desk holds the state that another one told.
-fn holds_so<D: Desk>(alloc: Global, desk: &mut D, said: &Result<Image, Refusal>) -> bool {
+fn holds_so<D: Desk>(desk: &mut D, said: &Result<Image, Refusal>) -> bool {
     match said {
-        Ok(image) => holds(alloc, desk, image) == Ok(true),
+        Ok(image) => holds(desk, image) == Ok(true),
         Err(_) => false,
     }
 }
 
 /// Whether the tables hold what the plain desk holds, which stays as it is.
-fn hold_the_same(alloc: Global, plain: &mut PlainDesk, tables: &mut MemoryDesk) -> bool
+fn hold_the_same(plain: &mut PlainDesk, tables: &mut MemoryDesk) -> bool
     ensures state { ⟦<PlainDesk as Desk>⟧.state plain.new ≡ ⟦<PlainDesk as Desk>⟧.state plain.old }
     ensures settings { ⟦<PlainDesk as Desk>⟧.settings plain.new ≡ ⟦<PlainDesk as Desk>⟧.settings plain.old }
 {
-    holds_so(alloc, tables, &plain.image())
+    holds_so(tables, &plain.image())
 }
 
 /// How many calls went apart, after one more call.
@@ -113,9 +110,8 @@ impl Desk for Twin {
 
     fn apply(&mut self, now: Moment, command: &Command) -> Result<Answer, Refusal> {
         let said = self.plain.apply(now, command);
-        let alloc = self.alloc;
         let alike = applies_so(&mut self.tables, now, command, &said);
-        let same = hold_the_same(alloc, &mut self.plain, &mut self.tables);
+        let same = hold_the_same(&mut self.plain, &mut self.tables);
         self.apart = counted(self.apart, alike && same);
         self.lost = note(&mut self.told, now, command).is_err() || self.lost;
         said
@@ -123,17 +119,15 @@ impl Desk for Twin {
 
     fn ask(&mut self, query: &Query) -> Result<Answer, Refusal> {
         let said = self.plain.ask(query);
-        let alloc = self.alloc;
         let alike = asks_so(&mut self.tables, query, &said);
-        let same = hold_the_same(alloc, &mut self.plain, &mut self.tables);
+        let same = hold_the_same(&mut self.plain, &mut self.tables);
         self.apart = counted(self.apart, alike && same);
         said
     }
 
     fn image(&mut self) -> Result<Image, Refusal> {
         let said = self.plain.image();
-        let alloc = self.alloc;
-        let same = holds_so(alloc, &mut self.tables, &said);
+        let same = holds_so(&mut self.tables, &said);
         self.apart = counted(self.apart, same);
         said
     }

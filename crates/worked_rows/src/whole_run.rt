@@ -18,7 +18,7 @@ fn takes_so<D: Desk>(
     image: &Image,
 ) -> Result<bool, Refusal> {
     let others = run(alloc, desk, steps)?;
-    Ok(are_same_answers(answers, &others) && holds(alloc, desk, image)?)
+    Ok(are_same_answers(answers, &others) && holds(desk, image)?)
 }
 
 fn tables_take_so(
@@ -42,5 +42,5 @@ pub fn take_alike(
 ) -> Result<bool, Refusal> {
     let mut plain = PlainDesk::new(alloc, settings);
     let answers = run(alloc, &mut plain, steps)?;
-    Ok(holds(alloc, &mut plain, image)? && tables_take_so(alloc, again, steps, &answers, image)?)
+    Ok(holds(&mut plain, image)? && tables_take_so(alloc, again, steps, &answers, image)?)
 }

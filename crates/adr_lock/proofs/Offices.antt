@@ -1,0 +1,16 @@
+-- What comes of a call of a book is what comes of it in the office whose lock keeps the book.
+use Rattle.std.proofs.Common.{ℕ, Result}
+use Rattle.adr_text.specs.declared.refusal.Refusal.{Refusal}
+use Rattle.adr_queries.specs.declared.answer.Answer.{Answer}
+use Rattle.adr_machine.specs.declared.desk.Desk.{Ghosts}
+use Rattle.adr_book.specs.declared.kept.Book.{Book}
+use Rattle.adr_book.specs.declared.kept.Pass.{Pass}
+use Rattle.adr_book.specs.declared.office.Office.{Office}
+use Rattle.adr_lock.specs.declared.call.Call.{Call}
+use Rattle.adr_lock.specs.declared.call.Call.TheVariants.{Step, Look}
+use Rattle.adr_lock.specs.Outcomes.{InBook, InOffice}
+
+pub in_office : {D L : Type 0} {g : Ghosts D} (office : Office D L g) (most : ℕ) (old new : Book D L g) (before after : Pass L) (now : ℕ) (call : Call) (outcome : Result Answer Refusal)
+    → InBook most old before now call outcome new after → InOffice office most before call outcome after
+in_office office most old new before after now (Step command) outcome came = (old, new, now, came)
+in_office office most old new before after now (Look query) outcome came = (old, new, came)

@@ -1,0 +1,14 @@
+//! One step or look of a book under its lock: the one place where threads take it.
+#![tactic(auto)]
+
+mod call;
+mod clock;
+mod in_book;
+mod room;
+mod under_lock;
+
+pub use call::Call;
+pub use clock::Clock;
+pub use in_book::take_in_book;
+pub use room::MOST_WEIGHT;
+pub use under_lock::take_under_lock;

@@ -1,0 +1,5 @@
+use Rattle.adr_server.proofs.office_taker.take_asked.Goals as goal
+
+-- a page is a command
+pub returns-in-Page-clause-outcome : goal.returns-in-Page-clause-outcome
+returns-in-Page-clause-outcome g c = rw c.in-Page.is c.take_step-in-Page.ensures.outcome

@@ -1,0 +1,135 @@
+//! An office that takes what is asked, under its lock.
+ghost use Rattle.std.specs.Prelude.{◌≡◌, ◌≢◌, ◌⊎◌, Ok, Err, IfSome, OnOk};
+ghost use Rattle.adr_lock.specs.Rooms.{most_weight};
+ghost use Rattle.adr_lock.specs.Outcomes.{StepsInOffice, LooksInOffice, TakesOneAtMost};
+ghost use Rattle.adr_http.specs.Takers.{TakesOnce, ServesBy, ServesPartBy};
+ghost use Rattle.adr_http.specs.declared.fault.ServeFault.TheVariants.{Read, Write};
+ghost use Rattle.adr_server.specs.Outcomes.{AsksOffice};
+
+use crate::shared::Shared;
+use adr_book::{Office, Pass};
+use adr_http::{Asked, Routes, ServeFault, Taker, serve};
+use adr_lock::{Call, Clock, take_under_lock};
+use adr_machine::{Answer, Command, Desk, Query};
+use adr_text::{Name, Refusal, Sink, Source};
+use std::sync::Wait;
+use std::sync::ledger::Ledger;
+
+/// An office, the name and the clock by which it answers, and the pass of who comes to it.
+#[derive(Drop)]
+pub struct OfficeTaker<'a, D: Desk + Drop, L: Ledger, C: Clock, R: Wait> {
+    pub rt: &'a R,
+    pub office: &'a Office<D, L>,
+    pub client: &'a Name,
+    pub clock: &'a C,
+    pub pass: &'a mut Pass<L>,
+}
+
+fn take_step<D: Desk + Drop, L: Ledger, C: Clock, R: Wait>(
+    rt: &R,
+    office: &Office<D, L>,
+    clock: &C,
+    pass: &mut Pass<L>,
+    command: &Command,
+) -> Result<Answer, Refusal>
+    ensures outcome { StepsInOffice office.now most_weight pass.old command.now result pass.new }
+    ensures one { TakesOneAtMost pass.old pass.new }
+{
+    take_under_lock(rt, office, clock, pass, Call::Step(command))
+}
+
+fn look<D: Desk + Drop, L: Ledger, C: Clock, R: Wait>(
+    rt: &R,
+    office: &Office<D, L>,
+    clock: &C,
+    pass: &mut Pass<L>,
+    query: &Query,
+) -> Result<Answer, Refusal>
+    ensures outcome { LooksInOffice office.now pass.old query.now result pass.new }
+    ensures one { TakesOneAtMost pass.old pass.new }
+{
+    take_under_lock(rt, office, clock, pass, Call::Look(query))
+}
+
+/// Takes what is asked, under the lock. Nothing is asked without it.
+fn take_asked<D: Desk + Drop, L: Ledger, C: Clock, R: Wait>(
+    rt: &R,
+    office: &Office<D, L>,
+    clock: &C,
+    pass: &mut Pass<L>,
+    asked: &Asked,
+) -> Result<Answer, Refusal>
+    ensures outcome { AsksOffice office.now pass.old asked.now result pass.new }
+    ensures one { TakesOneAtMost pass.old pass.new }
+{
+    match asked {
+        Asked::Command(command) => take_step(rt, office, clock, pass, command),
+        Asked::Page(command, _) => take_step(rt, office, clock, pass, command),
+        Asked::Query(query) => look(rt, office, clock, pass, query),
+        Asked::Nothing => Ok(Answer::Done),
+    }
+}
+
+impl<'a, D: Desk + Drop, L: Ledger, C: Clock, R: Wait> Taker for OfficeTaker<'a, D, L, C, R> {
+    ghost takes = { λ before asked outcome after.
+        (after.pass.ghost_name ≡ before.pass.ghost_name)
+        × (after.office ≡ before.office)
+        × AsksOffice before.office.now before.pass.now asked outcome after.pass.now
+        × TakesOneAtMost before.pass.now after.pass.now };
+
+    ghost client = { λ t. t.client.now };
+
+    fn take(&mut self, asked: &Asked) -> Result<Answer, Refusal> {
+        take_asked(self.rt, self.office, self.clock, self.pass, asked)
+    }
+
+    fn client(&self) -> &Name {
+        self.client
+    }
+}
+
+/// Serves one request at the office, with the pass that is lent there.
+fn serve_lent<D: Desk + Drop, L: Ledger, C: Clock, R: Wait, S: Source, W: Sink>(
+    shared: &Shared,
+    routes: &Routes,
+    taker: &mut OfficeTaker<'_, D, L, C, R>,
+    source: &mut S,
+    sink: &mut W,
+) -> Result<(), ServeFault>
+    ensures all { OnOk result (IfSome (S.left source.old) (λ bytes. ServesBy (AsksOffice taker.old.office.now) taker.old.client.now shared.now.roles taker.old.pass.now bytes taker.new.pass.now (W.written sink.old) (W.written sink.new))) }
+    ensures part { result ≡ Err Write → IfSome (S.left source.old) (λ bytes. ServesPartBy (AsksOffice taker.old.office.now) taker.old.client.now shared.now.roles taker.old.pass.now bytes taker.new.pass.now (W.written sink.old) (W.written sink.new)) }
+    ensures nothing { result ≡ Err Read → (sink.new ≡ sink.old) × (taker.new.pass.now ≡ taker.old.pass.now) }
+    ensures once { TakesOnce (AsksOffice taker.old.office.now) taker.old.pass.now taker.new.pass.now }
+    ensures one { TakesOneAtMost taker.old.pass.now taker.new.pass.now }
+    ensures same_pass { taker.new.pass.ghost_name ≡ taker.old.pass.ghost_name }
+{
+    serve(shared.alloc, &shared.roles, routes, taker, source, sink)
+}
+
+/// Serves one request at an office, whose lock is held for the taking alone: one turn at most. What is written is the reply
+/// to what was read, and to an outcome that the book behind the lock may give.
+pub fn serve_shared<D: Desk + Drop, L: Ledger, C: Clock, R: Wait, S: Source, W: Sink>(
+    rt: &R,
+    office: &Office<D, L>,
+    shared: &Shared,
+    routes: &Routes,
+    clock: &C,
+    pass: &mut Pass<L>,
+    source: &mut S,
+    sink: &mut W,
+) -> Result<(), ServeFault>
+    ensures all { OnOk result (IfSome (S.left source.old) (λ bytes. ServesBy (AsksOffice office.now) shared.now.client shared.now.roles pass.old bytes pass.new (W.written sink.old) (W.written sink.new))) }
+    ensures part { result ≡ Err Write → IfSome (S.left source.old) (λ bytes. ServesPartBy (AsksOffice office.now) shared.now.client shared.now.roles pass.old bytes pass.new (W.written sink.old) (W.written sink.new)) }
+    ensures nothing { result ≡ Err Read → (sink.new ≡ sink.old) × (pass.new ≡ pass.old) }
+    ensures once { TakesOnce (AsksOffice office.now) pass.old pass.new }
+    ensures one { TakesOneAtMost pass.old pass.new }
+{
+    let mut taker = OfficeTaker {
+        rt,
+        office,
+        client: &shared.client,
+        clock,
+        pass,
+    };
+    serve_lent(shared, routes, &mut taker, source, sink)
+}
