@@ -13,6 +13,8 @@ use std::sync::atomic::{AtomicU64, Ordering};
 use std::sync::ledger::Blank;
 use std::sync::{Arc, Wait};
 use std::test::*;
+use std::time::Duration;
+use std::{thread, time};
 
 /// The subscription whose destination is healthy: the last of all.
 const HEALTHY: u64 = 21;
@@ -55,14 +57,19 @@ impl Clock for Moving {
     }
 }
 
+/// How long a call takes in truth, in milliseconds: whoever dispatches fills the queue meanwhile.
+const NAP: u64 = 3;
+
 /// Calls the healthy destination alone; each call takes its time.
 #[derive(Drop)]
-struct OneHealthy {
+struct OneHealthy<T: Wait + time::Clock + Drop> {
+    rt: T,
     passed: Arc<Passed, Global>,
 }
 
-impl Gate for OneHealthy {
+impl<T: Wait + time::Clock + Drop> Gate for OneHealthy<T> {
     fn send<R: Wait>(&self, _rt: &R, job: &Job) -> Outcome {
+        thread::sleep(&self.rt, Duration::from_millis(NAP));
         self.passed.seconds.fetch_add(STEP, Ordering::SeqCst);
         if job.destination.get() == HEALTHY {
             self.passed.healthy.fetch_add(1, Ordering::SeqCst);
@@ -77,10 +84,14 @@ impl Gate for OneHealthy {
     }
 }
 
-fn gates(alloc: Global, passed: &Arc<Passed, Global>) -> Result<Vec<OneHealthy>, Refusal> {
+fn gates<T: Wait + time::Clock + Copy + Drop>(
+    rt: T,
+    alloc: Global,
+    passed: &Arc<Passed, Global>,
+) -> Result<Vec<OneHealthy<T>>, Refusal> {
     let mut gates = Vec::new(alloc);
     let passed = Arc::try_clone(passed)?;
-    gates.push(OneHealthy { passed })?;
+    gates.push(OneHealthy { rt, passed })?;
     Ok(gates)
 }
 
@@ -97,7 +108,7 @@ fn one_healthy_among_twenty_dead(rt: HostRuntime) -> Result<(), Fail> {
             dead: AtomicU64::new(0),
         },
     )?;
-    let gates = gates(alloc, &passed)?;
+    let gates = gates(rt, alloc, &passed)?;
     assert_eq!(rt; gates.len(), 1);
     let clock = Moving {
         since: ten()?,
