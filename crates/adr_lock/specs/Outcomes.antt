@@ -1,5 +1,5 @@
 -- What comes of what is asked of a book, alone or under an office's lock.
-use Rattle.std.specs.Prelude.{◌≡◌, ℕ, ◌+◌, ◌≤◌, ◌<◌, [], ◌∷◌, ◌++◌, Result, Ok, Err}
+use Rattle.std.specs.Prelude.{◌≡◌, ℕ, ◌+◌, ◌≤◌, [], ◌∷◌, ◌++◌, Result, Ok, Err}
 use Rattle.adr_text.specs.Refusals.{IsRefusalOf}
 use Rattle.adr_text.specs.declared.refusal.Refusal.{Refusal}
 use Rattle.adr_queries.specs.declared.answer.Answer.{Answer}
@@ -12,7 +12,7 @@ use Rattle.adr_book.specs.declared.office.Office.{Office}
 use Rattle.adr_book.specs.Entry.{step_in, reply_in}
 use Rattle.adr_book.specs.Refused.{MayRefuse, MayRefuseQuery}
 use Rattle.adr_book.specs.Same.{IsSame}
-use Rattle.adr_book.specs.Words.{base_of, trail_of, turn_of, state_of, settings_of, IsSound, seen_by, taken_by}
+use Rattle.adr_book.specs.Words.{base_of, trail_of, turn_of, state_of, IsSound, seen_by, taken_by}
 use Rattle.adr_lock.specs.declared.call.Call.{Call}
 use Rattle.adr_lock.specs.declared.call.Call.TheVariants as call
 use Rattle.adr_lock.specs.Rooms.{MakesRoom}
@@ -67,7 +67,7 @@ module _ {D L : Type 0} {g : Ghosts D} where
   InBook most old before now (call.Step command) outcome new after = StepsIn most old before now command.now outcome new after
   InBook most old before now (call.Look query) outcome new after = IsLook old before query.now outcome new after
 
-  -- of a command at some moment, by some book that an office's lock keeps
+  -- of a command at some moment, by some book over a desk like the office's: the office says no more here than which desk and which ledger
   abbrev pub StepsInOffice : Office D L g → ℕ → Pass L → Command → Result Answer Refusal → Pass L → Type 0
   StepsInOffice office most before command outcome after = (old : Book D L g) × (new : Book D L g) × (now : ℕ) × StepsIn most old before now command outcome new after
 
