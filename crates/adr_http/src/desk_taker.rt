@@ -2,7 +2,7 @@
 ghost use Rattle.std.specs.Prelude.{◌≡◌, ◌≢◌, ◌⊎◌, ◌≤◌, ◌+◌, IfSome, IfOk, OnOk, OnErr, Ok, Err, []};
 ghost use Rattle.adr_wire.specs.Calls.{NoneFails, LastFails, RunsOut};
 ghost use Rattle.adr_wire.specs.Pieces.{OfWhatCame};
-ghost use Rattle.adr_request.specs.Requests.{RequestParts, request_parts, IsRequest};
+ghost use Rattle.adr_request.specs.Requests.{most_reads, RequestParts, request_parts, IsRequest};
 ghost use Rattle.adr_asked.specs.Turns.{asked_step, asks_desk, Outcome, MayLeave};
 ghost use Rattle.adr_http.specs.Serving.{request_turn, IsBuilt, Serves, ServesPart};
 ghost use Rattle.adr_http.specs.declared.fault.ServeFault.TheVariants.{Read, Write};
@@ -14,7 +14,7 @@ use crate::serving::serve;
 use crate::taker::Taker;
 use adr_asked::{Asked, take_asked};
 use adr_machine::{Answer, Desk};
-use adr_request::{HttpRequest, MOST_READS};
+use adr_request::HttpRequest;
 use adr_routes::Routes;
 use adr_text::{Moment, Name, Refusal, Sink, Source};
 use std::alloc::{AllocError, Global};
@@ -92,9 +92,9 @@ fn serve_lent<D: Desk, S: Source, W: Sink>(
     ensures all { OnOk result (IfSome (S.left source.old) (λ bytes. D.is_sound taker.new.desk.now → Serves D.may_refuse (D.settings taker.old.desk.now) roles.now (D.state taker.old.desk.now) taker.old.now bytes (D.state taker.new.desk.now) (W.written sink.old) (W.written sink.new))) }
     ensures part { result ≡ Err Write → IfSome (S.left source.old) (λ bytes. D.is_sound taker.new.desk.now → ServesPart D.may_refuse (D.settings taker.old.desk.now) roles.now (D.state taker.old.desk.now) taker.old.now bytes (D.state taker.new.desk.now) (W.written sink.old) (W.written sink.new)) }
     ensures nothing { result ≡ Err Read → (sink.new ≡ sink.old) × (D.is_sound taker.new.desk.now → D.state taker.new.desk.now ≡ D.state taker.old.desk.now) }
-    ensures reads { (S.calls source.new).made ≤ (S.calls source.old).made + MOST_READS }
+    ensures reads { (S.calls source.new).made ≤ (S.calls source.old).made + most_reads }
     ensures unfinished { result ≡ Err Read → OfWhatCame (S.left source.old) [] (S.left source.new) (λ came. (request : RequestParts) → ¬ (IsRequest came (Ok request))) }
-    ensures read_fault { result ≡ Err Read → LastFails (S.calls source.old) (S.calls source.new) ⊎ RunsOut MOST_READS (S.calls source.old) (S.calls source.new) }
+    ensures read_fault { result ≡ Err Read → LastFails (S.calls source.old) (S.calls source.new) ⊎ RunsOut most_reads (S.calls source.old) (S.calls source.new) }
     ensures no_read_fault { result ≢ Err Read → NoneFails (S.calls source.old) (S.calls source.new) }
     ensures write_fault { result ≡ Err Write → LastFails (W.calls sink.old) (W.calls sink.new) }
     ensures no_write_fault { result ≢ Err Write → NoneFails (W.calls sink.old) (W.calls sink.new) }
@@ -122,10 +122,10 @@ pub fn serve_one<D: Desk, S: Source, W: Sink>(
     ensures all { OnOk result (IfSome (S.left source.old) (λ bytes. D.is_sound desk.new → Serves D.may_refuse (D.settings desk.old) roles.now (D.state desk.old) now bytes (D.state desk.new) (W.written sink.old) (W.written sink.new))) }
     ensures part { result ≡ Err Write → IfSome (S.left source.old) (λ bytes. D.is_sound desk.new → ServesPart D.may_refuse (D.settings desk.old) roles.now (D.state desk.old) now bytes (D.state desk.new) (W.written sink.old) (W.written sink.new)) }
     ensures nothing { result ≡ Err Read → (sink.new ≡ sink.old) × (D.is_sound desk.new → D.state desk.new ≡ D.state desk.old) }
-    ensures reads { (S.calls source.new).made ≤ (S.calls source.old).made + MOST_READS }
+    ensures reads { (S.calls source.new).made ≤ (S.calls source.old).made + most_reads }
     // Where a read failed, what had come was no whole request: nothing is asked for behind one.
     ensures unfinished { result ≡ Err Read → OfWhatCame (S.left source.old) [] (S.left source.new) (λ came. (request : RequestParts) → ¬ (IsRequest came (Ok request))) }
-    ensures read_fault { result ≡ Err Read → LastFails (S.calls source.old) (S.calls source.new) ⊎ RunsOut MOST_READS (S.calls source.old) (S.calls source.new) }
+    ensures read_fault { result ≡ Err Read → LastFails (S.calls source.old) (S.calls source.new) ⊎ RunsOut most_reads (S.calls source.old) (S.calls source.new) }
     ensures no_read_fault { result ≢ Err Read → NoneFails (S.calls source.old) (S.calls source.new) }
     ensures write_fault { result ≡ Err Write → LastFails (W.calls sink.old) (W.calls sink.new) }
     ensures no_write_fault { result ≢ Err Write → NoneFails (W.calls sink.old) (W.calls sink.new) }

@@ -3,7 +3,7 @@ ghost use Rattle.std.specs.Prelude.{◌≡◌, ◌≢◌, ◌⊎◌, ◌≤◌, 
 ghost use Rattle.adr_wire.specs.Calls.{NoneFails, LastFails, RunsOut};
 ghost use Rattle.adr_wire.specs.Pieces.{OfWhatCame, IsReading};
 ghost use Rattle.adr_wire.specs.declared.end.ReadEnd.TheVariants as read_end;
-ghost use Rattle.adr_request.specs.Requests.{RequestParts, request_parts, IsRequest};
+ghost use Rattle.adr_request.specs.Requests.{most_reads, RequestParts, request_parts, IsRequest};
 ghost use Rattle.adr_http.specs.Plans.{plan_of};
 ghost use Rattle.adr_http.specs.Serving.{fault_problem, outgoing_bytes, IsTold, IsToldAtEnd};
 ghost use Rattle.adr_http.specs.Takers.{TakesOnce, IsReplied, IsServedBy, ServesBy, ServesPartBy};
@@ -16,7 +16,7 @@ use crate::replying::problem_bytes;
 use crate::roles::Roles;
 use crate::taker::Taker;
 use adr_reply::Problem;
-use adr_request::{HttpRequest, MOST_READS, read_request};
+use adr_request::{HttpRequest, read_request};
 use adr_routes::Routes;
 use adr_text::{Sink, Source};
 use adr_wire::{MessageFault, ReadEnd, write_all};
@@ -111,10 +111,10 @@ pub fn serve<T: Taker, S: Source, W: Sink>(
     ensures part { result ≡ Err Write → IfSome (S.left source.old) (λ bytes. ServesPartBy T.takes (T.client taker.old) roles.now taker.old bytes taker.new (W.written sink.old) (W.written sink.new)) }
     ensures nothing { result ≡ Err Read → (sink.new ≡ sink.old) × (taker.new ≡ taker.old) }
     ensures once { TakesOnce T.takes taker.old taker.new }
-    ensures reads { (S.calls source.new).made ≤ (S.calls source.old).made + MOST_READS }
+    ensures reads { (S.calls source.new).made ≤ (S.calls source.old).made + most_reads }
     // Where a read failed, what had come was no whole request: nothing is asked for behind one.
     ensures unfinished { result ≡ Err Read → OfWhatCame (S.left source.old) [] (S.left source.new) (λ came. (request : RequestParts) → ¬ (IsRequest came (Ok request))) }
-    ensures read_fault { result ≡ Err Read → LastFails (S.calls source.old) (S.calls source.new) ⊎ RunsOut MOST_READS (S.calls source.old) (S.calls source.new) }
+    ensures read_fault { result ≡ Err Read → LastFails (S.calls source.old) (S.calls source.new) ⊎ RunsOut most_reads (S.calls source.old) (S.calls source.new) }
     ensures no_read_fault { result ≢ Err Read → NoneFails (S.calls source.old) (S.calls source.new) }
     ensures write_fault { result ≡ Err Write → LastFails (W.calls sink.old) (W.calls sink.new) }
     ensures no_write_fault { result ≢ Err Write → NoneFails (W.calls sink.old) (W.calls sink.new) }

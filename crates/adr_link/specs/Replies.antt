@@ -14,6 +14,10 @@ use Rattle.adr_link.specs.declared.reply.LinkFault.TheVariants as link
 use Rattle.adr_link.specs.declared.reply_head.ReplyHead.{ReplyHead}
 use Rattle.adr_link.specs.ReplyHeads.{is_bodiless, IsHead, IsRefusedHead}
 
+-- the most reads of one reply, 2^27
+abbrev pub most_reads : ℕ
+most_reads = 134_217_728
+
 -- all of them, up to the most
 abbrev pub body_to_end : List ℕ → Result (List ℕ) MessageFault
 body_to_end bytes = if nat_le (length bytes) 8388608 then Ok bytes else Err TooLarge

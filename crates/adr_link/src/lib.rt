@@ -17,6 +17,7 @@ mod upstream;
 pub use found::{Asked, Finding, found_of};
 pub use laws::one_reading;
 pub use outcome::{Outcome, outcome_of};
-pub use reply::{HttpReply, LinkFault, MOST_READS, read_reply};
+pub use reply::{HttpReply, LinkFault, read_reply};
 pub use reply_head::{MOST_BODY, ReplyHead};
+pub use target::is_for_utility;
 pub use upstream::Upstream;

@@ -2,7 +2,7 @@
 ghost use Rattle.std.specs.Prelude.{◌≡◌, ◌≢◌, ◌+◌, ◌⊎◌, ◌≤◌, ℕ, List, [], Some, Err, IsTrue};
 ghost use Rattle.adr_wire.specs.Calls.{NoneFails, LastFails, RunsOut};
 ghost use Rattle.adr_wire.specs.Pieces.{OfWhatCame, IsReading, IsCounted, reader_failed};
-ghost use Rattle.adr_link.specs.Replies.{link_end, linked, IsLinkReading, IsReply, AwaitsMore};
+ghost use Rattle.adr_link.specs.Replies.{most_reads, link_end, linked, IsLinkReading, IsReply, AwaitsMore};
 ghost use Rattle.adr_link.specs.declared.reply.LinkFault.TheVariants.{Read};
 
 use crate::reply_body::read_body;
@@ -13,7 +13,7 @@ use std::alloc::Global;
 use thiserror::Error;
 
 /// The most reads of one reply, 2^27.
-pub const MOST_READS: u32 = 134_217_728;
+const MOST_READS: u32 = 134_217_728;
 
 /// A reply.
 #[derive(Drop)]
@@ -80,10 +80,10 @@ fn read_parts<S: Source>(
 #[tactic(auto, using(crate::proofs::LinkFaults::link_reading, crate::proofs::LinkFaults::link_failed, crate::proofs::LinkFaults::link_not_failed))]
 pub fn read_reply<S: Source>(alloc: Global, source: &mut S) -> Result<HttpReply, LinkFault>
     ensures reading { IsLinkReading result (λ read. (bytes : List ℕ) → S.left source.old ≡ Some bytes → IsReply bytes read) }
-    ensures reads { (S.calls source.new).made ≤ (S.calls source.old).made + MOST_READS }
+    ensures reads { (S.calls source.new).made ≤ (S.calls source.old).made + most_reads }
     // Where a read failed, what had come was no whole reply, but for one whose body goes to the end: nothing is asked for behind one.
     ensures unfinished { result ≡ Err Read → OfWhatCame (S.left source.old) [] (S.left source.new) AwaitsMore }
-    ensures read_fault { result ≡ Err Read → LastFails (S.calls source.old) (S.calls source.new) ⊎ RunsOut MOST_READS (S.calls source.old) (S.calls source.new) }
+    ensures read_fault { result ≡ Err Read → LastFails (S.calls source.old) (S.calls source.new) ⊎ RunsOut most_reads (S.calls source.old) (S.calls source.new) }
     ensures no_read_fault { result ≢ Err Read → NoneFails (S.calls source.old) (S.calls source.new) }
 {
     let mut ahead = Ahead::new(alloc, MOST_READS);

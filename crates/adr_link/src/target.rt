@@ -51,7 +51,7 @@ pub(crate) fn method_word(method: JobMethod) -> &'static [u8]
 }
 
 /// Whether a job is a report for the utility; else it is a notification.
-pub(crate) fn is_for_utility(job: &Job) -> bool
+pub fn is_for_utility(job: &Job) -> bool
     ensures { result ≡ is_for_utility job.now }
 {
     job.destination.get() == 0

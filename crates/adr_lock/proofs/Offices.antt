@@ -10,7 +10,7 @@ use Rattle.adr_lock.specs.declared.call.Call.{Call}
 use Rattle.adr_lock.specs.declared.call.Call.TheVariants.{Step, Look}
 use Rattle.adr_lock.specs.Outcomes.{InBook, InOffice}
 
-pub in_office : {D L : Type 0} {g : Ghosts D} (office : Office D L g) (most : ℕ) (old new : Book D L g) (before after : Pass L) (now : ℕ) (call : Call) (outcome : Result Answer Refusal)
-    → InBook most old before now call outcome new after → InOffice office most before call outcome after
-in_office office most old new before after now (Step command) outcome came = (old, new, now, came)
-in_office office most old new before after now (Look query) outcome came = (old, new, came)
+pub in_office : {D L : Type 0} {g : Ghosts D} (office : Office D L g) (tells : ℕ → Type 0) (most : ℕ) (old new : Book D L g) (before after : Pass L) (now : ℕ) (call : Call) (outcome : Result Answer Refusal)
+    → tells now → InBook most old before now call outcome new after → InOffice office tells most before call outcome after
+in_office office tells most old new before after now (Step command) outcome told came = (old, new, now, told, came)
+in_office office tells most old new before after now (Look query) outcome told came = (old, new, came)

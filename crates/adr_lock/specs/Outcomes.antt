@@ -67,18 +67,18 @@ module _ {D L : Type 0} {g : Ghosts D} where
   InBook most old before now (call.Step command) outcome new after = StepsIn most old before now command.now outcome new after
   InBook most old before now (call.Look query) outcome new after = IsLook old before query.now outcome new after
 
-  -- of a command at some moment, by some book over a desk like the office's: the office says no more here than which desk and which ledger
-  abbrev pub StepsInOffice : Office D L g → ℕ → Pass L → Command → Result Answer Refusal → Pass L → Type 0
-  StepsInOffice office most before command outcome after = (old : Book D L g) × (new : Book D L g) × (now : ℕ) × StepsIn most old before now command outcome new after
+  -- of a command, at some moment of those that a clock tells, by some book over a desk like the office's: the office says no more here than which desk and which ledger
+  abbrev pub StepsInOffice : Office D L g → (ℕ → Type 0) → ℕ → Pass L → Command → Result Answer Refusal → Pass L → Type 0
+  StepsInOffice office tells most before command outcome after = (old : Book D L g) × (new : Book D L g) × (now : ℕ) × tells now × StepsIn most old before now command outcome new after
 
   -- of a query
   abbrev pub LooksInOffice : Office D L g → Pass L → Query → Result Answer Refusal → Pass L → Type 0
   LooksInOffice office before query outcome after = (old : Book D L g) × (new : Book D L g) × IsLook old before query outcome new after
 
   -- of a call
-  abbrev pub InOffice : Office D L g → ℕ → Pass L → Call → Result Answer Refusal → Pass L → Type 0
-  InOffice office most before (call.Step command) outcome after = StepsInOffice office most before command.now outcome after
-  InOffice office most before (call.Look query) outcome after = LooksInOffice office before query.now outcome after
+  abbrev pub InOffice : Office D L g → (ℕ → Type 0) → ℕ → Pass L → Call → Result Answer Refusal → Pass L → Type 0
+  InOffice office tells most before (call.Step command) outcome after = StepsInOffice office tells most before command.now outcome after
+  InOffice office tells most before (call.Look query) outcome after = LooksInOffice office before query.now outcome after
 
 -- how a call may be refused, with a pass that was told of this turn
 abbrev pub MayRefuseCall : Type 0 → ℕ → Call → Refusal → Type 0

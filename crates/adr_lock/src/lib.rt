@@ -5,10 +5,12 @@ mod call;
 mod clock;
 mod in_book;
 mod room;
+mod steps;
 mod under_lock;
 
 pub use call::Call;
 pub use clock::Clock;
 pub use in_book::take_in_book;
 pub use room::MOST_WEIGHT;
+pub use steps::Steps;
 pub use under_lock::take_under_lock;

@@ -1,6 +1,7 @@
 //! Networks, and whether an address is in one.
 #![tactic(auto)]
 
+mod address;
 mod bits;
 pub mod laws;
 mod network;
@@ -9,5 +10,6 @@ mod read;
 #[cfg(test)]
 mod tests;
 
+pub use address::address_of;
 pub use network::Network;
 pub use networks::Networks;

@@ -1,4 +1,5 @@
 //! What no clause says: which texts are read, and whether some addresses are in some networks.
+use crate::address::address_of;
 use crate::network::Network;
 use crate::networks::Networks;
 use adr_text::Rows;
@@ -126,5 +127,42 @@ fn which_may_be_called(rt: HostRuntime) -> Result<(), Fail> {
     assert!(rt; allowed(&Networks::of(rows)) == Some((true, true, false)));
     let none = Networks::of(Rows::new(rt.alloc()));
     assert!(rt; allowed(&none) == Some((false, false, false)));
+    Ok(())
+}
+
+#[test]
+fn addresses(rt: HostRuntime) {
+    let alloc = rt.alloc();
+    assert_eq!(rt;
+        address_of(alloc, "localhost:8081"),
+        address_of(alloc, "127.0.0.1:8081")
+    );
+    assert!(rt; address_of(alloc, "127.0.0.1:8081").is_some());
+    assert!(rt; address_of(alloc, "[::1]:80").is_some());
+    for none in [
+        "",
+        "localhost",
+        "localhost:65536",
+        "example.org:80",
+        "127.0.0.1",
+    ] {
+        assert!(rt; address_of(alloc, none).is_none());
+    }
+}
+
+#[test]
+fn endpoints_that_may_be_called(rt: HostRuntime) -> Result<(), Fail> {
+    let alloc = rt.alloc();
+    let mut rows = Rows::new(alloc);
+    rows.push(Network::read("127.0.0.0/8").ok_or("no network")?)?;
+    let own = Networks::of(rows);
+    for endpoint in ["localhost:80", "127.9.9.9:9001", "[::ffff:127.0.0.1]:80"] {
+        assert!(rt; own.allow_endpoint(alloc, endpoint), "{endpoint}");
+    }
+    for endpoint in ["192.0.2.7:80", "[::1]:80", "example.org:80", ""] {
+        assert!(rt; !own.allow_endpoint(alloc, endpoint), "{endpoint}");
+    }
+    assert!(rt; Networks::any().allow_endpoint(alloc, "192.0.2.7:80"));
+    assert!(rt; !Networks::any().allow_endpoint(alloc, "example.org:80"));
     Ok(())
 }

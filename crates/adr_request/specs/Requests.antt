@@ -8,6 +8,10 @@ use Rattle.adr_wire.specs.Chunks.{IsChunks}
 use Rattle.adr_request.specs.Heads.{HeadParts, IsHead, IsRefusedHead}
 use Rattle.adr_request.specs.declared.request.HttpRequest.{HttpRequest}
 
+-- the most reads of one request, 2^24
+abbrev pub most_reads : ℕ
+most_reads = 16_777_216
+
 -- what the body is, where the bytes are those after the head
 abbrev pub IsBody : Extent → List ℕ → Result (List ℕ) MessageFault → Type 0
 IsBody Unsaid bytes read = read ≡ Ok []

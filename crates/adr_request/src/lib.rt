@@ -10,4 +10,4 @@ mod request;
 
 pub use head::{Head, MOST_BODY};
 pub use laws::one_reading;
-pub use request::{HttpRequest, MOST_READS, read_request};
+pub use request::{HttpRequest, read_request};

@@ -3,7 +3,7 @@ ghost use Rattle.std.specs.Prelude.{◌≡◌, ◌≢◌, ◌+◌, ◌⊎◌, �
 ghost use Rattle.adr_wire.specs.Calls.{NoneFails, LastFails, RunsOut};
 ghost use Rattle.adr_wire.specs.Pieces.{OfWhatCame, IsReading};
 ghost use Rattle.adr_wire.specs.declared.end.ReadEnd.TheVariants.{Reader};
-ghost use Rattle.adr_request.specs.Requests.{RequestParts, request_parts, IsRequest};
+ghost use Rattle.adr_request.specs.Requests.{most_reads, RequestParts, request_parts, IsRequest};
 
 use crate::body::read_body;
 use crate::head::read_head;
@@ -12,7 +12,7 @@ use adr_wire::{Ahead, ReadEnd};
 use std::alloc::Global;
 
 /// The most reads of one request, 2^24.
-pub const MOST_READS: u32 = 16_777_216;
+const MOST_READS: u32 = 16_777_216;
 
 /// A request.
 #[derive(Drop)]
@@ -31,10 +31,10 @@ pub struct HttpRequest {
 /// 16,384 bytes each. A failed read ends it at once; so does the read after 16,777,216 others.
 pub fn read_request<S: Source>(alloc: Global, source: &mut S) -> Result<HttpRequest, ReadEnd>
     ensures reading { IsReading request_parts result (λ read. (bytes : List ℕ) → S.left source.old ≡ Some bytes → IsRequest bytes read) }
-    ensures reads { (S.calls source.new).made ≤ (S.calls source.old).made + MOST_READS }
+    ensures reads { (S.calls source.new).made ≤ (S.calls source.old).made + most_reads }
     // Where the reader failed, what had come was no whole request: nothing is asked for behind one.
     ensures unfinished { result ≡ Err Reader → OfWhatCame (S.left source.old) [] (S.left source.new) (λ came. (request : RequestParts) → ¬ (IsRequest came (Ok request))) }
-    ensures read_fault { result ≡ Err Reader → LastFails (S.calls source.old) (S.calls source.new) ⊎ RunsOut MOST_READS (S.calls source.old) (S.calls source.new) }
+    ensures read_fault { result ≡ Err Reader → LastFails (S.calls source.old) (S.calls source.new) ⊎ RunsOut most_reads (S.calls source.old) (S.calls source.new) }
     ensures no_read_fault { result ≢ Err Reader → NoneFails (S.calls source.old) (S.calls source.new) }
 {
     let mut ahead = Ahead::new(alloc, MOST_READS);

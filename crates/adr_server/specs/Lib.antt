@@ -1,4 +1,3 @@
-pub mod Addresses
 pub mod Crews
+pub mod Endpoints
 pub mod Outcomes
-pub mod Deliveries

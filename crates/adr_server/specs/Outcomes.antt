@@ -1,5 +1,5 @@
 -- What comes of what is asked of an office.
-use Rattle.std.specs.Prelude.{◌≡◌, Result, Ok}
+use Rattle.std.specs.Prelude.{◌≡◌, ℕ, Result, Ok}
 use Rattle.adr_text.specs.declared.refusal.Refusal.{Refusal}
 use Rattle.adr_queries.specs.declared.answer.Answer.{Answer}
 use Rattle.adr_queries.specs.declared.answer.Answer.TheVariants.{Done}
@@ -11,9 +11,9 @@ use Rattle.adr_lock.specs.Outcomes.{StepsInOffice, LooksInOffice}
 use Rattle.adr_asked.specs.declared.asked.Asked.{Asked}
 use Rattle.adr_asked.specs.declared.asked.Asked.TheVariants as asked
 
--- a command is a step of the book behind the lock, a query a look at it; where nothing is asked, it is done
-abbrev pub AsksOffice : {D L : Type 0} {g : Ghosts D} → Office D L g → Pass L → Asked → Result Answer Refusal → Pass L → Type 0
-AsksOffice office before asked.Nothing outcome after = (outcome ≡ Ok Done) × (after ≡ before)
-AsksOffice office before (asked.Command command) outcome after = StepsInOffice office most_weight before command outcome after
-AsksOffice office before (asked.Page command skipped) outcome after = StepsInOffice office most_weight before command outcome after
-AsksOffice office before (asked.Query query) outcome after = LooksInOffice office before query outcome after
+-- a command is a step of the book behind the lock at a moment that the clock tells, a query a look at it; where nothing is asked, it is done
+abbrev pub AsksOffice : {D L : Type 0} {g : Ghosts D} → Office D L g → (ℕ → Type 0) → Pass L → Asked → Result Answer Refusal → Pass L → Type 0
+AsksOffice office tells before asked.Nothing outcome after = (outcome ≡ Ok Done) × (after ≡ before)
+AsksOffice office tells before (asked.Command command) outcome after = StepsInOffice office tells most_weight before command outcome after
+AsksOffice office tells before (asked.Page command skipped) outcome after = StepsInOffice office tells most_weight before command outcome after
+AsksOffice office tells before (asked.Query query) outcome after = LooksInOffice office before query outcome after

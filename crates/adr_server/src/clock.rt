@@ -38,6 +38,11 @@ fn first() -> Moment
 }
 
 impl<T: time::Clock + Drop> Clock for HostClock<T> {
+    ghost use Rattle.std.specs.Prelude.{⊤};
+
+    // What the system's clock says no contract knows.
+    ghost tells = { λ clock moment. ⊤ };
+
     fn now<R: Wait>(&self, _rt: &R) -> Moment {
         let Ok(now) = SystemTime::now(&self.0) else {
             return first();

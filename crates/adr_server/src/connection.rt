@@ -86,7 +86,7 @@ where
     M: Ledger,
     requires reads { (reads.name ≡ K.name) × (reads.parts ≡ K.parts) × (1 < reads.parts) }
     requires writes { (writes.name ≡ M.name) × (writes.parts ≡ M.parts) × (1 < writes.parts) }
-    ensures once { TakesOnce (AsksOffice office.now) pass.old pass.new }
+    ensures once { TakesOnce (AsksOffice office.now (C.tells clock.now)) pass.old pass.new }
     ensures one { TakesOneAtMost pass.old pass.new }
 {
     let mut source = Reader::<Paced<'_, R>, K>::new(paced(rt, stream), reads);
@@ -114,7 +114,7 @@ pub fn serve_connection<D: Desk + Drop, L: Ledger, C: Clock, R: Wait + time::Clo
     pass: &mut Pass<L>,
     stream: &TcpStream,
 )
-    ensures once { TakesOnce (AsksOffice office.now) pass.old pass.new }
+    ensures once { TakesOnce (AsksOffice office.now (C.tells clock.now)) pass.old pass.new }
     ensures one { TakesOneAtMost pass.old pass.new }
 {
     let served = serve_over::<D, L, C, R, Brand, Brand>(

@@ -9,7 +9,7 @@ ghost use Rattle.adr_server.specs.Outcomes.{AsksOffice};
 use crate::shared::Shared;
 use adr_book::{Office, Pass};
 use adr_http::{Asked, Routes, ServeFault, Taker, serve};
-use adr_lock::{Call, Clock, take_under_lock};
+use adr_lock::{Call, Clock, Steps, take_under_lock};
 use adr_machine::{Answer, Command, Desk, Query};
 use adr_text::{Name, Refusal, Sink, Source};
 use std::sync::Wait;
@@ -32,10 +32,17 @@ fn take_step<D: Desk + Drop, L: Ledger, C: Clock, R: Wait>(
     pass: &mut Pass<L>,
     command: &Command,
 ) -> Result<Answer, Refusal>
-    ensures outcome { StepsInOffice office.now most_weight pass.old command.now result pass.new }
+    ensures outcome { StepsInOffice office.now (C.tells clock.now) most_weight pass.old command.now result pass.new }
     ensures one { TakesOneAtMost pass.old pass.new }
 {
-    take_under_lock(rt, office, clock, pass, Call::Step(command))
+    take_under_lock(
+        rt,
+        office,
+        clock,
+        pass,
+        &mut Steps::new(),
+        Call::Step(command),
+    )
 }
 
 fn look<D: Desk + Drop, L: Ledger, C: Clock, R: Wait>(
@@ -48,7 +55,14 @@ fn look<D: Desk + Drop, L: Ledger, C: Clock, R: Wait>(
     ensures outcome { LooksInOffice office.now pass.old query.now result pass.new }
     ensures one { TakesOneAtMost pass.old pass.new }
 {
-    take_under_lock(rt, office, clock, pass, Call::Look(query))
+    take_under_lock(
+        rt,
+        office,
+        clock,
+        pass,
+        &mut Steps::new(),
+        Call::Look(query),
+    )
 }
 
 /// Takes what is asked, under the lock. Nothing is asked without it.
@@ -59,7 +73,7 @@ fn take_asked<D: Desk + Drop, L: Ledger, C: Clock, R: Wait>(
     pass: &mut Pass<L>,
     asked: &Asked,
 ) -> Result<Answer, Refusal>
-    ensures outcome { AsksOffice office.now pass.old asked.now result pass.new }
+    ensures outcome { AsksOffice office.now (C.tells clock.now) pass.old asked.now result pass.new }
     ensures one { TakesOneAtMost pass.old pass.new }
 {
     match asked {
@@ -74,7 +88,8 @@ impl<'a, D: Desk + Drop, L: Ledger, C: Clock, R: Wait> Taker for OfficeTaker<'a,
     ghost takes = { λ before asked outcome after.
         (after.pass.ghost_name ≡ before.pass.ghost_name)
         × (after.office ≡ before.office)
-        × AsksOffice before.office.now before.pass.now asked outcome after.pass.now
+        × (after.clock ≡ before.clock)
+        × AsksOffice before.office.now (C.tells before.clock.now) before.pass.now asked outcome after.pass.now
         × TakesOneAtMost before.pass.now after.pass.now };
 
     ghost client = { λ t. t.client.now };
@@ -96,10 +111,10 @@ fn serve_lent<D: Desk + Drop, L: Ledger, C: Clock, R: Wait, S: Source, W: Sink>(
     source: &mut S,
     sink: &mut W,
 ) -> Result<(), ServeFault>
-    ensures all { OnOk result (IfSome (S.left source.old) (λ bytes. ServesBy (AsksOffice taker.old.office.now) taker.old.client.now shared.now.roles taker.old.pass.now bytes taker.new.pass.now (W.written sink.old) (W.written sink.new))) }
-    ensures part { result ≡ Err Write → IfSome (S.left source.old) (λ bytes. ServesPartBy (AsksOffice taker.old.office.now) taker.old.client.now shared.now.roles taker.old.pass.now bytes taker.new.pass.now (W.written sink.old) (W.written sink.new)) }
+    ensures all { OnOk result (IfSome (S.left source.old) (λ bytes. ServesBy (AsksOffice taker.old.office.now (C.tells taker.old.clock.now)) taker.old.client.now shared.now.roles taker.old.pass.now bytes taker.new.pass.now (W.written sink.old) (W.written sink.new))) }
+    ensures part { result ≡ Err Write → IfSome (S.left source.old) (λ bytes. ServesPartBy (AsksOffice taker.old.office.now (C.tells taker.old.clock.now)) taker.old.client.now shared.now.roles taker.old.pass.now bytes taker.new.pass.now (W.written sink.old) (W.written sink.new)) }
     ensures nothing { result ≡ Err Read → (sink.new ≡ sink.old) × (taker.new.pass.now ≡ taker.old.pass.now) }
-    ensures once { TakesOnce (AsksOffice taker.old.office.now) taker.old.pass.now taker.new.pass.now }
+    ensures once { TakesOnce (AsksOffice taker.old.office.now (C.tells taker.old.clock.now)) taker.old.pass.now taker.new.pass.now }
     ensures one { TakesOneAtMost taker.old.pass.now taker.new.pass.now }
     ensures same_pass { taker.new.pass.ghost_name ≡ taker.old.pass.ghost_name }
 {
@@ -118,10 +133,10 @@ pub fn serve_shared<D: Desk + Drop, L: Ledger, C: Clock, R: Wait, S: Source, W: 
     source: &mut S,
     sink: &mut W,
 ) -> Result<(), ServeFault>
-    ensures all { OnOk result (IfSome (S.left source.old) (λ bytes. ServesBy (AsksOffice office.now) shared.now.client shared.now.roles pass.old bytes pass.new (W.written sink.old) (W.written sink.new))) }
-    ensures part { result ≡ Err Write → IfSome (S.left source.old) (λ bytes. ServesPartBy (AsksOffice office.now) shared.now.client shared.now.roles pass.old bytes pass.new (W.written sink.old) (W.written sink.new)) }
+    ensures all { OnOk result (IfSome (S.left source.old) (λ bytes. ServesBy (AsksOffice office.now (C.tells clock.now)) shared.now.client shared.now.roles pass.old bytes pass.new (W.written sink.old) (W.written sink.new))) }
+    ensures part { result ≡ Err Write → IfSome (S.left source.old) (λ bytes. ServesPartBy (AsksOffice office.now (C.tells clock.now)) shared.now.client shared.now.roles pass.old bytes pass.new (W.written sink.old) (W.written sink.new)) }
     ensures nothing { result ≡ Err Read → (sink.new ≡ sink.old) × (pass.new ≡ pass.old) }
-    ensures once { TakesOnce (AsksOffice office.now) pass.old pass.new }
+    ensures once { TakesOnce (AsksOffice office.now (C.tells clock.now)) pass.old pass.new }
     ensures one { TakesOneAtMost pass.old pass.new }
 {
     let mut taker = OfficeTaker {

@@ -1,7 +1,7 @@
 //! The rounds in which the utility is asked.
 use adr_book::{Office, Pass};
 use adr_link::Upstream;
-use adr_lock::Clock;
+use adr_lock::{Clock, Steps};
 use adr_machine::Desk;
 use adr_work::{Gate, poll_round};
 use std::alloc::Global;
@@ -16,15 +16,18 @@ pub fn poll_loop<D: Desk + Drop, L: Ledger, G: Gate, C: Clock, R: Wait + time::C
     rt: &R,
     alloc: Global,
     office: &Office<D, L>,
-    gate: &G,
+    gate: &mut G,
     upstream: &Upstream,
     clock: &C,
     seconds: u64,
     stopped: &AtomicBool,
     mut pass: Pass<L>,
 ) -> Pass<L> {
+    let mut steps = Steps::new();
     for _ in rt.forever() {
-        let _ = poll_round(rt, alloc, office, gate, upstream, clock, &mut pass);
+        let _ = poll_round(
+            rt, alloc, office, gate, upstream, clock, &mut pass, &mut steps,
+        );
         for _ in 0..seconds {
             if stopped.load(Ordering::SeqCst) {
                 break;

@@ -1,17 +1,19 @@
 //! The node as a server.
 ghost use Rattle.std.specs.Prelude.{◌≡◌, ◌+◌, ◌*◌, IfOk, length};
+ghost use Rattle.adr_desk.specs.Desks.{settings_of};
 
 use crate::crew::{Crew, Served};
-use crate::gate::{Peers, SocketGate, StoppedGate};
+use crate::gate::{SocketGate, StoppedGate};
 use crate::poller::poll_loop;
 use crate::shared::Shared;
 use adr_book::{Office, Pass};
 use adr_config::Config;
 use adr_desk::MemoryDesk;
+use adr_link::Upstream;
 use adr_lock::Clock;
 use adr_machine::Desk;
 use adr_text::Refusal;
-use adr_work::{JobQueue, ROOM, start, stop};
+use adr_work::{JobQueue, Peers, ROOM, start, stop};
 use std::alloc::{AllocError, AllocFailed, Global};
 use std::marker::Brand;
 use std::net::{Net, TcpListener, TcpStream};
@@ -104,22 +106,11 @@ where
     Ok(())
 }
 
-fn gate<R>(rt: R, alloc: Global, peers: &Arc<Peers, Global>) -> Result<SocketGate<R>, AllocError>
-where
-    R: Net<Listener = TcpListener, Stream = TcpStream> + time::Clock + Copy + Drop,
-{
-    Ok(SocketGate {
-        net: rt,
-        alloc,
-        peers: Arc::try_clone(peers)?,
-    })
-}
-
 // A gate for each sender.
 fn gates<R>(
     rt: R,
     alloc: Global,
-    peers: &Arc<Peers, Global>,
+    upstream: &Upstream,
     count: u64,
 ) -> Result<Vec<SocketGate<R>>, AllocError>
 where
@@ -128,7 +119,7 @@ where
 {
     let mut gates = Vec::new(alloc);
     for _i in 0..count {
-        gates.push(gate(rt, alloc, peers)?)?;
+        gates.push(SocketGate::new(rt, alloc, upstream)?)?;
     }
     Ok(gates)
 }
@@ -159,17 +150,16 @@ where
     let office = Arc::try_clone(&served.office)?;
     let clock = Arc::try_clone(&served.clock)?;
     let stopped = Arc::try_clone(stopped)?;
-    let gate = StoppedGate {
-        gate: gate(rt, alloc, peers)?,
-        stopped: Arc::try_clone(&stopped)?,
-    };
+    let gate = SocketGate::new(rt, alloc, &peers.upstream)?;
+    let gate = StoppedGate::new(gate, Arc::try_clone(&stopped)?);
     let peers = Arc::try_clone(peers)?;
     let work = move || -> Pass<L> {
+        let mut gate = gate;
         poll_loop(
             &rt,
             alloc,
             &*office,
-            &gate,
+            &mut gate,
             &peers.upstream,
             &*clock,
             seconds,
@@ -181,7 +171,10 @@ where
 }
 
 // What all threads that serve know.
-fn shared(alloc: Global, config: &Config) -> Result<Shared, AllocError> {
+fn shared(alloc: Global, config: &Config) -> Result<Shared, AllocError>
+    ensures roles { IfOk result (λ shared. shared.roles ≡ config.now.roles) }
+    ensures client { IfOk result (λ shared. shared.client ≡ config.now.settings.client) }
+{
     Ok(Shared {
         alloc,
         roles: config.roles.copy(alloc)?,
@@ -190,11 +183,21 @@ fn shared(alloc: Global, config: &Config) -> Result<Shared, AllocError> {
 }
 
 // Whom the node calls.
-fn peers(config: &Config) -> Result<Peers, AllocError> {
+fn peers(config: &Config) -> Result<Peers, AllocError>
+    ensures upstream { IfOk result (λ peers. peers.upstream ≡ config.now.upstream) }
+    ensures callbacks { IfOk result (λ peers. peers.callbacks ≡ config.now.callbacks) }
+{
     Ok(Peers {
         upstream: config.upstream.copy()?,
         callbacks: config.callbacks.copy()?,
     })
+}
+
+// An empty desk with the limits and the name of the configuration.
+fn desk(alloc: Global, config: &Config) -> Result<MemoryDesk, Refusal>
+    ensures { IfOk result (λ desk. settings_of desk ≡ config.now.settings) }
+{
+    MemoryDesk::open_memory(alloc, config.settings.copy()?)
 }
 
 fn serve_over<L, C, R>(
@@ -220,7 +223,7 @@ where
     requires count { blank.parts ≡ 2 * config.now.workers + 2 }
 {
     let count = config.workers.get();
-    let desk = MemoryDesk::open_memory(alloc, config.settings.copy()?)?;
+    let desk = desk(alloc, config)?;
     let (office, mut passes) = Office::<MemoryDesk, L>::open(
         alloc,
         blank,
@@ -242,13 +245,14 @@ where
     };
     let sending = passes.split_off(count as usize)?;
     let (queue, whole) = JobQueue::new(alloc, ROOM)?;
-    let gates = gates(rt, alloc, &peers, count)?;
+    let gates = gates(rt, alloc, &config.upstream, count)?;
     let workers = start(
         rt,
         alloc,
         &served.office,
         queue,
         whole,
+        &peers,
         &served.clock,
         sending,
         gates,

@@ -1,34 +1,27 @@
 //! Days over loopback, of what no clause can say: that connections are served side by side and to their end, and that a
 //! peer who does not do its part holds up no other.
-use crate::gate::{Peers, SocketGate, StoppedGate, address_of};
-use crate::{HostClock, NodeFault, serve_with};
-use adr_config::Config;
-use adr_delivery::{Job, JobMethod};
-use adr_link::{LinkFault, Outcome, Upstream};
+use crate::calling::{job, networks, peers};
+use crate::gate::{SocketGate, StoppedGate};
+use crate::loopback::{
+    CREATED, CUT, GET, NONE, POST, ask, config, connect, read_reply, serve, start,
+};
+use crate::{HostClock, NodeFault};
+use adr_link::Outcome;
 use adr_lock::Clock;
-use adr_network::{Network, Networks};
-use adr_objects::Number;
-use adr_subscription::FreeText;
-use adr_text::{Moment, Rows};
-use adr_work::Gate;
+use adr_network::Networks;
+use adr_text::Moment;
+use adr_work::send;
 use std::alloc::Global;
 use std::io::{Read, Write};
 use std::net::{Net, Shutdown, SocketAddr, TcpListener, TcpStream};
+use std::sync::Arc;
 use std::sync::atomic::AtomicBool;
-use std::sync::{Arc, Wait};
 use std::test::Fail;
-use std::thread::{JoinHandle, Threads};
 use std::time::{Duration, Instant};
 use std::{io, thread, time};
 
-const CREATED: &str =
-    "HTTP/1.1 201 Created\r\nContent-Type: application/json\r\nContent-Length: 135\r\nConnection: close\r\n\r\n{\"createdDateTime\":\"2024-07-01T10:00:00Z\",\"id\":\"v1\",\"modificationDateTime\":\"2024-07-01T10:00:00Z\",\"objectType\":\"VEN\",\"venName\":\"alpha\"}";
-
 const LISTED: &str =
     "HTTP/1.1 200 OK\r\nContent-Type: application/json\r\nContent-Length: 137\r\nConnection: close\r\n\r\n[{\"createdDateTime\":\"2024-07-01T10:00:00Z\",\"id\":\"v1\",\"modificationDateTime\":\"2024-07-01T10:00:00Z\",\"objectType\":\"VEN\",\"venName\":\"alpha\"}]";
-
-const NONE: &str =
-    "HTTP/1.1 200 OK\r\nContent-Type: application/json\r\nContent-Length: 2\r\nConnection: close\r\n\r\n[]";
 
 const MALFORMED: &str =
     "HTTP/1.1 400 Bad Request\r\nContent-Type: application/json\r\nContent-Length: 64\r\nConnection: close\r\n\r\n{\"detail\":\"malformed request\",\"status\":400,\"title\":\"BadRequest\"}";
@@ -36,114 +29,12 @@ const MALFORMED: &str =
 const TOO_LARGE: &str =
     "HTTP/1.1 413 Payload Too Large\r\nContent-Type: application/json\r\nContent-Length: 62\r\nConnection: close\r\n\r\n{\"detail\":\"request too large\",\"status\":413,\"title\":\"TooLarge\"}";
 
-const POST: &[u8] =
-    b"POST /vens HTTP/1.1\r\nHost: x\r\nAuthorization: Bearer t0\r\nTransfer-Encoding: chunked\r\n\r\n13\r\n{\"venName\":\"alpha\"}\r\n0\r\n\r\n";
-
-const GET: &[u8] = b"GET /vens HTTP/1.1\r\nHost: x\r\nAuthorization: Bearer t0\r\n\r\n";
-/// A request whose connection ends in the middle of its body.
-const CUT: &[u8] =
-    b"POST /vens HTTP/1.1\r\nHost: x\r\nAuthorization: Bearer t0\r\nTransfer-Encoding: chunked\r\n\r\n13\r\n{\"venN";
 /// A request, and what no request is behind it.
 const POST_AND_MORE: &[u8] =
     b"POST /vens HTTP/1.1\r\nHost: x\r\nAuthorization: Bearer t0\r\nContent-Length: 19\r\n\r\n{\"venName\":\"alpha\"}\x00GET / \r\n\r\n";
 /// The front of a request whose body is larger than any that is taken.
 const LARGE: &[u8] =
     b"POST /vens HTTP/1.1\r\nHost: x\r\nAuthorization: Bearer t0\r\nContent-Length: 4096000\r\n\r\n";
-
-/// A clock that stands still.
-#[derive(Clone, Copy, Drop)]
-struct Still(Moment);
-
-impl Clock for Still {
-    fn now<R: Wait>(&self, _rt: &R) -> Moment {
-        self.0
-    }
-}
-
-/// A node that serves, and where.
-#[derive(Drop)]
-struct Node {
-    at: SocketAddr,
-    handle: JoinHandle<Result<(), NodeFault>>,
-}
-
-/// A configuration: where to listen, how many workers, after how many connections to stop. Nobody listens at the utility.
-fn config(alloc: Global, at: SocketAddr, workers: u64, most: u64) -> Result<Config, Fail> {
-    let text = format!(in alloc;
-        "{{\"listen\":\"{at}\",\"upstream\":\"http://127.0.0.1:1/openadr3\",\"clientName\":\"aggregator\",\"poll\":1,\"workers\":{workers},\"tokens\":[{{\"token\":\"t0\",\"role\":\"operator\"}}],\"stopAfter\":{most}}}"
-    )?;
-    Ok(Config::read(alloc, text.as_bytes())?)
-}
-
-fn serve<R>(rt: R, alloc: Global, config: &Config) -> Result<(), NodeFault>
-where
-    R: Net<Listener = TcpListener, Stream = TcpStream>
-        + Threads
-        + Wait
-        + time::Clock
-        + Copy
-        + Drop
-        + Send
-        + 'static,
-{
-    match Moment::read("2024-07-01T10:00:00Z") {
-        Ok(at) => serve_with(rt, alloc, config, Still(at)),
-        Err(_) => Err(NodeFault::Store),
-    }
-}
-
-/// An address at which nobody listens.
-fn free<R: Net<Listener = TcpListener, Stream = TcpStream>>(rt: &R) -> io::Result<SocketAddr> {
-    TcpListener::bind(rt, "127.0.0.1:0")?.local_addr()
-}
-
-fn start<R>(rt: R, alloc: Global, workers: u64, most: u64) -> Result<Node, Fail>
-where
-    R: Net<Listener = TcpListener, Stream = TcpStream>
-        + Threads
-        + Wait
-        + time::Clock
-        + Copy
-        + Drop
-        + Send
-        + 'static,
-{
-    let at = free(&rt)?;
-    let config = config(alloc, at, workers, most)?;
-    match thread::spawn(&rt, move || serve(rt, alloc, &config)) {
-        Ok(handle) => Ok(Node { at, handle }),
-        Err(_) => Err(Fail::new("no thread")),
-    }
-}
-
-/// Connects, as soon as somebody listens there.
-fn connect<R>(rt: &R, at: SocketAddr) -> io::Result<TcpStream>
-where
-    R: Net<Listener = TcpListener, Stream = TcpStream> + time::Clock,
-{
-    for _ in 0..200u32 {
-        if let Ok(stream) = TcpStream::connect(rt, at) {
-            return Ok(stream);
-        }
-        thread::sleep(rt, Duration::from_millis(20));
-    }
-    TcpStream::connect(rt, at)
-}
-
-fn read_reply(alloc: Global, stream: &mut TcpStream) -> io::Result<String> {
-    let mut reply = String::new(alloc);
-    stream.read_to_string(&mut reply)?;
-    Ok(reply)
-}
-
-fn ask<R>(rt: &R, alloc: Global, at: SocketAddr, request: &[u8]) -> io::Result<String>
-where
-    R: Net<Listener = TcpListener, Stream = TcpStream> + time::Clock,
-{
-    let mut stream = connect(rt, at)?;
-    stream.write_all(request)?;
-    read_reply(alloc, &mut stream)
-}
 
 #[test]
 fn a_day(rt: HostRuntime) -> Result<(), Fail> {
@@ -268,64 +159,6 @@ fn a_taken_address(rt: HostRuntime) -> Result<(), Fail> {
     Ok(())
 }
 
-#[test]
-fn addresses(rt: HostRuntime) -> Result<(), Fail> {
-    let alloc = rt.alloc();
-    assert_eq!(rt;
-        address_of(alloc, "localhost:8081"),
-        address_of(alloc, "127.0.0.1:8081")
-    );
-    assert!(rt; address_of(alloc, "127.0.0.1:8081").is_some());
-    assert!(rt; address_of(alloc, "[::1]:80").is_some());
-    for none in [
-        "",
-        "localhost",
-        "localhost:65536",
-        "example.org:80",
-        "127.0.0.1",
-    ] {
-        assert!(rt; address_of(alloc, none).is_none());
-    }
-    Ok(())
-}
-
-/// The networks in which addresses may be called: that one, or none.
-fn networks(alloc: Global, network: Option<&str>) -> Result<Networks, Fail> {
-    let mut only = Rows::new(alloc);
-    if let Some(network) = network {
-        only.push(Network::read(network).ok_or("a network")?)?;
-    }
-    Ok(Networks::of(only))
-}
-
-fn gate<R>(rt: R, alloc: Global, upstream: &str, callbacks: Networks) -> Result<SocketGate<R>, Fail>
-where
-    R: Net<Listener = TcpListener, Stream = TcpStream> + time::Clock + Copy + Drop,
-{
-    let peers = Peers {
-        upstream: Upstream::new(alloc, upstream, None)?,
-        callbacks,
-    };
-    Ok(SocketGate {
-        net: rt,
-        alloc,
-        peers: Arc::new(alloc, peers)?,
-    })
-}
-
-/// A job for a subscription, or for the utility, which is 0.
-fn job(alloc: Global, destination: u64, target: &str) -> Result<Job, Fail> {
-    Ok(Job {
-        entry: Number::new(7),
-        lease: 1,
-        destination: Number::new(destination),
-        method: JobMethod::Post,
-        target: FreeText::new(alloc, target)?,
-        token: None,
-        body: FreeText::new(alloc, "{}")?,
-    })
-}
-
 /// Answers so many connections, each by a 200 to whatever it asks.
 fn answer_each(listener: &TcpListener, count: u32) -> io::Result<()> {
     for _ in 0..count {
@@ -350,50 +183,55 @@ fn who_may_be_called(rt: HostRuntime) -> Result<(), Fail> {
     };
     let address = format!(in alloc; "http://{at}/n")?;
     let subscriber = job(alloc, 6, address.as_str())?;
-    let none = gate(rt, alloc, address.as_str(), networks(alloc, None)?)?;
+    let none = peers(alloc, address.as_str(), networks(alloc, None)?)?;
+    let mut gate = SocketGate::new(rt, alloc, &none.upstream)?;
     assert!(rt;
         matches!(
-            none.send(&rt, &subscriber),
+            send(alloc, &mut gate, &none, &subscriber),
             Outcome::Failed { forget: false }
         )
     );
-    let other = gate(
-        rt,
+    let other = peers(
         alloc,
         address.as_str(),
         networks(alloc, Some("127.0.0.2/32"))?,
     )?;
     assert!(rt;
         matches!(
-            other.send(&rt, &subscriber),
+            send(alloc, &mut gate, &other, &subscriber),
             Outcome::Failed { forget: false }
         )
     );
     let utility = job(alloc, 0, "/reports")?;
-    assert!(rt; matches!(none.send(&rt, &utility), Outcome::Sent(_)));
-    let stopped = StoppedGate {
-        gate: gate(rt, alloc, address.as_str(), Networks::any())?,
-        stopped: Arc::new(alloc, AtomicBool::new(true))?,
-    };
+    assert!(rt; matches!(send(alloc, &mut gate, &none, &utility), Outcome::Sent(_)));
+    let any = peers(alloc, address.as_str(), Networks::any())?;
+    let mut stopped = StoppedGate::new(
+        SocketGate::new(rt, alloc, &any.upstream)?,
+        Arc::new(alloc, AtomicBool::new(true))?,
+    );
     assert!(rt;
         matches!(
-            stopped.send(&rt, &subscriber),
+            send(alloc, &mut stopped, &any, &subscriber),
             Outcome::Failed { forget: false }
         )
     );
     assert!(rt;
         matches!(
-            stopped.fetch(&rt, b"GET / HTTP/1.1\r\n\r\n"),
-            Err(LinkFault::Read)
+            send(alloc, &mut stopped, &any, &utility),
+            Outcome::Failed { forget: false }
         )
     );
-    let own = gate(
-        rt,
+    let own = peers(
         alloc,
         address.as_str(),
         networks(alloc, Some("127.0.0.0/8"))?,
     )?;
-    assert!(rt; matches!(own.send(&rt, &subscriber), Outcome::Sent(None)));
+    assert!(rt;
+        matches!(
+            send(alloc, &mut gate, &own, &subscriber),
+            Outcome::Sent(None)
+        )
+    );
     assert!(rt; answers.join(&rt));
     Ok(())
 }

@@ -4,3 +4,7 @@ pub mod Refusing
 pub mod Paging
 pub mod Probing
 pub mod Rounding
+pub mod Accepting
+pub mod Delivering
+pub mod Leasing
+pub mod Taking

@@ -11,7 +11,9 @@ use Rattle.adr_work.specs.declared.page.PageRead.{PageRead}
 use Rattle.adr_work.specs.declared.page.PageRead.TheVariants.{Filled, Empty, Failed}
 use Rattle.adr_work.specs.declared.page.PollEnd.{PollEnd}
 use Rattle.adr_work.specs.declared.page.PollEnd.TheVariants.{Whole, Broken}
-use Rattle.adr_work.specs.Pages.{Came, Exchange, most_pages, most_elements, page_read, elements, command_of, pages_asked, pages_told, end_after, pages_end}
+use Rattle.adr_work.specs.declared.request.Request.{Request}
+use Rattle.adr_work.specs.Exchanges.{Came, Exchange, to_utility}
+use Rattle.adr_work.specs.Pages.{most_pages, most_elements, page_read, elements, command_of, pages_asked, pages_told, end_after, pages_end}
 use Rattle.adr_work.specs.Tellings.{Memory, Told, commands_of, with_told}
 use Rattle.adr_work.specs.Rounds.{Asks, Goes, ReadsPage, AsksPage, TellsPages, IsPaging}
 use Rattle.adr_work.proofs.Memories.{when_err, with_none, with_both}
@@ -29,7 +31,7 @@ going_on : (u : UpstreamParts) (kind : Kind) (count skip : ℕ) (done : List Cam
     → Going u kind count skip done → count < most_pages → page_read kind came ≡ Filled command n → Going u kind (count + 1) (skip + n) (done ++ came ∷ [])
 going_on u kind count skip done came command n g few is = record {
   asked = λ rest.
-      let page : Exchange = (request_bytes (page_request u kind skip), came) in
+      let page : Exchange = (to_utility (request_bytes (page_request u kind skip)), came) in
       let on = pages_asked u kind (skip + n) rest in
       ap (pages_asked u kind 0) (append_assoc done (came ∷ []) rest) ∙ g.asked (came ∷ rest)
       ∙ ap (λ p. pages_asked u kind 0 done ++ page ∷ pages_asked u kind (skip + elements p) rest) is
@@ -195,11 +197,11 @@ pub reads_none : (kind : Kind) (r : Result PageRead Refusal) (pages : List Came)
 reads_none kind r pages err = when_err (λ x. ReadsPage kind x pages) r err (λ e. tt)
 
 -- one page was asked for
-pub page_asked : (u : UpstreamParts) (kind : Kind) (skip : ℕ) (before after : List Exchange) (request : List ℕ) (came : Came) (r : Result PageRead Refusal)
-    → request ≡ request_bytes (page_request u kind skip) → after ≡ before ++ (request, came) ∷ [] → ReadsPage kind r (came ∷ [])
+pub page_asked : (u : UpstreamParts) (kind : Kind) (skip : ℕ) (before after : List Exchange) (request : Request) (came : Came) (r : Result PageRead Refusal)
+    → request ≡ to_utility (request_bytes (page_request u kind skip)) → after ≡ before ++ (request, came) ∷ [] → ReadsPage kind r (came ∷ [])
     → Asks before after (AsksPage u kind skip r)
 page_asked u kind skip before after request came r is asked reads = record {
   asked = pages_asked u kind skip (came ∷ []);
-  exchanges = asked ∙ ap (λ (bytes : List ℕ). before ++ (bytes, came) ∷ []) is;
+  exchanges = asked ∙ ap (λ (it : Request). before ++ (it, came) ∷ []) is;
   holds = record { pages = came ∷ []; asked_is = refl; reads = reads };
 }

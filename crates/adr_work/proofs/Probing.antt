@@ -8,7 +8,8 @@ use Rattle.adr_state.specs.declared.keys.MirrorKey.{MirrorKey}
 use Rattle.adr_link.specs.Requests.{request_bytes}
 use Rattle.adr_link.specs.Targets.{probe_request}
 use Rattle.adr_link.specs.Upstreams.{UpstreamParts}
-use Rattle.adr_work.specs.Pages.{Came, Exchange}
+use Rattle.adr_work.specs.declared.request.Request.{Request}
+use Rattle.adr_work.specs.Exchanges.{Came, Exchange, to_utility}
 use Rattle.adr_work.specs.Probes.{Probe, probe_told, probe_asked, probes_asked, probes_told, keys_of}
 use Rattle.adr_work.specs.Tellings.{Memory, Told, commands_of, with_told}
 use Rattle.adr_work.specs.Rounds.{AreFirstOf, Goes, TellsProbe, IsProbe, TellsProbes, IsProbing}
@@ -120,13 +121,13 @@ probe_none u key before was r err = record {
   holds = record { probes = []; asked_is = refl; tells = tells_none key [] r err (key ∷ [], refl) };
 }
 
-module _ (u : UpstreamParts) (key : MirrorKey) (before after : List Exchange) (was : Memory) (request : List ℕ) (came : Came)
-    (wanted : request ≡ request_bytes (probe_request u key.kind key.id)) (asked : after ≡ before ++ (request, came) ∷ []) where
+module _ (u : UpstreamParts) (key : MirrorKey) (before after : List Exchange) (was : Memory) (request : Request) (came : Came)
+    (wanted : request ≡ to_utility (request_bytes (probe_request u key.kind key.id))) (asked : after ≡ before ++ (request, came) ∷ []) where
   abbrev one : List Probe
   one = (key, came) ∷ []
 
   asked_one : after ≡ before ++ probes_asked u one
-  asked_one = asked ∙ ap (λ (bytes : List ℕ). before ++ (bytes, came) ∷ []) wanted
+  asked_one = asked ∙ ap (λ (it : Request). before ++ (it, came) ∷ []) wanted
 
   -- what came was not told
   pub probe_cut : (is : Memory) (r : Result (Unit {0}) Refusal) → is ≡ was → IsErr r → Goes before after was is (IsProbe u key r)

@@ -8,7 +8,8 @@ use Rattle.adr_link.specs.Upstreams.{UpstreamParts}
 use Rattle.adr_machine.specs.declared.command.Command.TheVariants.{ScanBegin, ScanEnd}
 use Rattle.adr_work.specs.declared.page.PollEnd.{PollEnd}
 use Rattle.adr_work.specs.declared.page.PollEnd.TheVariants.{Whole, Broken}
-use Rattle.adr_work.specs.Pages.{Came, Exchange, most_pages, pages_asked, pages_told, pages_end}
+use Rattle.adr_work.specs.Exchanges.{Came, Exchange}
+use Rattle.adr_work.specs.Pages.{most_pages, pages_asked, pages_told, pages_end}
 use Rattle.adr_work.specs.Probes.{Probe, probes_asked, keys_in}
 use Rattle.adr_work.specs.Tellings.{Memory, Told, commands_of, with_told}
 use Rattle.adr_work.specs.Rounds.{Goes, TellsPages, IsPaging, TellsBoth, IsListing, IsProbing, IsEnding, IsRound, both_asked}

@@ -7,7 +7,7 @@ use Rattle.adr_machine.specs.declared.desk.Desk.{Ghosts}
 use Rattle.adr_book.specs.declared.kept.Book.{Book}
 use Rattle.adr_book.specs.Words.{trail_of}
 use Rattle.adr_work.specs.declared.page.PollEnd.{PollEnd}
-use Rattle.adr_work.specs.Pages.{Exchange}
+use Rattle.adr_work.specs.Exchanges.{Exchange}
 use Rattle.adr_work.specs.Tellings.{Told, commands_of}
 use Rattle.adr_work.specs.Rounds.{IsRound}
 

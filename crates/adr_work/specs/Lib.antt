@@ -3,9 +3,14 @@ pub mod Seats
 pub mod Crew
 pub mod Settling
 pub mod Leased
+pub mod Waiting
+pub mod Exchanges
+pub mod Deliveries
+pub mod Sending
 pub mod Pages
 pub mod Probes
 pub mod Tellings
 pub mod Refused
 pub mod Rounds
 pub mod BookRounds
+pub mod OfficeRounds

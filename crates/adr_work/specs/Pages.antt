@@ -1,9 +1,7 @@
 -- What the replies to requests for pages tell, and how the asking for them goes on.
-use Rattle.std.specs.Prelude.{ℕ, zero, suc, ◌+◌, ◌==◌, nat_le, true, if◌then◌else◌, List, [], ◌∷◌, ◌++◌, length, Option, None, Some, Result}
+use Rattle.std.specs.Prelude.{ℕ, zero, suc, ◌+◌, ◌==◌, nat_le, true, if◌then◌else◌, List, [], ◌∷◌, ◌++◌, length, Option, None, Some}
 use Rattle.adr_objects.specs.declared.body.Found.{Found}
 use Rattle.adr_objects.specs.declared.kind.Kind.{Kind}
-use Rattle.adr_link.specs.declared.reply.HttpReply.{HttpReply}
-use Rattle.adr_link.specs.declared.reply.LinkFault.{LinkFault}
 use Rattle.adr_link.specs.declared.found.Asked.TheVariants as asked
 use Rattle.adr_link.specs.declared.found.Finding.{Finding}
 use Rattle.adr_link.specs.declared.found.Finding.TheVariants as finding
@@ -13,18 +11,11 @@ use Rattle.adr_link.specs.Targets.{page_request}
 use Rattle.adr_link.specs.Upstreams.{UpstreamParts}
 use Rattle.adr_machine.specs.declared.command.Command.{Command}
 use Rattle.adr_machine.specs.declared.command.Command.TheVariants as command
+use Rattle.adr_work.specs.Exchanges.{Came, Exchange, to_utility}
 use Rattle.adr_work.specs.declared.page.PageRead.{PageRead}
 use Rattle.adr_work.specs.declared.page.PageRead.TheVariants.{Filled, Empty, Failed}
 use Rattle.adr_work.specs.declared.page.PollEnd.{PollEnd}
 use Rattle.adr_work.specs.declared.page.PollEnd.TheVariants.{Whole, Broken}
-
--- what comes of a request: a reply, or why there is none
-abbrev pub Came : Type 0
-Came = Result HttpReply LinkFault
-
--- the bytes of a request, and what came of it
-abbrev pub Exchange : Type 0
-Exchange = List ℕ × Came
 
 -- a body has no more bytes than this, and a page no more elements
 abbrev pub most_elements : ℕ
@@ -62,7 +53,7 @@ command_of Failed = []
 -- the requests for pages of a kind by what came of each: each page is asked for behind the elements of those before it
 abbrev pub pages_asked : UpstreamParts → Kind → ℕ → List Came → List Exchange
 pages_asked u kind skip [] = []
-pages_asked u kind skip (came ∷ rest) = (request_bytes (page_request u kind skip), came) ∷ pages_asked u kind (skip + elements (page_read kind came)) rest
+pages_asked u kind skip (came ∷ rest) = (to_utility (request_bytes (page_request u kind skip)), came) ∷ pages_asked u kind (skip + elements (page_read kind came)) rest
 
 -- the commands that pages stand for
 abbrev pub pages_told : Kind → List Came → List Command

@@ -14,7 +14,7 @@ use Rattle.adr_link.specs.Targets.{probe_request}
 use Rattle.adr_link.specs.Upstreams.{UpstreamParts}
 use Rattle.adr_machine.specs.declared.command.Command.{Command}
 use Rattle.adr_machine.specs.declared.command.Command.TheVariants.{Evidence, Gone}
-use Rattle.adr_work.specs.Pages.{Came, Exchange}
+use Rattle.adr_work.specs.Exchanges.{Came, Exchange, to_utility}
 
 -- the evidence of one version
 abbrev pub version_command : Found → Command
@@ -36,7 +36,7 @@ Probe = MirrorKey × Came
 
 -- the request for the object of a key, and what came of it
 abbrev pub probe_asked : UpstreamParts → Probe → Exchange
-probe_asked u probe = (request_bytes (probe_request u probe.0.kind probe.0.id), probe.1)
+probe_asked u probe = (to_utility (request_bytes (probe_request u probe.0.kind probe.0.id)), probe.1)
 
 abbrev pub probes_asked : UpstreamParts → List Probe → List Exchange
 probes_asked u probes = map (probe_asked u) probes

@@ -11,7 +11,8 @@ use Rattle.adr_machine.specs.declared.command.Command.TheVariants.{ScanBegin, Sc
 use Rattle.adr_work.specs.declared.page.PageRead.{PageRead}
 use Rattle.adr_work.specs.declared.page.PollEnd.{PollEnd}
 use Rattle.adr_work.specs.declared.page.PollEnd.TheVariants.{Whole, Broken}
-use Rattle.adr_work.specs.Pages.{Came, Exchange, most_pages, page_read, pages_asked, pages_told, pages_end}
+use Rattle.adr_work.specs.Exchanges.{Came, Exchange}
+use Rattle.adr_work.specs.Pages.{most_pages, page_read, pages_asked, pages_told, pages_end}
 use Rattle.adr_work.specs.Probes.{Probe, probes_asked, probes_told, keys_of, keys_in}
 use Rattle.adr_work.specs.Tellings.{Memory, Told, commands_of, with_told}
 

@@ -1,7 +1,7 @@
 -- What clauses say of the seats of a queue.
-use Rattle.std.specs.Prelude.{◌≡◌, ◌+◌, Bool, List, []}
+use Rattle.std.specs.Prelude.{◌≡◌, ◌+◌, ℕ, Bool, List, []}
 use Rattle.std.specs.List.{count_by}
-use Rattle.crossbeam_queue.specs.Passes.{view, IsPassOf, IsSamePass}
+use Rattle.crossbeam_queue.specs.Passes.{view, ruled_capacity, IsPassOf, IsSamePass}
 use Rattle.crossbeam_queue.specs.Passes as passes
 use Rattle.adr_delivery.specs.declared.job.Job.{Job}
 use Rattle.adr_work.specs.declared.hand.Hand.{Hand}
@@ -10,6 +10,10 @@ use Rattle.adr_work.specs.declared.queue.JobQueue.{JobQueue}
 
 abbrev pub Seat : Type 0
 Seat = passes.Pass Job Hand
+
+-- how many jobs a queue holds at most
+abbrev pub capacity_of : JobQueue → ℕ
+capacity_of queue = ruled_capacity queue.ring
 
 abbrev pub IsSeatOf : JobQueue → Seat → Type 0
 IsSeatOf queue seat = IsPassOf queue.ring seat

@@ -1,17 +1,19 @@
 //! What the dispatcher does: it leases what is due, a job at a time, and puts it into the queue.
-ghost use Rattle.std.specs.Prelude.{◌<◌, IfErr};
+ghost use Rattle.std.specs.Prelude.{◌≡◌, ◌<◌, IfErr};
 ghost use Rattle.crossbeam_queue.specs.Passes.{view};
 ghost use Rattle.adr_machine.specs.declared.command.Command.TheVariants.{Lease};
 ghost use Rattle.adr_book.specs.Refused.{MayRefuse};
 ghost use Rattle.adr_book.specs.Words.{seen_by};
+ghost use Rattle.adr_work.specs.Leased.{LeasesOnce};
 ghost use Rattle.adr_work.specs.Seats.{IsSeatOf, OnlyPuts};
+ghost use Rattle.adr_work.specs.Waiting.{may_wait};
 
 use crate::crew::Ended;
 use crate::leased::job_in;
 use crate::queue::{JobQueue, Seat};
 use adr_book::{Office, Pass};
 use adr_delivery::Job;
-use adr_lock::{Call, Clock, take_under_lock};
+use adr_lock::{Call, Clock, Steps, take_under_lock};
 use adr_machine::{Answer, Command, Desk, Query, Role};
 use adr_text::Refusal;
 use std::sync::Wait;
@@ -19,16 +21,18 @@ use std::sync::ledger::Ledger;
 use std::time;
 
 /// Leases the next entry, where one is due at the clock's moment, by one step under the lock.
-#[tactic(auto, using(crate::proofs::Refusing::may_refuse_same))]
-fn lease<D: Desk + Drop, L: Ledger, C: Clock, R: Wait>(
+#[tactic(auto, using(crate::proofs::Refusing::may_refuse_same, crate::proofs::Leasing::leases_ok, crate::proofs::Leasing::leases_err))]
+pub(crate) fn lease<D: Desk + Drop, L: Ledger, C: Clock, R: Wait>(
     rt: &R,
     office: &Office<D, L>,
     clock: &C,
     pass: &mut Pass<L>,
+    steps: &mut Steps,
 ) -> Result<Option<Job>, Refusal>
-    ensures { IfErr result (MayRefuse D.may_refuse (seen_by pass.new) Lease) }
+    ensures once { LeasesOnce steps.old.items steps.new.items result }
+    ensures refusal { IfErr result (MayRefuse D.may_refuse (seen_by pass.new) Lease) }
 {
-    let answer = take_under_lock(rt, office, clock, pass, Call::Step(&Command::Lease))?;
+    let answer = take_under_lock(rt, office, clock, pass, steps, Call::Step(&Command::Lease))?;
     Ok(job_in(&answer)?)
 }
 
@@ -41,6 +45,7 @@ pub fn dispatch<D: Desk + Drop, L: Ledger, C: Clock, R: Wait>(
     clock: &C,
     pass: &mut Pass<L>,
     seat: &mut Seat,
+    steps: &mut Steps,
 ) -> Result<(), Refusal>
     requires { IsSeatOf queue.now seat.old × (0 < (view seat.old).parts) }
     ensures puts { OnlyPuts seat.old seat.new }
@@ -50,7 +55,7 @@ pub fn dispatch<D: Desk + Drop, L: Ledger, C: Clock, R: Wait>(
         if queue.is_closed(rt) || queue.is_full(seat) {
             break;
         }
-        let Some(job) = lease(rt, office, clock, pass)? else {
+        let Some(job) = lease(rt, office, clock, pass, steps)? else {
             break;
         };
         let _ = queue.put(rt, seat, job);
@@ -58,21 +63,28 @@ pub fn dispatch<D: Desk + Drop, L: Ledger, C: Clock, R: Wait>(
     Ok(())
 }
 
-/// Whether an entry waits in the outbox. It takes no turn, as a lease does that finds none. Where that is refused, one may.
-fn may_wait<D: Desk + Drop, L: Ledger, C: Clock, R: Wait>(
+/// Whether an entry may wait, by what was answered to a look at the outbox. Where that is refused, one may.
+fn may_wait(looked: &Result<Answer, Refusal>) -> bool
+    ensures { result ≡ may_wait looked.now }
+{
+    match looked {
+        Ok(Answer::Counts(counts)) => 0 < counts.pending,
+        _ => true,
+    }
+}
+
+/// Whether an entry waits in the outbox. It takes no turn, as a lease does that finds none.
+fn waits<D: Desk + Drop, L: Ledger, C: Clock, R: Wait>(
     rt: &R,
     office: &Office<D, L>,
     clock: &C,
     pass: &mut Pass<L>,
+    steps: &mut Steps,
 ) -> bool {
     let query = Query::Outbox {
         role: Role::Operator,
     };
-    let looked = take_under_lock(rt, office, clock, pass, Call::Look(&query));
-    match &looked {
-        Ok(Answer::Counts(counts)) => 0 < counts.pending,
-        _ => true,
-    }
+    may_wait(&take_under_lock(rt, office, clock, pass, steps, Call::Look(&query)))
 }
 
 /// Dispatches again after each job that was taken or settled, and at least once a second, until the queue is closed, where
@@ -88,12 +100,13 @@ pub fn dispatch_loop<D: Desk + Drop, L: Ledger, C: Clock, R: Wait + time::Clock>
     requires { IsSeatOf queue.now seat × (0 < (view seat).parts) }
     ensures { OnlyPuts seat result.seat }
 {
+    let mut steps = Steps::new();
     for _ in rt.forever() {
         let Some(seen) = queue.ends(rt) else {
             break;
         };
-        if may_wait(rt, office, clock, &mut pass) {
-            let _ = dispatch(rt, office, queue, clock, &mut pass, &mut seat);
+        if waits(rt, office, clock, &mut pass, &mut steps) {
+            let _ = dispatch(rt, office, queue, clock, &mut pass, &mut seat, &mut steps);
         }
         queue.wait_for_end(rt, seen);
     }

@@ -1,13 +1,16 @@
-//! Where requests are sent to.
-use adr_delivery::Job;
-use adr_link::{HttpReply, LinkFault, Outcome};
-use std::sync::Wait;
+//! Where requests are sent.
+ghost use Rattle.std.specs.Prelude.{◌≡◌, List, [], ◌∷◌, ◌++◌};
+ghost use Rattle.adr_work.specs.Exchanges.{Exchange};
 
-/// Where jobs and requests are sent.
+use crate::request::Request;
+use adr_link::{HttpReply, LinkFault};
+
+/// Where requests are sent. One thread has it alone.
 pub trait Gate {
-    /// Sends a job, and tells what came of it.
-    fn send<R: Wait>(&self, rt: &R, job: &Job) -> Outcome;
+    /// The requests so far, and what came of each.
+    ghost exchanges: { Self → List Exchange };
 
-    /// Sends the bytes of a request to the utility, and gives the reply, or the fault where none came.
-    fn fetch<R: Wait>(&self, rt: &R, request: &[u8]) -> Result<HttpReply, LinkFault>;
+    /// Sends a request, and gives the reply, or the fault where none came.
+    fn ask(&mut self, request: &Request) -> Result<HttpReply, LinkFault>
+        ensures { exchanges self.new ≡ exchanges self.old ++ (request.now, result) ∷ [] };
 }

@@ -2,17 +2,19 @@
 //! them, and the utility is polled in rounds.
 #![tactic(auto)]
 
-mod asker;
 mod crew;
+mod delivery;
 mod dispatcher;
 mod gate;
 mod hand;
 mod leased;
 mod line;
 mod page;
+mod peers;
 mod polling;
 mod probe;
 mod queue;
+mod request;
 mod round;
 mod rule;
 mod sender;
@@ -21,16 +23,18 @@ mod span;
 mod teller;
 mod workers;
 
-pub use adr_lock::Clock;
-pub use asker::Asker;
+pub use adr_lock::{Clock, Steps};
 pub use crew::{Ended, Handed, Stopped, Thread, Workers};
+pub use delivery::send;
 pub use dispatcher::{dispatch, dispatch_loop};
 pub use gate::Gate;
 pub use hand::Hand;
 pub use page::{MOST_ELEMENTS, PageRead, PollEnd, page_read};
+pub use peers::Peers;
 pub use polling::{MOST_PAGES, poll};
 pub use probe::probe_told;
 pub use queue::{JobQueue, Seat};
+pub use request::{Callee, Request};
 pub use round::{poll_book, poll_round};
 pub use rule::Fair;
 pub use sender::send_loop;

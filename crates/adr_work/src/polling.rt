@@ -5,53 +5,54 @@ ghost use Rattle.adr_work.specs.Pages.{most_elements, elements};
 ghost use Rattle.adr_work.specs.Rounds.{Asks, Goes, AsksPage, IsPaging, IsListing, IsProbe, IsProbing, IsEnding, IsRound};
 ghost use Rattle.adr_work.specs.Refused.{EndsBy};
 
-use crate::asker::Asker;
+use crate::gate::Gate;
 use crate::page::{PageRead, PollEnd, page_read};
 use crate::probe::{keys_in, probe_told};
+use crate::request::to_utility;
 use crate::teller::Teller;
 use adr_link::Upstream;
 use adr_machine::Command;
 use adr_objects::Kind;
 use adr_state::MirrorKey;
-use adr_text::{Refusal, Rows};
+use adr_text::Refusal;
 use std::alloc::Global;
 
 /// Pages of one kind that are asked for in a round.
 pub const MOST_PAGES: u32 = 2_000;
 
 /// Asks for a page of a kind, behind so many elements.
-fn ask_page<A: Asker>(
+fn ask_page<G: Gate>(
     alloc: Global,
-    asker: &mut A,
+    gate: &mut G,
     upstream: &Upstream,
     kind: Kind,
     skip: u64,
 ) -> Result<PageRead, Refusal>
-    ensures page { Asks (A.exchanges asker.old) (A.exchanges asker.new) (AsksPage upstream.now kind skip result) }
+    ensures page { Asks (G.exchanges gate.old) (G.exchanges gate.new) (AsksPage upstream.now kind skip result) }
     ensures few { IfOk result (λ page. elements page ≤ most_elements) }
     ensures memory { IfErr result (λ refusal. refusal ≡ OutOfMemory) }
 {
-    let request = Rows::from_vec(upstream.page_request(alloc, kind, skip)?);
-    let came = asker.ask(&request);
+    let request = to_utility(upstream.page_request(alloc, kind, skip)?);
+    let came = gate.ask(&request);
     Ok(page_read(alloc, kind, &came)?)
 }
 
 /// Asks for the pages of a kind, each behind the elements of those before it, until one is empty, and tells of each that
 /// has elements. It ends as broken with a page that fails, or where 2,000 pages were not all.
 #[tactic(auto, using(crate::proofs::Refusing::ends_memory, crate::proofs::Refusing::ends_refused))]
-fn poll_pages<A: Asker, T: Teller>(
+fn poll_pages<G: Gate, T: Teller>(
     alloc: Global,
-    asker: &mut A,
+    gate: &mut G,
     teller: &mut T,
     upstream: &Upstream,
     kind: Kind,
 ) -> Result<PollEnd, Refusal>
-    ensures round { Goes (A.exchanges asker.old) (A.exchanges asker.new) (T.memory teller.old) (T.memory teller.new) (IsPaging upstream.now kind result) }
+    ensures round { Goes (G.exchanges gate.old) (G.exchanges gate.new) (T.memory teller.old) (T.memory teller.new) (IsPaging upstream.now kind result) }
     ensures refusal { IfErr result (λ refusal. EndsBy (T.refuses teller.new) refusal) }
 {
     let mut skip = 0;
     for _i in 0..MOST_PAGES {
-        match ask_page(alloc, asker, upstream, kind, skip)? {
+        match ask_page(alloc, gate, upstream, kind, skip)? {
             PageRead::Filled(command, elements) => {
                 teller.tell(&command)?;
                 skip += elements;
@@ -64,35 +65,35 @@ fn poll_pages<A: Asker, T: Teller>(
 }
 
 /// Asks for the pages of programs, and where these are whole for those of events.
-fn poll_both<A: Asker, T: Teller>(
+fn poll_both<G: Gate, T: Teller>(
     alloc: Global,
-    asker: &mut A,
+    gate: &mut G,
     teller: &mut T,
     upstream: &Upstream,
 ) -> Result<PollEnd, Refusal>
-    ensures round { Goes (A.exchanges asker.old) (A.exchanges asker.new) (T.memory teller.old) (T.memory teller.new) (IsListing upstream.now result) }
+    ensures round { Goes (G.exchanges gate.old) (G.exchanges gate.new) (T.memory teller.old) (T.memory teller.new) (IsListing upstream.now result) }
     ensures refusal { IfErr result (λ refusal. EndsBy (T.refuses teller.new) refusal) }
 {
-    match poll_pages(alloc, asker, teller, upstream, Kind::Program)? {
-        PollEnd::Whole => poll_pages(alloc, asker, teller, upstream, Kind::Event),
+    match poll_pages(alloc, gate, teller, upstream, Kind::Program)? {
+        PollEnd::Whole => poll_pages(alloc, gate, teller, upstream, Kind::Event),
         PollEnd::Broken => Ok(PollEnd::Broken),
     }
 }
 
 /// Asks for the object of a key, and tells what came of it. A probe that failed is passed over.
 #[tactic(auto, using(crate::proofs::Refusing::ends_memory, crate::proofs::Refusing::ends_refused))]
-fn probe<A: Asker, T: Teller>(
+fn probe<G: Gate, T: Teller>(
     alloc: Global,
-    asker: &mut A,
+    gate: &mut G,
     teller: &mut T,
     upstream: &Upstream,
     key: &MirrorKey,
 ) -> Result<(), Refusal>
-    ensures round { Goes (A.exchanges asker.old) (A.exchanges asker.new) (T.memory teller.old) (T.memory teller.new) (IsProbe upstream.now key.now result) }
+    ensures round { Goes (G.exchanges gate.old) (G.exchanges gate.new) (T.memory teller.old) (T.memory teller.new) (IsProbe upstream.now key.now result) }
     ensures refusal { IfErr result (λ refusal. EndsBy (T.refuses teller.new) refusal) }
 {
-    let request = Rows::from_vec(upstream.probe_request(alloc, key.kind, &key.id)?);
-    let came = asker.ask(&request);
+    let request = to_utility(upstream.probe_request(alloc, key.kind, &key.id)?);
+    let came = gate.ask(&request);
     let Some(command) = probe_told(alloc, key, &came)? else {
         return Ok(());
     };
@@ -101,53 +102,53 @@ fn probe<A: Asker, T: Teller>(
 }
 
 /// Probes each of the keys in turn.
-fn probe_each<A: Asker, T: Teller>(
+fn probe_each<G: Gate, T: Teller>(
     alloc: Global,
-    asker: &mut A,
+    gate: &mut G,
     teller: &mut T,
     upstream: &Upstream,
     keys: &[MirrorKey],
 ) -> Result<(), Refusal>
-    ensures round { Goes (A.exchanges asker.old) (A.exchanges asker.new) (T.memory teller.old) (T.memory teller.new) (IsProbing upstream.now keys.now result) }
+    ensures round { Goes (G.exchanges gate.old) (G.exchanges gate.new) (T.memory teller.old) (T.memory teller.new) (IsProbing upstream.now keys.now result) }
     ensures refusal { IfErr result (λ refusal. EndsBy (T.refuses teller.new) refusal) }
 {
     for key in keys {
-        probe(alloc, asker, teller, upstream, key)?;
+        probe(alloc, gate, teller, upstream, key)?;
     }
     Ok(())
 }
 
 /// Ends the scan, and probes the keys that it missed.
 #[tactic(auto, using(crate::proofs::Refusing::ends_refused))]
-fn end_scan<A: Asker, T: Teller>(
+fn end_scan<G: Gate, T: Teller>(
     alloc: Global,
-    asker: &mut A,
+    gate: &mut G,
     teller: &mut T,
     upstream: &Upstream,
 ) -> Result<(), Refusal>
-    ensures round { Goes (A.exchanges asker.old) (A.exchanges asker.new) (T.memory teller.old) (T.memory teller.new) (IsEnding upstream.now result) }
+    ensures round { Goes (G.exchanges gate.old) (G.exchanges gate.new) (T.memory teller.old) (T.memory teller.new) (IsEnding upstream.now result) }
     ensures refusal { IfErr result (λ refusal. EndsBy (T.refuses teller.new) refusal) }
 {
     let missed = teller.tell(&Command::ScanEnd)?;
-    probe_each(alloc, asker, teller, upstream, keys_in(&missed))
+    probe_each(alloc, gate, teller, upstream, keys_in(&missed))
 }
 
 /// One round: a scan over all pages of programs and then of events, whose end answers the keys that it missed, and a
 /// probe of each of these. Where not all pages are seen, the scan is not ended. A refused command ends the round.
 #[tactic(auto, using(crate::proofs::Refusing::ends_refused))]
-pub fn poll<A: Asker, T: Teller>(
+pub fn poll<G: Gate, T: Teller>(
     alloc: Global,
-    asker: &mut A,
+    gate: &mut G,
     teller: &mut T,
     upstream: &Upstream,
 ) -> Result<PollEnd, Refusal>
-    ensures round { Goes (A.exchanges asker.old) (A.exchanges asker.new) (T.memory teller.old) (T.memory teller.new) (IsRound upstream.now result) }
+    ensures round { Goes (G.exchanges gate.old) (G.exchanges gate.new) (T.memory teller.old) (T.memory teller.new) (IsRound upstream.now result) }
     ensures refusal { IfErr result (λ refusal. EndsBy (T.refuses teller.new) refusal) }
 {
     teller.tell(&Command::ScanBegin)?;
-    match poll_both(alloc, asker, teller, upstream)? {
+    match poll_both(alloc, gate, teller, upstream)? {
         PollEnd::Whole => {
-            end_scan(alloc, asker, teller, upstream)?;
+            end_scan(alloc, gate, teller, upstream)?;
             Ok(PollEnd::Whole)
         }
         PollEnd::Broken => Ok(PollEnd::Broken),

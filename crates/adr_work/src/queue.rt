@@ -2,7 +2,7 @@
 ghost use Rattle.std.specs.Prelude.{◌≡◌, ◌+◌, ◌-◌, ◌<◌, ◌≤◌, [], ◌∷◌, ◌++◌, IfOk, MatchOption, MatchResult};
 ghost use Rattle.crossbeam_queue.specs.Passes.{view, IsSamePass};
 ghost use Rattle.adr_work.specs.Fair.{hand, all_parts};
-ghost use Rattle.adr_work.specs.Seats.{IsSeatOf, IsShared};
+ghost use Rattle.adr_work.specs.Seats.{capacity_of, IsSeatOf, IsShared};
 
 use crate::hand::Hand;
 use crate::rule::{Clears, Cut, Fair, Puts, Takes};
@@ -40,10 +40,11 @@ pub struct JobQueue {
 }
 
 impl JobQueue {
-    /// An open queue, and the seat with all parts.
+    /// An open queue for so many jobs, and the seat with all parts.
     pub fn new(alloc: Global, capacity: usize) -> Result<(JobQueue, Seat), AllocError>
         requires { (0 < capacity) × (capacity ≤ 64) }
-        ensures { IfOk result (λ r. IsSeatOf r.0 r.1 × (view r.1 ≡ hand all_parts [] [] [])) }
+        ensures seat { IfOk result (λ r. IsSeatOf r.0 r.1 × (view r.1 ≡ hand all_parts [] [] [])) }
+        ensures capacity { IfOk result (λ r. capacity_of r.0 ≡ capacity) }
     {
         let (ring, seat) = Ring::ruled(alloc, capacity)?;
         let moves = Mutex::new(Moves {

@@ -1,47 +1,39 @@
-//! What a sender does: it takes jobs and sends them, outside the lock, and settles each under it.
+//! What a sender does: it takes jobs, and sends and settles each.
 ghost use Rattle.std.specs.Prelude.{◌<◌};
 ghost use Rattle.crossbeam_queue.specs.Passes.{view};
 ghost use Rattle.adr_work.specs.Seats.{IsSeatOf, OnlyTakes};
+ghost use Rattle.adr_work.specs.Sending.{SendsTaken};
 
 use crate::crew::Ended;
+use crate::delivery::deliver;
 use crate::gate::Gate;
+use crate::peers::Peers;
 use crate::queue::{JobQueue, Seat};
-use crate::settlement::settlement_of;
 use adr_book::{Office, Pass};
-use adr_delivery::Job;
-use adr_lock::{Call, Clock, take_under_lock};
+use adr_lock::{Clock, Steps};
 use adr_machine::Desk;
+use std::alloc::Global;
 use std::sync::Wait;
 use std::sync::ledger::Ledger;
 
-/// Sends a job outside the lock, and then settles it by one step under it. A settlement that is refused is passed over:
-/// the lease expires then.
-fn deliver<D: Desk + Drop, L: Ledger, G: Gate, C: Clock, R: Wait>(
-    rt: &R,
-    office: &Office<D, L>,
-    gate: &G,
-    clock: &C,
-    pass: &mut Pass<L>,
-    job: &Job,
-) {
-    let outcome = gate.send(rt, job);
-    let command = settlement_of(job, outcome);
-    let _ = take_under_lock(rt, office, clock, pass, Call::Step(&command));
-}
-
 /// Takes jobs, sends and settles them, until the queue is closed. Once it is, the job in hand is settled, and no further
 /// one is taken.
+#[tactic(auto, using(crate::proofs::Delivering::sends_none, crate::proofs::Delivering::sends_more, crate::proofs::Delivering::sends_same))]
 pub fn send_loop<D: Desk + Drop, L: Ledger, G: Gate, C: Clock, R: Wait>(
     rt: &R,
+    alloc: Global,
     office: &Office<D, L>,
     queue: &JobQueue,
-    gate: &G,
+    gate: &mut G,
+    peers: &Peers,
     clock: &C,
     mut pass: Pass<L>,
     mut seat: Seat,
+    steps: &mut Steps,
 ) -> Ended<L>
     requires { IsSeatOf queue.now seat × (0 < (view seat).parts) }
-    ensures { OnlyTakes seat result.seat }
+    ensures takes { OnlyTakes seat result.seat }
+    ensures sends { SendsTaken peers.now seat result.seat (G.exchanges gate.old) (G.exchanges gate.new) steps.old.items steps.new.items }
 {
     for _ in rt.forever() {
         let Some(seen) = queue.puts(rt) else {
@@ -49,7 +41,9 @@ pub fn send_loop<D: Desk + Drop, L: Ledger, G: Gate, C: Clock, R: Wait>(
         };
         match queue.take(rt, &mut seat) {
             Some(job) => {
-                deliver(rt, office, gate, clock, &mut pass, &job);
+                deliver(
+                    rt, alloc, office, gate, peers, clock, &mut pass, steps, &job,
+                );
                 queue.tell_end(rt);
             }
             None => queue.wait_for_put(rt, seen),

@@ -9,10 +9,11 @@ ghost use Rattle.adr_work.specs.Crew.{threads_of, queue_of, IsWholeOf};
 use crate::crew::{Ended, Handed, Stopped, Thread, Workers};
 use crate::dispatcher::dispatch_loop;
 use crate::gate::Gate;
+use crate::peers::Peers;
 use crate::queue::{JobQueue, Seat};
 use crate::sender::send_loop;
 use adr_book::{Office, Pass};
-use adr_lock::Clock;
+use adr_lock::{Clock, Steps};
 use adr_machine::Desk;
 use std::alloc::{AllocError, Global};
 use std::snapshot::Snapshot;
@@ -24,8 +25,10 @@ use std::{thread, time};
 /// Starts a sender.
 fn sender<D, L, G, C, R>(
     rt: R,
+    alloc: Global,
     office: &Arc<Office<D, L>, Global>,
     queue: &Arc<JobQueue, Global>,
+    peers: &Arc<Peers, Global>,
     clock: &Arc<C, Global>,
     gate: G,
     pass: Pass<L>,
@@ -42,12 +45,19 @@ where
 {
     let office = Arc::try_clone(office)?;
     let queue = Arc::try_clone(queue)?;
+    let peers = Arc::try_clone(peers)?;
     let clock = Arc::try_clone(clock)?;
     let handed = Handed(Snapshot::of(&seat));
     let work = move || -> Ended<L>
         requires { IsFresh (arc_value queue) seat }
         ensures { IsBack seat result.seat }
-    { send_loop(&rt, &*office, &*queue, &gate, &*clock, pass, seat) };
+    {
+        let mut gate = gate;
+        let mut steps = Steps::new();
+        send_loop(
+            &rt, alloc, &*office, &*queue, &mut gate, &*peers, &*clock, pass, seat, &mut steps,
+        )
+    };
     Ok(thread::spawn_with(&rt, handed, work)?)
 }
 
@@ -107,7 +117,9 @@ impl<L: Ledger> Workers<L> {
     fn with_sender<D, G, C, R>(
         self,
         rt: R,
+        alloc: Global,
         office: &Arc<Office<D, L>, Global>,
+        peers: &Arc<Peers, Global>,
         clock: &Arc<C, Global>,
         gate: G,
         pass: Pass<L>,
@@ -133,7 +145,7 @@ impl<L: Ledger> Workers<L> {
             return Err(AllocError);
         }
         let seat = queue.hand_out(&mut whole);
-        let Ok(thread) = sender(rt, office, &queue, clock, gate, pass, seat) else {
+        let Ok(thread) = sender(rt, alloc, office, &queue, peers, clock, gate, pass, seat) else {
             abandon(&rt, &queue, threads);
             return Err(AllocError);
         };
@@ -194,6 +206,7 @@ pub fn start<D, L, G, C, R>(
     office: &Arc<Office<D, L>, Global>,
     queue: JobQueue,
     whole: Seat,
+    peers: &Arc<Peers, Global>,
     clock: &Arc<C, Global>,
     passes: Vec<Pass<L>>,
     gates: Vec<G>,
@@ -217,7 +230,7 @@ where
         let Some(pass) = passes.pop() else {
             unreachable!()
         };
-        workers = workers.with_sender(rt, office, clock, gate, pass)?;
+        workers = workers.with_sender(rt, alloc, office, peers, clock, gate, pass)?;
     }
     let Some(pass) = passes.pop() else {
         unreachable!()

@@ -1,6 +1,7 @@
 //! A day of an office with senders, from start to stop.
 ghost use Rattle.std.specs.Prelude.{◌≡◌, ◌+◌, ◌<◌, ◌≤◌, length};
 
+use crate::peer::peers;
 use adr_book::{Office, Pass};
 use adr_delivery::Job;
 use adr_machine::{Answer, Desk, PlainDesk, Query, Role};
@@ -118,7 +119,17 @@ where
     let office = Arc::new(alloc, office)?;
     let clock = Arc::new(alloc, clock)?;
     let (queue, whole) = JobQueue::new(alloc, capacity)?;
-    let workers = start(rt, alloc, &office, queue, whole, &clock, passes, gates)?;
+    let workers = start(
+        rt,
+        alloc,
+        &office,
+        queue,
+        whole,
+        &peers(alloc)?,
+        &clock,
+        passes,
+        gates,
+    )?;
     meanwhile.pass_time(&rt, &office, &mut mine);
     let Stopped {
         whole: _,

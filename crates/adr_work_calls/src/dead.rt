@@ -3,10 +3,10 @@ ghost use Rattle.std.specs.Prelude.{◌≡◌};
 
 use crate::day::{Day, UntilNoneWaits, run_day};
 use crate::desk::{desk_of_jobs, ten};
-use adr_delivery::Job;
-use adr_link::{HttpReply, LinkFault, Outcome};
+use crate::peer::{Peer, PeerGate, reply};
+use adr_link::{HttpReply, LinkFault};
 use adr_text::{Moment, Refusal};
-use adr_work::{Clock, Gate, ROOM};
+use adr_work::{Clock, ROOM, Request};
 use std::alloc::Global;
 use std::marker::Brand;
 use std::sync::atomic::{AtomicU64, Ordering};
@@ -16,8 +16,11 @@ use std::test::*;
 use std::time::Duration;
 use std::{thread, time};
 
-/// The subscription whose destination is healthy: the last of all.
-const HEALTHY: u64 = 21;
+/// How many subscriptions there are.
+const ALL: u64 = 21;
+
+/// What is sent to the destination that is healthy: that of the last of them.
+const TO_HEALTHY: &[u8] = b"POST /n21 HTTP/1.1\r\n";
 
 /// How many destinations are dead.
 const DEAD: u64 = 20;
@@ -50,6 +53,10 @@ struct Moving {
 }
 
 impl Clock for Moving {
+    ghost use Rattle.std.specs.Prelude.{⊤};
+
+    ghost tells = { λ clock moment. ⊤ };
+
     fn now<R: Wait>(&self, _rt: &R) -> Moment {
         let seconds = self.passed.seconds.fetch_add(STEP, Ordering::SeqCst);
         self.since
@@ -60,26 +67,23 @@ impl Clock for Moving {
 /// How long a call takes in truth, in milliseconds: whoever dispatches fills the queue meanwhile.
 const NAP: u64 = 3;
 
-/// Calls the healthy destination alone; each call takes its time.
+/// One healthy destination, which is that of the last subscription; each call takes its time.
 #[derive(Drop)]
 struct OneHealthy<T: Wait + time::Clock + Drop> {
     rt: T,
+    alloc: Global,
     passed: Arc<Passed, Global>,
 }
 
-impl<T: Wait + time::Clock + Drop> Gate for OneHealthy<T> {
-    fn send<R: Wait>(&self, _rt: &R, job: &Job) -> Outcome {
+impl<T: Wait + time::Clock + Drop> Peer for OneHealthy<T> {
+    fn reply(&self, request: &Request) -> Result<HttpReply, LinkFault> {
         thread::sleep(&self.rt, Duration::from_millis(NAP));
         self.passed.seconds.fetch_add(STEP, Ordering::SeqCst);
-        if job.destination.get() == HEALTHY {
+        if request.bytes.as_slice().starts_with(TO_HEALTHY) {
             self.passed.healthy.fetch_add(1, Ordering::SeqCst);
-            return Outcome::Sent(None);
+            return reply(self.alloc, 204, "");
         }
         self.passed.dead.fetch_add(1, Ordering::SeqCst);
-        Outcome::Failed { forget: false }
-    }
-
-    fn fetch<R: Wait>(&self, _rt: &R, _request: &[u8]) -> Result<HttpReply, LinkFault> {
         Err(LinkFault::Read)
     }
 }
@@ -88,10 +92,10 @@ fn gates<T: Wait + time::Clock + Copy + Drop>(
     rt: T,
     alloc: Global,
     passed: &Arc<Passed, Global>,
-) -> Result<Vec<OneHealthy<T>>, Refusal> {
+) -> Result<Vec<PeerGate<OneHealthy<T>>>, Refusal> {
     let mut gates = Vec::new(alloc);
     let passed = Arc::try_clone(passed)?;
-    gates.push(OneHealthy { rt, passed })?;
+    gates.push(PeerGate::new(OneHealthy { rt, alloc, passed }))?;
     Ok(gates)
 }
 
@@ -114,7 +118,7 @@ fn one_healthy_among_twenty_dead(rt: HostRuntime) -> Result<(), Fail> {
         since: ten()?,
         passed: Arc::try_clone(&passed)?,
     };
-    let desk = desk_of_jobs(alloc, HEALTHY)?;
+    let desk = desk_of_jobs(alloc, ALL)?;
     let Ok(
         Day {
             counts,
@@ -142,7 +146,7 @@ fn one_healthy_among_twenty_dead(rt: HostRuntime) -> Result<(), Fail> {
             counts.dropped,
             counts.pending
         ),
-        (HEALTHY, 1, DEAD, 0, 0)
+        (ALL, 1, DEAD, 0, 0)
     );
     assert_eq!(rt; left.len(), 0);
     assert_eq!(rt; passed.healthy.load(Ordering::SeqCst), 1);

@@ -1,21 +1,28 @@
 //! Desks and commands of the tests.
 use adr_machine::{Command, Desk, Limits, PlainDesk, Role, Settings};
-use adr_objects::{Kind, VenIn};
+use adr_objects::{Kind, ResourceIn, ResourceName, ShareIn, VenIn};
 use adr_schema::read_page;
 use adr_subscription::read_sub;
-use adr_text::{Moment, Name, Refusal};
+use adr_text::{Moment, Name, ObjectId, Refusal};
 use adr_work::Clock;
-use std::alloc::Global;
+use std::alloc::{AllocError, Global};
 use std::sync::Wait;
 use std::sync::atomic::{AtomicU64, Ordering};
 
-/// A subscription of the operator to new programs.
-pub const TO_PROGRAMS: &str =
-    "{\"clientName\":\"ops\",\"objectOperations\":[{\"objects\":[\"PROGRAM\"],\"operations\":[\"POST\"],\"callbackUrl\":\"http://127.0.0.1:9001/n\"}]}";
+/// A subscription of the operator to new programs, with an address of its own.
+fn to_programs(alloc: Global, number: u64) -> Result<String, AllocError> {
+    format!(in alloc;
+        "{{\"clientName\":\"ops\",\"objectOperations\":[{{\"objects\":[\"PROGRAM\"],\"operations\":[\"POST\"],\"callbackUrl\":\"http://127.0.0.1:9001/n{number}\"}}]}}"
+    )
+}
 
 /// A program.
 pub const PROGRAM: &str =
     "[{\"id\":\"p1\",\"modificationDateTime\":\"2024-07-01T09:00:00Z\",\"programName\":\"dr\"}]";
+
+/// An event of that program.
+pub const ONE_EVENT: &str =
+    "[{\"id\":\"e1\",\"modificationDateTime\":\"2024-07-01T09:00:00Z\",\"programID\":\"p1\",\"intervals\":[{\"id\":0,\"payloads\":[{\"type\":\"DISPATCH_SETPOINT\",\"values\":[100]}]}]}]";
 
 pub fn ten() -> Result<Moment, Refusal> {
     Moment::read("2024-07-01T10:00:00Z")
@@ -34,6 +41,13 @@ pub fn empty_desk(alloc: Global) -> Result<PlainDesk, Refusal> {
 pub fn desk_with_trail(alloc: Global, trail: u64) -> Result<PlainDesk, Refusal> {
     let mut limits = Limits::largest();
     limits.set("trail", trail);
+    desk_within(alloc, limits)
+}
+
+/// An empty desk whose mirror holds so many keys.
+pub fn desk_with_keys(alloc: Global, keys: u64) -> Result<PlainDesk, Refusal> {
+    let mut limits = Limits::largest();
+    limits.set("keys", keys);
     desk_within(alloc, limits)
 }
 
@@ -61,11 +75,51 @@ pub fn page(alloc: Global, kind: Kind, text: &str) -> Result<Command, Refusal> {
     })
 }
 
-/// A desk with so many subscriptions to new programs, and a program: so with as many jobs.
+fn resource(alloc: Global, ven: &str, name: &str) -> Result<Command, Refusal> {
+    Ok(Command::ResourceAdd {
+        role: Role::Operator,
+        ven: ObjectId::new(alloc, ven)?,
+        resource: ResourceIn {
+            name: ResourceName::new(alloc, name).map_err(|fault| fault.refusal())?,
+        },
+    })
+}
+
+fn share(alloc: Global, resource: &str) -> Result<Command, Refusal> {
+    Ok(Command::ShareSet {
+        role: Role::Operator,
+        program: ObjectId::new(alloc, "p1")?,
+        resource: ObjectId::new(alloc, resource)?,
+        share: ShareIn { share: 1 },
+    })
+}
+
+fn apply(desk: &mut PlainDesk, command: Result<Command, Refusal>) -> Result<(), Refusal> {
+    desk.apply(ten()?, &command?)?;
+    Ok(())
+}
+
+/// A desk with two vens and three resources, each of which has a share in the program.
+pub fn enrolled(alloc: Global) -> Result<PlainDesk, Refusal> {
+    let mut desk = empty_desk(alloc)?;
+    apply(&mut desk, ven(alloc, "alpha"))?;
+    apply(&mut desk, ven(alloc, "beta"))?;
+    apply(&mut desk, resource(alloc, "v1", "a1"))?;
+    apply(&mut desk, resource(alloc, "v1", "a2"))?;
+    apply(&mut desk, resource(alloc, "v2", "b1"))?;
+    apply(&mut desk, share(alloc, "r3"))?;
+    apply(&mut desk, share(alloc, "r4"))?;
+    apply(&mut desk, share(alloc, "r5"))?;
+    Ok(desk)
+}
+
+/// A desk with so many subscriptions to new programs, and a program: so with as many jobs. The job for subscription 3 goes
+/// to `/n3`, and so with the others.
 pub fn desk_of_jobs(alloc: Global, subscriptions: u64) -> Result<PlainDesk, Refusal> {
     let mut desk = empty_desk(alloc)?;
-    let command = subscription(alloc, TO_PROGRAMS)?;
-    for _ in 0..subscriptions {
+    for number in 0..subscriptions {
+        let text = to_programs(alloc, number.saturating_add(1))?;
+        let command = subscription(alloc, text.as_str())?;
         desk.apply(ten()?, &command)?;
     }
     desk.apply(ten()?, &page(alloc, Kind::Program, PROGRAM)?)?;
@@ -85,6 +139,10 @@ impl Drop for Ticks {
 }
 
 impl Clock for Ticks {
+    ghost use Rattle.std.specs.Prelude.{⊤};
+
+    ghost tells = { λ clock moment. ⊤ };
+
     fn now<R: Wait>(&self, _rt: &R) -> Moment {
         let seconds = self.count.fetch_add(1, Ordering::SeqCst);
         self.since
@@ -97,6 +155,10 @@ impl Clock for Ticks {
 pub struct Still(pub Moment);
 
 impl Clock for Still {
+    ghost use Rattle.std.specs.Prelude.{◌≡◌};
+
+    ghost tells = { λ clock moment. moment ≡ clock.0 };
+
     fn now<R: Wait>(&self, _rt: &R) -> Moment {
         self.0
     }

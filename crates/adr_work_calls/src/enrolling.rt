@@ -3,7 +3,7 @@ ghost use Rattle.std.specs.Prelude.{◌≡◌};
 
 use crate::desk::{Still, desk_with_trail, ten, ven};
 use adr_book::{Office, Pass, Receipt};
-use adr_lock::{Call, take_under_lock};
+use adr_lock::{Call, Steps, take_under_lock};
 use adr_machine::{Answer, Command, Desk, Object, Page, PlainDesk, Query, Role};
 use adr_text::{Moment, Refusal};
 use std::alloc::Global;
@@ -72,10 +72,18 @@ fn enrol_under_lock<D: Desk + Drop, L: Ledger, R: Wait>(
     at: Moment,
     name: &str,
 ) -> Result<(), Refusal> {
+    let mut steps = Steps::new();
     for step in 0..VENS {
         let name = format!(in alloc; "{name}-{step}")?;
         let command = ven(alloc, name.as_str())?;
-        take_under_lock(rt, office, &Still(at), pass, Call::Step(&command))?;
+        take_under_lock(
+            rt,
+            office,
+            &Still(at),
+            pass,
+            &mut steps,
+            Call::Step(&command),
+        )?;
     }
     Ok(())
 }

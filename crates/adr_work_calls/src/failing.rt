@@ -1,23 +1,22 @@
-//! A gate that fails in each way.
+//! Destinations that fail in each way, and the reports of a day.
 ghost use Rattle.std.specs.Prelude.{◌≡◌};
 
 use crate::day::{Day, UntilNoneWaits, run_day};
 use crate::desk::{Ticks, desk_of_jobs, ten};
-use adr_delivery::Job;
-use adr_link::{HttpReply, LinkFault, Outcome};
-use adr_text::{ObjectId, Refusal};
-use adr_work::Gate;
+use crate::peer::{Peer, PeerGate, reply};
+use adr_link::{HttpReply, LinkFault};
+use adr_text::Refusal;
+use adr_work::Request;
 use std::alloc::Global;
 use std::marker::Brand;
-use std::sync::Wait;
 use std::sync::atomic::{AtomicU64, Ordering};
 use std::sync::ledger::Blank;
 use std::test::*;
 
-/// Fails twice for the first subscription and twice for the second, whose remote id it would have forgotten, and gives an
-/// id for the third.
+/// Fails twice for the first subscription, by a status, and twice for the second, by no reply, and tells the third an id,
+/// as the utility does for a report.
 struct Failing {
-    id: ObjectId,
+    alloc: Global,
     first: AtomicU64,
     second: AtomicU64,
 }
@@ -25,48 +24,46 @@ struct Failing {
 impl Drop for Failing {
     fn drop(self) {
         let Failing {
-            id: _,
+            alloc: _,
             first: _,
             second: _,
         } = self;
     }
 }
 
-// What comes of a job that fails twice.
-fn third_time(tries: &AtomicU64, forget: bool) -> Outcome {
-    if tries.fetch_add(1, Ordering::SeqCst) < 2 {
-        return Outcome::Failed { forget };
-    }
-    Outcome::Sent(None)
+// Whether this is at least the third time.
+fn is_third_time(tries: &AtomicU64) -> bool {
+    1 < tries.fetch_add(1, Ordering::SeqCst)
 }
 
-impl Gate for Failing {
-    fn send<R: Wait>(&self, _rt: &R, job: &Job) -> Outcome {
-        match job.destination.get() {
-            1 => third_time(&self.first, false),
-            2 => third_time(&self.second, true),
-            3 => Outcome::Sent(self.id.clone().ok()),
-            _ => Outcome::Sent(None),
+impl Peer for Failing {
+    fn reply(&self, request: &Request) -> Result<HttpReply, LinkFault> {
+        let bytes = request.bytes.as_slice();
+        if bytes.starts_with(b"POST /n1 ") && !is_third_time(&self.first) {
+            return reply(self.alloc, 404, "");
         }
-    }
-
-    fn fetch<R: Wait>(&self, _rt: &R, _request: &[u8]) -> Result<HttpReply, LinkFault> {
-        Err(LinkFault::Read)
+        if bytes.starts_with(b"POST /n2 ") && !is_third_time(&self.second) {
+            return Err(LinkFault::BadReply);
+        }
+        if bytes.starts_with(b"POST /n3 ") {
+            return reply(self.alloc, 201, "{\"id\":\"x7\"}");
+        }
+        reply(self.alloc, 200, "")
     }
 }
 
-fn gates(alloc: Global) -> Result<Vec<Failing>, Refusal> {
+fn gates(alloc: Global) -> Result<Vec<PeerGate<Failing>>, Refusal> {
     let mut gates = Vec::new(alloc);
-    gates.push(Failing {
-        id: ObjectId::new(alloc, "x7")?,
+    gates.push(PeerGate::new(Failing {
+        alloc,
         first: AtomicU64::new(0),
         second: AtomicU64::new(0),
-    })?;
+    }))?;
     Ok(gates)
 }
 
 #[test]
-fn a_gate_that_fails_in_each_way(rt: HostRuntime) -> Result<(), Fail> {
+fn destinations_that_fail_in_each_way(rt: HostRuntime) -> Result<(), Fail> {
     let alloc = rt.alloc();
     let gates = gates(alloc)?;
     assert_eq!(rt; gates.len(), 1);

@@ -2,13 +2,13 @@
 ghost use Rattle.std.specs.Prelude.{◌≡◌, ◌<◌};
 
 use crate::day::{Day, Meanwhile, UntilNoneWaits, run_day};
-use crate::desk::{Still, desk_of_jobs, empty_desk, ten, ven};
+use crate::desk::{Still, Ticks, desk_of_jobs, empty_desk, ten, ven};
+use crate::peer::{Peer, PeerGate, reply};
 use adr_book::{Office, Pass};
-use adr_delivery::Job;
-use adr_link::{HttpReply, LinkFault, Outcome};
+use adr_link::{HttpReply, LinkFault};
 use adr_machine::{Command, Desk, PlainDesk};
 use adr_text::{Moment, Refusal};
-use adr_work::{Gate, JobQueue, dispatch};
+use adr_work::{JobQueue, Request, Steps, dispatch};
 use std::alloc::Global;
 use std::marker::Brand;
 use std::sync::atomic::{AtomicU64, Ordering};
@@ -63,26 +63,23 @@ fn wait_for<R: Wait + time::Clock>(rt: &R, flag: &AtomicU64, tired: &AtomicU64) 
     set(tired);
 }
 
-/// Holds job 3 until job 4 was sent and a step was answered.
+/// Holds job 3, which is that of the first subscription, until job 4 was sent and a step was answered.
 #[derive(Drop)]
 struct Holding<T: Wait + time::Clock + Drop> {
     rt: T,
+    alloc: Global,
     seen: Arc<Seen, Global>,
 }
 
-impl<T: Wait + time::Clock + Drop> Gate for Holding<T> {
-    fn send<R: Wait>(&self, _rt: &R, job: &Job) -> Outcome {
-        if job.entry.get() == 3 {
+impl<T: Wait + time::Clock + Drop> Peer for Holding<T> {
+    fn reply(&self, request: &Request) -> Result<HttpReply, LinkFault> {
+        if request.bytes.as_slice().starts_with(b"POST /n1 ") {
             wait_for(&self.rt, &self.seen.fourth, &self.seen.tired);
             wait_for(&self.rt, &self.seen.step, &self.seen.tired);
         } else {
             set(&self.seen.fourth);
         }
-        Outcome::Sent(None)
-    }
-
-    fn fetch<R: Wait>(&self, _rt: &R, _request: &[u8]) -> Result<HttpReply, LinkFault> {
-        Err(LinkFault::Read)
+        reply(self.alloc, 200, "")
     }
 }
 
@@ -122,11 +119,11 @@ fn gates<T: Wait + time::Clock + Copy + Drop>(
     rt: T,
     alloc: Global,
     seen: &Arc<Seen, Global>,
-) -> Result<Vec<Holding<T>>, Refusal> {
+) -> Result<Vec<PeerGate<Holding<T>>>, Refusal> {
     let mut gates = Vec::new(alloc);
     for _ in 0..2u32 {
         let seen = Arc::try_clone(seen)?;
-        gates.push(Holding { rt, seen })?;
+        gates.push(PeerGate::new(Holding { rt, alloc, seen }))?;
     }
     Ok(gates)
 }
@@ -150,7 +147,11 @@ fn two_senders_side_by_side(rt: HostRuntime) -> Result<(), Fail> {
         seen: Arc::try_clone(&seen)?,
     };
     let desk = desk_of_jobs(alloc, 2)?;
-    let clock = Still(ten()?);
+    // Each time that the clock is read it is a second later.
+    let clock = Ticks {
+        since: ten()?,
+        count: AtomicU64::new(0),
+    };
     let Ok(
         Day {
             counts,
@@ -183,8 +184,50 @@ fn puts_none<L: Ledger, R: Wait>(
         unreachable!()
     };
     let (queue, mut seat) = JobQueue::new(alloc, 1)?;
-    dispatch(rt, &office, &queue, &Still(at), &mut pass, &mut seat)?;
+    let clock = Still(at);
+    let mut steps = Steps::new();
+    dispatch(
+        rt, &office, &queue, &clock, &mut pass, &mut seat, &mut steps,
+    )?;
     Ok(queue.take(rt, &mut seat).is_none())
+}
+
+// How many steps two dispatches take over a queue that holds one job, while nobody takes it.
+fn steps_of_two<L: Ledger, R: Wait>(
+    rt: &R,
+    alloc: Global,
+    blank: Blank,
+    desk: PlainDesk,
+    at: Moment,
+) -> Result<u64, Refusal>
+    requires { (blank.name ≡ L.name) × (blank.parts ≡ L.parts) × (blank.parts ≡ 1) }
+{
+    let (office, mut passes) = Office::<PlainDesk, L>::open(alloc, blank, desk, 1)?;
+    let Some(mut pass) = passes.pop() else {
+        unreachable!()
+    };
+    let (queue, mut seat) = JobQueue::new(alloc, 1)?;
+    let clock = Still(at);
+    let mut steps = Steps::new();
+    dispatch(
+        rt, &office, &queue, &clock, &mut pass, &mut seat, &mut steps,
+    )?;
+    dispatch(
+        rt, &office, &queue, &clock, &mut pass, &mut seat, &mut steps,
+    )?;
+    Ok(office.book.lock(rt).turn())
+}
+
+/// Of three jobs one is leased, for which there is room, and no other while it is not taken.
+#[test]
+fn nothing_is_leased_for_a_full_queue(rt: HostRuntime) -> Result<(), Fail> {
+    let alloc = rt.alloc();
+    let desk = desk_of_jobs(alloc, 3)?;
+    assert_eq!(rt;
+        steps_of_two::<Brand, _>(&rt, alloc, Blank::new(1), desk, ten()?)?,
+        1
+    );
+    Ok(())
 }
 
 #[test]

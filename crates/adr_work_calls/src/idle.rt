@@ -3,11 +3,11 @@ ghost use Rattle.std.specs.Prelude.{◌≡◌};
 
 use crate::day::{Day, Meanwhile, run_day};
 use crate::desk::{Still, empty_desk, ten};
+use crate::peer::{Peer, PeerGate};
 use adr_book::{Office, Pass};
-use adr_delivery::Job;
-use adr_link::{HttpReply, LinkFault, Outcome};
+use adr_link::{HttpReply, LinkFault};
 use adr_machine::Desk;
-use adr_work::Gate;
+use adr_work::Request;
 use std::alloc::Global;
 use std::marker::Brand;
 use std::sync::Wait;
@@ -19,12 +19,8 @@ use std::{thread, time};
 #[derive(Clone, Copy, Drop)]
 struct Unused;
 
-impl Gate for Unused {
-    fn send<R: Wait>(&self, _rt: &R, _job: &Job) -> Outcome {
-        Outcome::Failed { forget: false }
-    }
-
-    fn fetch<R: Wait>(&self, _rt: &R, _request: &[u8]) -> Result<HttpReply, LinkFault> {
+impl Peer for Unused {
+    fn reply(&self, _request: &Request) -> Result<HttpReply, LinkFault> {
         Err(LinkFault::Read)
     }
 }
@@ -51,7 +47,7 @@ fn an_idle_day_takes_no_turn(rt: HostRuntime) -> Result<(), Fail> {
     let alloc = rt.alloc();
     let desk = empty_desk(alloc)?;
     let mut gates = Vec::new(alloc);
-    gates.push(Unused)?;
+    gates.push(PeerGate::new(Unused))?;
     let clock = Still(ten()?);
     let Ok(Day { counts, left, turn }) = run_day::<Brand, _, _, _, _>(
         rt,

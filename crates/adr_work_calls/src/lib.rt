@@ -20,9 +20,17 @@ mod idle;
 #[cfg(test)]
 mod many;
 #[cfg(test)]
+mod moments;
+#[cfg(test)]
 mod passes;
 #[cfg(test)]
+mod peer;
+#[cfg(test)]
 mod polled;
+#[cfg(test)]
+mod queue;
+#[cfg(test)]
+mod reporting;
 #[cfg(test)]
 mod steps;
 #[cfg(test)]

@@ -3,39 +3,36 @@ ghost use Rattle.std.specs.Prelude.{◌≡◌};
 
 use crate::day::{Day, UntilNoneWaits, run_day};
 use crate::desk::{Still, desk_of_jobs, ten};
-use adr_delivery::Job;
-use adr_link::{HttpReply, LinkFault, Outcome};
+use crate::peer::{Peer, PeerGate, reply};
+use adr_link::{HttpReply, LinkFault};
 use adr_text::Refusal;
-use adr_work::Gate;
+use adr_work::Request;
 use std::alloc::Global;
 use std::marker::Brand;
+use std::sync::Arc;
 use std::sync::atomic::{AtomicU64, Ordering};
 use std::sync::ledger::Blank;
-use std::sync::{Arc, Wait};
 use std::test::*;
 
 /// Sends all, and counts them.
 #[derive(Drop)]
 struct Counting {
+    alloc: Global,
     sent: Arc<AtomicU64, Global>,
 }
 
-impl Gate for Counting {
-    fn send<R: Wait>(&self, _rt: &R, _job: &Job) -> Outcome {
+impl Peer for Counting {
+    fn reply(&self, _request: &Request) -> Result<HttpReply, LinkFault> {
         self.sent.fetch_add(1, Ordering::SeqCst);
-        Outcome::Sent(None)
-    }
-
-    fn fetch<R: Wait>(&self, _rt: &R, _request: &[u8]) -> Result<HttpReply, LinkFault> {
-        Err(LinkFault::Read)
+        reply(self.alloc, 200, "")
     }
 }
 
-fn gates(alloc: Global, sent: &Arc<AtomicU64, Global>) -> Result<Vec<Counting>, Refusal> {
+fn gates(alloc: Global, sent: &Arc<AtomicU64, Global>) -> Result<Vec<PeerGate<Counting>>, Refusal> {
     let mut gates = Vec::new(alloc);
     for _ in 0..16u32 {
         let sent = Arc::try_clone(sent)?;
-        gates.push(Counting { sent })?;
+        gates.push(PeerGate::new(Counting { alloc, sent }))?;
     }
     Ok(gates)
 }

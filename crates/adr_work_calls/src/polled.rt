@@ -2,17 +2,18 @@
 ghost use Rattle.std.specs.Prelude.{◌≡◌};
 
 use crate::day::counts;
-use crate::desk::{Still, empty_desk, subscription, ten, ven};
+use crate::desk::{ONE_EVENT, Still, Ticks, desk_with_keys, enrolled, subscription, ten};
+use crate::peer::{Peer, PeerGate, peers, reply};
 use adr_book::{Office, Pass};
-use adr_delivery::Job;
-use adr_link::{HttpReply, LinkFault, Outcome, Upstream};
-use adr_machine::{Command, Desk, PlainDesk, Role};
-use adr_objects::{OutboxCounts, ResourceIn, ResourceName, ShareIn};
-use adr_text::{ObjectId, Refusal, Rows};
-use adr_work::{Gate, PollEnd, poll_round};
+use adr_link::{HttpReply, LinkFault};
+use adr_machine::{Desk, PlainDesk};
+use adr_objects::OutboxCounts;
+use adr_text::Refusal;
+use adr_work::{Callee, PollEnd, Request, Steps, poll_round};
 use std::alloc::Global;
 use std::marker::Brand;
 use std::sync::Wait;
+use std::sync::atomic::{AtomicU64, Ordering};
 use std::sync::ledger::{Blank, Ledger};
 use std::test::*;
 
@@ -21,9 +22,6 @@ const TO_EVENTS: &str =
 
 const BOTH: &str =
     "[{\"id\":\"e1\",\"modificationDateTime\":\"2024-07-01T09:00:00Z\",\"programID\":\"p1\",\"intervals\":[{\"id\":0,\"payloads\":[{\"type\":\"DISPATCH_SETPOINT\",\"values\":[100]}]}]},{\"id\":\"e5\",\"modificationDateTime\":\"2024-07-01T09:00:00Z\",\"programID\":\"p1\",\"intervals\":[{\"id\":0,\"payloads\":[{\"type\":\"DISPATCH_SETPOINT\",\"values\":[100]}]}]}]";
-
-const ONE: &str =
-    "[{\"id\":\"e1\",\"modificationDateTime\":\"2024-07-01T09:00:00Z\",\"programID\":\"p1\",\"intervals\":[{\"id\":0,\"payloads\":[{\"type\":\"DISPATCH_SETPOINT\",\"values\":[100]}]}]}]";
 
 /// The utility at some time: its first page of events, how many are on it, and whether its pages of events fail.
 #[derive(Clone, Copy, Drop)]
@@ -34,74 +32,45 @@ struct Upstreams {
     fails: bool,
 }
 
-fn reply(alloc: Global, status: u16, body: &str) -> Result<HttpReply, LinkFault> {
-    let Ok(bytes) = Vec::from_slice(alloc, body.as_bytes()) else {
-        return Err(LinkFault::Memory);
+// What the utility is asked for, in full.
+const REST: &str =
+    " HTTP/1.1\r\nHost: 127.0.0.1:8081\r\nAuthorization: Bearer up\r\nAccept: application/json\r\nConnection: close\r\n\r\n";
+
+// Whether a request asks for that target, and is otherwise as it has to be, to the last byte.
+fn asks_for(request: &Request, target: &str) -> bool {
+    let Some(rest) = request.bytes.as_slice().strip_prefix(b"GET /openadr3") else {
+        return false;
     };
-    Ok(HttpReply {
-        status,
-        body: Rows::from_vec(bytes),
-    })
+    matches!(request.to, Callee::Utility)
+        && rest.strip_prefix(target.as_bytes()) == Some(REST.as_bytes())
 }
 
-impl Gate for Upstreams {
-    fn send<R: Wait>(&self, _rt: &R, _job: &Job) -> Outcome {
-        Outcome::Failed { forget: false }
-    }
-
-    fn fetch<R: Wait>(&self, _rt: &R, request: &[u8]) -> Result<HttpReply, LinkFault> {
-        if request.starts_with(b"GET /openadr3/programs?skip=0&limit=50 ") {
+impl Peer for Upstreams {
+    fn reply(&self, request: &Request) -> Result<HttpReply, LinkFault> {
+        if asks_for(request, "/programs?skip=0&limit=50") {
             return reply(self.alloc, 200, "[]");
         }
         if self.fails {
             return Err(LinkFault::BadReply);
         }
-        if request.starts_with(b"GET /openadr3/events?skip=0&limit=50 ") {
+        if asks_for(request, "/events?skip=0&limit=50") {
             return reply(self.alloc, 200, self.events);
         }
-        if request.starts_with(self.behind.as_bytes()) {
+        if asks_for(request, self.behind) {
             return reply(self.alloc, 200, "[]");
         }
-        reply(self.alloc, 404, "{}")
+        if asks_for(request, "/events/e5") {
+            return reply(self.alloc, 404, "{}");
+        }
+        // Whoever asks for anything else has a round that breaks.
+        reply(self.alloc, 500, "{}")
     }
 }
 
-fn resource(alloc: Global, ven: &str, name: &str) -> Result<Command, Refusal> {
-    Ok(Command::ResourceAdd {
-        role: Role::Operator,
-        ven: ObjectId::new(alloc, ven)?,
-        resource: ResourceIn {
-            name: ResourceName::new(alloc, name).map_err(|fault| fault.refusal())?,
-        },
-    })
-}
-
-fn share(alloc: Global, resource: &str) -> Result<Command, Refusal> {
-    Ok(Command::ShareSet {
-        role: Role::Operator,
-        program: ObjectId::new(alloc, "p1")?,
-        resource: ObjectId::new(alloc, resource)?,
-        share: ShareIn { share: 1 },
-    })
-}
-
-fn apply(desk: &mut PlainDesk, command: Result<Command, Refusal>) -> Result<(), Refusal> {
-    desk.apply(ten()?, &command?)?;
-    Ok(())
-}
-
-// Two vens with three resources that share a program, and a subscription to events.
-fn enrolled(alloc: Global) -> Result<PlainDesk, Refusal> {
-    let mut desk = empty_desk(alloc)?;
-    apply(&mut desk, ven(alloc, "alpha"))?;
-    apply(&mut desk, ven(alloc, "beta"))?;
-    apply(&mut desk, resource(alloc, "v1", "a1"))?;
-    apply(&mut desk, resource(alloc, "v1", "a2"))?;
-    apply(&mut desk, resource(alloc, "v2", "b1"))?;
-    apply(&mut desk, share(alloc, "r3"))?;
-    apply(&mut desk, share(alloc, "r4"))?;
-    apply(&mut desk, share(alloc, "r5"))?;
-    apply(&mut desk, subscription(alloc, TO_EVENTS))?;
+// The desk with three resources, and a subscription to events.
+fn enrolled_and_subscribed(alloc: Global) -> Result<PlainDesk, Refusal> {
+    let mut desk = enrolled(alloc)?;
+    desk.apply(ten()?, &subscription(alloc, TO_EVENTS)?)?;
     Ok(desk)
 }
 
@@ -111,11 +80,22 @@ fn round<L: Ledger, R: Wait>(
     alloc: Global,
     office: &Office<PlainDesk, L>,
     pass: &mut Pass<L>,
-    gate: &Upstreams,
+    utility: Upstreams,
 ) -> Result<(PollEnd, OutboxCounts), Refusal> {
-    let upstream = Upstream::new(alloc, "http://127.0.0.1:8081/openadr3", Some("up"))?;
+    let peers = peers(alloc)?;
     let clock = Still(ten()?);
-    let end = poll_round(rt, alloc, office, gate, &upstream, &clock, pass)?;
+    let mut gate = PeerGate::new(utility);
+    let mut steps = Steps::new();
+    let end = poll_round(
+        rt,
+        alloc,
+        office,
+        &mut gate,
+        &peers.upstream,
+        &clock,
+        pass,
+        &mut steps,
+    )?;
     Ok((end, counts(rt, office, pass)?))
 }
 
@@ -131,14 +111,19 @@ fn rounds<L: Ledger, R: Wait>(
 ) -> Result<[(PollEnd, u64); 3], Refusal>
     requires { (blank.name ≡ L.name) × (blank.parts ≡ L.parts) × (blank.parts ≡ 1) }
 {
-    let (office, mut passes) = Office::<PlainDesk, L>::open(alloc, blank, enrolled(alloc)?, 1)?;
+    let (office, mut passes) = Office::<PlainDesk, L>::open(
+        alloc,
+        blank,
+        enrolled_and_subscribed(alloc)?,
+        1,
+    )?;
     let Some(mut pass) = passes.pop() else {
         unreachable!()
     };
     let both = Upstreams {
         alloc,
         events: BOTH,
-        behind: "GET /openadr3/events?skip=2&limit=50 ",
+        behind: "/events?skip=2&limit=50",
         fails: false,
     };
     let none = Upstreams {
@@ -147,13 +132,13 @@ fn rounds<L: Ledger, R: Wait>(
     };
     let one = Upstreams {
         alloc,
-        events: ONE,
-        behind: "GET /openadr3/events?skip=1&limit=50 ",
+        events: ONE_EVENT,
+        behind: "/events?skip=1&limit=50",
         fails: false,
     };
-    let first = round(rt, alloc, &office, &mut pass, &both)?;
-    let second = round(rt, alloc, &office, &mut pass, &none)?;
-    let third = round(rt, alloc, &office, &mut pass, &one)?;
+    let first = round(rt, alloc, &office, &mut pass, both)?;
+    let second = round(rt, alloc, &office, &mut pass, none)?;
+    let third = round(rt, alloc, &office, &mut pass, one)?;
     Ok([made(&first), made(&second), made(&third)])
 }
 
@@ -164,5 +149,51 @@ fn a_scan_finds_what_is_gone(rt: HostRuntime) -> Result<(), Fail> {
     assert!(rt; first == (PollEnd::Whole, 6));
     assert!(rt; second == (PollEnd::Broken, 6));
     assert!(rt; third == (PollEnd::Whole, 9));
+    Ok(())
+}
+
+// How often a round reads the clock, which it does once for each step, where the book refuses the page of events.
+fn steps_to_refusal<L: Ledger, R: Wait>(rt: &R, alloc: Global, blank: Blank) -> Result<u64, Refusal>
+    requires { (blank.name ≡ L.name) × (blank.parts ≡ L.parts) × (blank.parts ≡ 1) }
+{
+    let desk = desk_with_keys(alloc, 1)?;
+    let (office, mut passes) = Office::<PlainDesk, L>::open(alloc, blank, desk, 1)?;
+    let Some(mut pass) = passes.pop() else {
+        unreachable!()
+    };
+    let peers = peers(alloc)?;
+    let clock = Ticks {
+        since: ten()?,
+        count: AtomicU64::new(0),
+    };
+    let mut gate = PeerGate::new(Upstreams {
+        alloc,
+        events: BOTH,
+        behind: "/events?skip=2&limit=50",
+        fails: false,
+    });
+    let mut steps = Steps::new();
+    let end = poll_round(
+        rt,
+        alloc,
+        &office,
+        &mut gate,
+        &peers.upstream,
+        &clock,
+        &mut pass,
+        &mut steps,
+    );
+    match end {
+        Ok(_) => Err(Refusal::NotFound),
+        Err(_) => Ok(clock.count.load(Ordering::SeqCst)),
+    }
+}
+
+/// A page that the book refuses ends the round, and is not told again.
+#[test]
+fn a_refused_page_is_told_once(rt: HostRuntime) -> Result<(), Fail> {
+    let alloc = rt.alloc();
+    // The beginning of the scan, and the page of events.
+    assert_eq!(rt; steps_to_refusal::<Brand, _>(&rt, alloc, Blank::new(1))?, 2);
     Ok(())
 }

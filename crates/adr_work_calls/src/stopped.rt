@@ -3,12 +3,12 @@ ghost use Rattle.std.specs.Prelude.{◌≡◌};
 
 use crate::day::{Day, MOST_LOOKS, Meanwhile, run_day};
 use crate::desk::{Still, desk_of_jobs, ten};
+use crate::peer::{Peer, PeerGate, reply};
 use adr_book::{Office, Pass};
-use adr_delivery::Job;
-use adr_link::{HttpReply, LinkFault, Outcome};
+use adr_link::{HttpReply, LinkFault};
 use adr_machine::Desk;
 use adr_text::Refusal;
-use adr_work::Gate;
+use adr_work::Request;
 use std::alloc::Global;
 use std::marker::Brand;
 use std::sync::atomic::{AtomicU64, Ordering};
@@ -23,11 +23,12 @@ const LONGER: u32 = 200_000;
 /// Holds each job until it is told to go on, and then a while longer.
 #[derive(Drop)]
 struct Slow {
+    alloc: Global,
     go: Arc<AtomicU64, Global>,
 }
 
-impl Gate for Slow {
-    fn send<R: Wait>(&self, _rt: &R, _job: &Job) -> Outcome {
+impl Peer for Slow {
+    fn reply(&self, _request: &Request) -> Result<HttpReply, LinkFault> {
         for _ in 0..MOST_LOOKS {
             if self.go.load(Ordering::SeqCst) != 0 {
                 break;
@@ -37,11 +38,7 @@ impl Gate for Slow {
         for _ in 0..LONGER {
             thread::yield_now();
         }
-        Outcome::Sent(None)
-    }
-
-    fn fetch<R: Wait>(&self, _rt: &R, _request: &[u8]) -> Result<HttpReply, LinkFault> {
-        Err(LinkFault::Read)
+        reply(self.alloc, 200, "")
     }
 }
 
@@ -69,10 +66,10 @@ impl Meanwhile for UntilLeased {
     }
 }
 
-fn gates(alloc: Global, go: &Arc<AtomicU64, Global>) -> Result<Vec<Slow>, Refusal> {
+fn gates(alloc: Global, go: &Arc<AtomicU64, Global>) -> Result<Vec<PeerGate<Slow>>, Refusal> {
     let mut gates = Vec::new(alloc);
     let go = Arc::try_clone(go)?;
-    gates.push(Slow { go })?;
+    gates.push(PeerGate::new(Slow { alloc, go }))?;
     Ok(gates)
 }
 

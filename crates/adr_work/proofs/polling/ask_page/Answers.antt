@@ -1,4 +1,5 @@
-use Rattle.std.proofs.Common.{refl, ◌∙◌, ◌∷◌, []}
+use Rattle.std.proofs.Common.{refl, ap, ◌∙◌, ◌∷◌, []}
+use Rattle.adr_work.specs.Exchanges.{to_utility}
 use Rattle.adr_work.proofs.Paging.{reads_none, page_asked}
 use Rattle.adr_work.proofs.polling.ask_page.Goals as goal
 
@@ -6,13 +7,13 @@ pub returns-in_err-page_read-clause-page : goal.returns-in_err-page_read-clause-
 returns-in_err-page_read-clause-page g c =
     let came = c.ask-came.result in
     let r = c.from_residual-in_err-page_read.result in
-    page_asked c.args.upstream.now c.args.kind c.args.skip (g.A.Asker.exchanges c.args.asker.now) (g.A.Asker.exchanges c.ask-came.new.self)
-    c.from_vec-request.result came r (c.from_vec-request.ensures ∙ c.in_ok-page_request.ensures) c.ask-came.ensures
+    page_asked c.args.upstream.now c.args.kind c.args.skip (g.G.Gate.exchanges c.args.gate.now) (g.G.Gate.exchanges c.ask-came.new.self)
+    c.to_utility-request.result came r (c.to_utility-request.ensures ∙ ap to_utility c.in_ok-page_request.ensures) c.ask-came.ensures
     (reads_none c.args.kind r (came ∷ []) c.from_residual-in_err-page_read.ensures.0)
 
 pub returns-clause-page : goal.returns-clause-page
 returns-clause-page g c =
     let came = c.ask-came.result in
-    page_asked c.args.upstream.now c.args.kind c.args.skip (g.A.Asker.exchanges c.args.asker.now) (g.A.Asker.exchanges c.ask-came.new.self)
-    c.from_vec-request.result came _ (c.from_vec-request.ensures ∙ c.in_ok-page_request.ensures) c.ask-came.ensures
+    page_asked c.args.upstream.now c.args.kind c.args.skip (g.G.Gate.exchanges c.args.gate.now) (g.G.Gate.exchanges c.ask-came.new.self)
+    c.to_utility-request.result came _ (c.to_utility-request.ensures ∙ ap to_utility c.in_ok-page_request.ensures) c.ask-came.ensures
     (came, refl, c.in_ok-page_read.ensures.page)

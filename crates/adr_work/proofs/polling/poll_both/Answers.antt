@@ -6,18 +6,18 @@ use Rattle.adr_work.proofs.polling.poll_both.Goals as goal
 
 pub returns-in_err-poll_pages-clause-round : goal.returns-in_err-poll_pages-clause-round
 returns-in_err-poll_pages-clause-round g c =
-    listed_cut c.args.upstream.now (g.A.Asker.exchanges c.args.asker.now) (g.A.Asker.exchanges c.poll_pages.new.asker)
+    listed_cut c.args.upstream.now (g.G.Gate.exchanges c.args.gate.now) (g.G.Gate.exchanges c.poll_pages.new.gate)
     (g.T.Teller.memory c.args.teller.now) (g.T.Teller.memory c.poll_pages.new.teller)
     c.in_err-poll_pages.field-0.0 c.from_residual.result c.in_err-poll_pages.ensures.round c.from_residual.ensures.0
 
 pub returns-in-Whole-clause-round : goal.returns-in-Whole-clause-round
 returns-in-Whole-clause-round g c =
     let u = c.args.upstream.now in
-    let before = g.A.Asker.exchanges c.args.asker.now in
-    let after = g.A.Asker.exchanges c.poll_pages.new.asker in
+    let before = g.G.Gate.exchanges c.args.gate.now in
+    let after = g.G.Gate.exchanges c.poll_pages.new.gate in
     let was = g.T.Teller.memory c.args.teller.now in
     let is = g.T.Teller.memory c.poll_pages.new.teller in
-    listed_next u before after (g.A.Asker.exchanges c.poll_pages-in-Whole.new.asker) was is (g.T.Teller.memory c.poll_pages-in-Whole.new.teller)
+    listed_next u before after (g.G.Gate.exchanges c.poll_pages-in-Whole.new.gate) was is (g.T.Teller.memory c.poll_pages-in-Whole.new.teller)
     c.poll_pages-in-Whole.result
     (subst (λ end. Goes before after was is (IsPaging u Program (Ok end))) c.in-Whole.is c.in_ok-poll_pages.ensures.round)
     c.poll_pages-in-Whole.ensures.round
@@ -25,8 +25,8 @@ returns-in-Whole-clause-round g c =
 pub returns-in-Broken-clause-round : goal.returns-in-Broken-clause-round
 returns-in-Broken-clause-round g c =
     let u = c.args.upstream.now in
-    let before = g.A.Asker.exchanges c.args.asker.now in
-    let after = g.A.Asker.exchanges c.poll_pages.new.asker in
+    let before = g.G.Gate.exchanges c.args.gate.now in
+    let after = g.G.Gate.exchanges c.poll_pages.new.gate in
     let was = g.T.Teller.memory c.args.teller.now in
     let is = g.T.Teller.memory c.poll_pages.new.teller in
     listed_broken u before after was is

@@ -3,29 +3,29 @@ use Rattle.adr_work.proofs.Paging.{sofar_none, sofar_more, paged_cut, paged_whol
 use Rattle.adr_work.proofs.polling.poll_pages.Goals as goal
 
 pub loop-i-init : goal.loop-i-init
-loop-i-init g c = sofar_none c.args.upstream.now c.args.kind (g.A.Asker.exchanges c.args.asker.now) (g.T.Teller.memory c.args.teller.now)
+loop-i-init g c = sofar_none c.args.upstream.now c.args.kind (g.G.Gate.exchanges c.args.gate.now) (g.T.Teller.memory c.args.teller.now)
 
 pub returns-in_err-command-clause-round : goal.returns-in_err-command-clause-round
 returns-in_err-command-clause-round g c =
-    paged_cut c.args.upstream.now c.args.kind (g.A.Asker.exchanges c.args.asker.now) (g.A.Asker.exchanges c.loop-i.asker) (g.A.Asker.exchanges c.ask_page.new.asker)
+    paged_cut c.args.upstream.now c.args.kind (g.G.Gate.exchanges c.args.gate.now) (g.G.Gate.exchanges c.loop-i.gate) (g.G.Gate.exchanges c.ask_page.new.gate)
     (g.T.Teller.memory c.args.teller.now) (g.T.Teller.memory c.loop-i.teller) (g.T.Teller.memory c.loop-i.teller) c.loop-i._i c.loop-i.skip
     _ c.from_residual.result c.loop-i.invariant c.in_err-command.ensures.page refl c.from_residual.ensures.0
 
 pub returns-in-Empty-clause-round : goal.returns-in-Empty-clause-round
 returns-in-Empty-clause-round g c =
-    paged_whole c.args.upstream.now c.args.kind (g.A.Asker.exchanges c.args.asker.now) (g.A.Asker.exchanges c.loop-i.asker) (g.A.Asker.exchanges c.ask_page.new.asker)
+    paged_whole c.args.upstream.now c.args.kind (g.G.Gate.exchanges c.args.gate.now) (g.G.Gate.exchanges c.loop-i.gate) (g.G.Gate.exchanges c.ask_page.new.gate)
     (g.T.Teller.memory c.args.teller.now) (g.T.Teller.memory c.loop-i.teller) c.loop-i._i c.loop-i.skip
     c.in_ok-command.field-0 c.loop-i.invariant c.loop-i-test.true c.in_ok-command.ensures.page c.in-Empty.is
 
 pub returns-in-Failed-clause-round : goal.returns-in-Failed-clause-round
 returns-in-Failed-clause-round g c =
-    paged_broken c.args.upstream.now c.args.kind (g.A.Asker.exchanges c.args.asker.now) (g.A.Asker.exchanges c.loop-i.asker) (g.A.Asker.exchanges c.ask_page.new.asker)
+    paged_broken c.args.upstream.now c.args.kind (g.G.Gate.exchanges c.args.gate.now) (g.G.Gate.exchanges c.loop-i.gate) (g.G.Gate.exchanges c.ask_page.new.gate)
     (g.T.Teller.memory c.args.teller.now) (g.T.Teller.memory c.loop-i.teller) c.loop-i._i c.loop-i.skip
     c.in_ok-command.field-0 c.loop-i.invariant c.loop-i-test.true c.in_ok-command.ensures.page c.in-Failed.is
 
 pub loop-i-preserved : goal.loop-i-preserved
 loop-i-preserved g c =
-    sofar_more c.args.upstream.now c.args.kind (g.A.Asker.exchanges c.args.asker.now) (g.A.Asker.exchanges c.loop-i.asker) (g.A.Asker.exchanges c.ask_page.new.asker)
+    sofar_more c.args.upstream.now c.args.kind (g.G.Gate.exchanges c.args.gate.now) (g.G.Gate.exchanges c.loop-i.gate) (g.G.Gate.exchanges c.ask_page.new.gate)
     (g.T.Teller.memory c.args.teller.now) (g.T.Teller.memory c.loop-i.teller) (g.T.Teller.memory c.tell.new.self) c.loop-i._i c.loop-i.skip
     c.in_ok-command.field-0 (c.in-Filled.command, c.in_ok-tell-in-Filled.field-0) c.in-Filled.elements
     c.loop-i.invariant c.loop-i-test.true c.in_ok-command.ensures.page c.in-Filled.is c.in_ok-command.ensures.few c.in_ok-tell-in-Filled.ensures.told
@@ -34,6 +34,6 @@ pub returns-clause-round : goal.returns-clause-round
 returns-clause-round g c =
     let end = c.loop-i.auto._i-end in
     let full = c.loop-i-test.false in
-    paged_full c.args.upstream.now c.args.kind (g.A.Asker.exchanges c.args.asker.now) (g.A.Asker.exchanges c.loop-i.asker)
+    paged_full c.args.upstream.now c.args.kind (g.G.Gate.exchanges c.args.gate.now) (g.G.Gate.exchanges c.loop-i.gate)
     (g.T.Teller.memory c.args.teller.now) (g.T.Teller.memory c.loop-i.teller) c.loop-i._i c.loop-i.skip
     c.loop-i.invariant (omega (arith, end, full))

@@ -3,4 +3,4 @@ use Rattle.adr_work.proofs.polling.poll_pages.Given as goal
 
 abbrev pub invariant-loop-i : goal.invariant-loop-i
 invariant-loop-i g l =
-    SoFar l.upstream l.kind (g.A.Asker.exchanges l.fn.asker) (g.A.Asker.exchanges l.asker) (g.T.Teller.memory l.fn.teller) (g.T.Teller.memory l.teller) l._i l.skip
+    SoFar l.upstream l.kind (g.G.Gate.exchanges l.fn.gate) (g.G.Gate.exchanges l.gate) (g.T.Teller.memory l.fn.teller) (g.T.Teller.memory l.teller) l._i l.skip

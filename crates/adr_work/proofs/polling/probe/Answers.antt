@@ -1,32 +1,33 @@
-use Rattle.std.proofs.Common.{refl, sym, ◌∙◌}
+use Rattle.std.proofs.Common.{refl, sym, ap, ◌∙◌}
+use Rattle.adr_work.specs.Exchanges.{to_utility}
 use Rattle.adr_work.proofs.Probing.{probe_none, probe_cut, probe_passed, probe_heard}
 use Rattle.adr_work.proofs.polling.probe.Goals as goal
 
 pub returns-in_err-probe_request-clause-round : goal.returns-in_err-probe_request-clause-round
 returns-in_err-probe_request-clause-round g c =
-    probe_none c.args.upstream.now c.args.key.now (g.A.Asker.exchanges c.args.asker.now) (g.T.Teller.memory c.args.teller.now)
+    probe_none c.args.upstream.now c.args.key.now (g.G.Gate.exchanges c.args.gate.now) (g.T.Teller.memory c.args.teller.now)
     c.from_residual.result c.from_residual.ensures.0
 
 pub returns-in_err-command-clause-round : goal.returns-in_err-command-clause-round
 returns-in_err-command-clause-round g c =
-    probe_cut c.args.upstream.now c.args.key.now (g.A.Asker.exchanges c.args.asker.now) (g.A.Asker.exchanges c.ask-came.new.self) (g.T.Teller.memory c.args.teller.now)
-    c.from_vec-request.result c.ask-came.result (c.from_vec-request.ensures ∙ c.in_ok-probe_request.ensures) c.ask-came.ensures
+    probe_cut c.args.upstream.now c.args.key.now (g.G.Gate.exchanges c.args.gate.now) (g.G.Gate.exchanges c.ask-came.new.self) (g.T.Teller.memory c.args.teller.now)
+    c.to_utility-request.result c.ask-came.result (c.to_utility-request.ensures ∙ ap to_utility c.in_ok-probe_request.ensures) c.ask-came.ensures
     (g.T.Teller.memory c.args.teller.now) c.from_residual-in_err-command.result refl c.from_residual-in_err-command.ensures.0
 
 pub returns-in_default-clause-round : goal.returns-in_default-clause-round
 returns-in_default-clause-round g c =
-    probe_passed c.args.upstream.now c.args.key.now (g.A.Asker.exchanges c.args.asker.now) (g.A.Asker.exchanges c.ask-came.new.self) (g.T.Teller.memory c.args.teller.now)
-    c.from_vec-request.result c.ask-came.result (c.from_vec-request.ensures ∙ c.in_ok-probe_request.ensures) c.ask-came.ensures
+    probe_passed c.args.upstream.now c.args.key.now (g.G.Gate.exchanges c.args.gate.now) (g.G.Gate.exchanges c.ask-came.new.self) (g.T.Teller.memory c.args.teller.now)
+    c.to_utility-request.result c.ask-came.result (c.to_utility-request.ensures ∙ ap to_utility c.in_ok-probe_request.ensures) c.ask-came.ensures
     (sym c.in_default.is ∙ c.in_ok-command.ensures)
 
 pub returns-in_err-tell-clause-round : goal.returns-in_err-tell-clause-round
 returns-in_err-tell-clause-round g c =
-    probe_cut c.args.upstream.now c.args.key.now (g.A.Asker.exchanges c.args.asker.now) (g.A.Asker.exchanges c.ask-came.new.self) (g.T.Teller.memory c.args.teller.now)
-    c.from_vec-request.result c.ask-came.result (c.from_vec-request.ensures ∙ c.in_ok-probe_request.ensures) c.ask-came.ensures
+    probe_cut c.args.upstream.now c.args.key.now (g.G.Gate.exchanges c.args.gate.now) (g.G.Gate.exchanges c.ask-came.new.self) (g.T.Teller.memory c.args.teller.now)
+    c.to_utility-request.result c.ask-came.result (c.to_utility-request.ensures ∙ ap to_utility c.in_ok-probe_request.ensures) c.ask-came.ensures
     (g.T.Teller.memory c.tell.new.self) c.from_residual-in_err-tell.result c.in_err-tell.ensures.refused c.from_residual-in_err-tell.ensures.0
 
 pub returns-clause-round : goal.returns-clause-round
 returns-clause-round g c =
-    probe_heard c.args.upstream.now c.args.key.now (g.A.Asker.exchanges c.args.asker.now) (g.A.Asker.exchanges c.ask-came.new.self) (g.T.Teller.memory c.args.teller.now)
-    c.from_vec-request.result c.ask-came.result (c.from_vec-request.ensures ∙ c.in_ok-probe_request.ensures) c.ask-came.ensures
+    probe_heard c.args.upstream.now c.args.key.now (g.G.Gate.exchanges c.args.gate.now) (g.G.Gate.exchanges c.ask-came.new.self) (g.T.Teller.memory c.args.teller.now)
+    c.to_utility-request.result c.ask-came.result (c.to_utility-request.ensures ∙ ap to_utility c.in_ok-probe_request.ensures) c.ask-came.ensures
     (g.T.Teller.memory c.tell.new.self) (c.in-Some.command, c.in_ok-tell.field-0) (sym c.in-Some.is ∙ c.in_ok-command.ensures) c.in_ok-tell.ensures.told

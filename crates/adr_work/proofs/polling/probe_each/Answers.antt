@@ -4,7 +4,7 @@ use Rattle.adr_work.proofs.Probing.{Probed, probed_none, probed_more, probed_cut
 use Rattle.adr_work.proofs.polling.probe_each.Goals as goal
 
 pub loop-key-init : goal.loop-key-init
-loop-key-init g c = probed_none c.args.upstream.now (g.A.Asker.exchanges c.args.asker.now) (g.T.Teller.memory c.args.teller.now)
+loop-key-init g c = probed_none c.args.upstream.now (g.G.Gate.exchanges c.args.gate.now) (g.T.Teller.memory c.args.teller.now)
 
 pub returns-in_err-probe-clause-round : goal.returns-in_err-probe-clause-round
 returns-in_err-probe-clause-round g c =
@@ -12,7 +12,7 @@ returns-in_err-probe-clause-round g c =
     let i = c.loop-key.key-index in
     let key = c.key-item.result in
     let more : take (i + 1) keys ≡ take i keys ++ key ∷ [] = take_more keys i key c.loop-key-test.true ∙ ap (λ k. take i keys ++ k ∷ []) (sym c.key-item.is) in
-    probed_cut c.args.upstream.now (g.A.Asker.exchanges c.args.asker.now) (g.A.Asker.exchanges c.loop-key.asker) (g.A.Asker.exchanges c.probe.new.asker)
+    probed_cut c.args.upstream.now (g.G.Gate.exchanges c.args.gate.now) (g.G.Gate.exchanges c.loop-key.gate) (g.G.Gate.exchanges c.probe.new.gate)
     (g.T.Teller.memory c.args.teller.now) (g.T.Teller.memory c.loop-key.teller) (g.T.Teller.memory c.probe.new.teller)
     (take i keys) key (drop (i + 1) keys) keys c.in_err-probe.field-0.0 c.from_residual.result c.loop-key.invariant
     (sym (take-append-drop (i + 1) keys) ∙ ap (λ front. front ++ drop (i + 1) keys) more ∙ append_assoc (take i keys) (key ∷ []) (drop (i + 1) keys))
@@ -25,9 +25,9 @@ loop-key-preserved g c =
     let key = c.key-item.result in
     let more : take (i + 1) keys ≡ take i keys ++ key ∷ [] = take_more keys i key c.loop-key-test.true ∙ ap (λ k. take i keys ++ k ∷ []) (sym c.key-item.is) in
     let u = c.args.upstream.now in
-    let before = g.A.Asker.exchanges c.args.asker.now in
-    let after = g.A.Asker.exchanges c.probe.new.asker in
+    let before = g.G.Gate.exchanges c.args.gate.now in
+    let after = g.G.Gate.exchanges c.probe.new.gate in
     let was = g.T.Teller.memory c.args.teller.now in
     let is = g.T.Teller.memory c.probe.new.teller in
     subst (λ front. Probed u before after was is front) (sym more)
-    (probed_more u before (g.A.Asker.exchanges c.loop-key.asker) after was (g.T.Teller.memory c.loop-key.teller) is (take i keys) key c.loop-key.invariant c.in_ok-probe.ensures.round)
+    (probed_more u before (g.G.Gate.exchanges c.loop-key.gate) after was (g.T.Teller.memory c.loop-key.teller) is (take i keys) key c.loop-key.invariant c.in_ok-probe.ensures.round)

@@ -1,0 +1,109 @@
+-- Jobs that are sent and settled, one after another.
+use Rattle.std.proofs.Common.{◌≡◌, ◌⊎◌, false, All, List, [], ◌∷◌, ◌++◌, map, Result, refl, sym, ap, ap₂, ◌∙◌, append_assoc, append-nil}
+use Rattle.std.specs.List.{flat_map}
+use Rattle.std.proofs.lemmas.List.{map-append}
+use Rattle.std.proofs.lemmas.List.Concat.{flat_map-append}
+use Rattle.std.proofs.lemmas.List.Elements.{All-append, All-nil, All-push}
+use Rattle.crossbeam_queue.specs.Passes.{view}
+use Rattle.adr_text.specs.declared.refusal.Refusal.{Refusal}
+use Rattle.adr_queries.specs.declared.answer.Answer.{Answer}
+use Rattle.adr_delivery.specs.declared.job.Job.{Job}
+use Rattle.adr_link.specs.declared.outcome.Outcome.{Outcome}
+use Rattle.adr_link.specs.declared.outcome.Outcome.TheVariants.{Failed}
+use Rattle.adr_link.specs.Outcomes.{outcome_of}
+use Rattle.adr_lock.specs.Steps.{Step}
+use Rattle.adr_work.specs.declared.peers.Peers.{Peers}
+use Rattle.adr_work.specs.declared.request.Request.{Request}
+use Rattle.adr_work.specs.Exchanges.{Came, Exchange}
+use Rattle.adr_work.specs.Rounds.{Asks}
+use Rattle.adr_work.specs.Seats.{Seat}
+use Rattle.adr_work.specs.Settling.{settlement_of}
+use Rattle.adr_work.specs.Deliveries.{IsRequestOf, MayCall, IsSent, once, not_asked, Delivery, IsDelivery, Delivers}
+use Rattle.adr_work.specs.Sending.{SendsTaken}
+
+-- ---- one job
+
+-- nothing was asked
+pub sent_not : (peers : Peers) (job : Job) (before : List Exchange) (outcome : Outcome) → outcome ≡ Failed false → Asks before before (IsSent peers job outcome)
+sent_not peers job before outcome failed = record { asked = []; exchanges = sym (append-nil before); holds = not_asked refl failed }
+
+-- its request was asked
+pub sent_once : (peers : Peers) (job : Job) (before after : List Exchange) (outcome : Outcome) (request : Request) (came : Came)
+    → IsRequestOf peers.upstream job request → MayCall peers.callbacks request.to → after ≡ before ++ (request, came) ∷ []
+    → (outcome ≡ outcome_of job came) ⊎ (outcome ≡ Failed false) → Asks before after (IsSent peers job outcome)
+sent_once peers job before after outcome request came is may asked tells =
+    record { asked = (request, came) ∷ []; exchanges = asked; holds = once request came is may refl tells }
+
+-- ---- jobs
+
+abbrev job_in : Delivery → Job
+job_in d = d.job
+
+abbrev asked_in : Delivery → List Exchange
+asked_in d = d.asked
+
+abbrev step_in : Delivery → Step
+step_in d = d.step
+
+-- no job
+none : (peers : Peers) (before : List Exchange) (first : List Step) → Delivers peers [] before before first first
+none peers before first = record {
+  all = [];
+  each = All-nil (IsDelivery peers);
+  jobs_are = refl;
+  exchanges = sym (append-nil before);
+  steps = sym (append-nil first);
+}
+
+-- a job that was sent, and then settled
+pub one : (peers : Peers) (job : Job) (before after : List Exchange) (first last : List Step) (outcome : Outcome) (answered : Result Answer Refusal)
+    → Asks before after (IsSent peers job outcome) → last ≡ first ++ (settlement_of job outcome, answered) ∷ []
+    → Delivers peers (job ∷ []) before after first last
+one peers job before after first last outcome answered asks settles =
+    let d : Delivery = record { job = job; asked = asks.asked; step = (settlement_of job outcome, answered) } in
+    let is : IsDelivery peers d = record { outcome = outcome; answered = answered; sent = asks.holds; settles = refl } in record {
+      all = d ∷ [];
+      each = All-push (IsDelivery peers) [] d (All-nil (IsDelivery peers)) is;
+      jobs_are = refl;
+      exchanges = asks.exchanges ∙ ap (λ xs. before ++ xs) (sym (append-nil asks.asked));
+      steps = settles;
+    }
+
+-- these, and then those
+more : (peers : Peers) (jobs next : List Job) (before between after : List Exchange) (first mid last : List Step)
+    → Delivers peers jobs before between first mid → Delivers peers next between after mid last → Delivers peers (jobs ++ next) before after first last
+more peers jobs next before between after first mid last d e = record {
+  all = d.all ++ e.all;
+  each = All-append (IsDelivery peers) d.all e.all d.each e.each;
+  jobs_are = ap₂ (λ xs ys. xs ++ ys) d.jobs_are e.jobs_are ∙ sym (map-append job_in d.all e.all);
+  exchanges =
+      e.exchanges ∙ ap (λ xs. xs ++ flat_map asked_in e.all) d.exchanges ∙ append_assoc before (flat_map asked_in d.all) (flat_map asked_in e.all)
+      ∙ ap (λ xs. before ++ xs) (sym (flat_map-append asked_in d.all e.all));
+  steps =
+      e.steps ∙ ap (λ xs. xs ++ map step_in e.all) d.steps ∙ append_assoc first (map step_in d.all) (map step_in e.all)
+      ∙ ap (λ xs. first ++ xs) (sym (map-append step_in d.all e.all));
+}
+
+-- ---- a sender
+
+pub sends_none : (peers : Peers) (seat : Seat) (before : List Exchange) (first : List Step) → SendsTaken peers seat seat before before first first
+sends_none peers seat before first = record { jobs = []; taken = sym (append-nil (view seat).taken); delivers = none peers before first }
+
+-- a job more was taken, and sent and settled
+pub sends_more : (peers : Peers) (old mid new : Seat) (before between after : List Exchange) (first some last : List Step) (job : Job)
+    → SendsTaken peers old mid before between first some → (view new).taken ≡ (view mid).taken ++ job ∷ [] → Delivers peers (job ∷ []) between after some last
+    → SendsTaken peers old new before after first last
+sends_more peers old mid new before between after first some last job s taken d = record {
+  jobs = s.jobs ++ job ∷ [];
+  taken = taken ∙ ap (λ xs. xs ++ job ∷ []) s.taken ∙ append_assoc (view old).taken s.jobs (job ∷ []);
+  delivers = more peers s.jobs (job ∷ []) before between after first some last s.delivers d;
+}
+
+-- none was taken
+pub sends_same : (peers : Peers) (old mid new : Seat) (before after : List Exchange) (first last : List Step)
+    → SendsTaken peers old mid before after first last → view new ≡ view mid → SendsTaken peers old new before after first last
+sends_same peers old mid new before after first last s same = record {
+  jobs = s.jobs;
+  taken = ap (λ v. v.taken) same ∙ s.taken;
+  delivers = s.delivers;
+}
