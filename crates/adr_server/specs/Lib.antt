@@ -1,3 +1,4 @@
 pub mod Crews
 pub mod Endpoints
 pub mod Outcomes
+pub mod Stopping

@@ -1,6 +1,9 @@
 //! The threads that serve connections, each for as long as the node runs.
 ghost use Rattle.std.specs.Prelude.{◌≡◌, ◌<◌, IfOk, length};
+ghost use Rattle.adr_lock.specs.Outcomes.{TakesOneAtMost};
+ghost use Rattle.adr_http.specs.Takers.{TakesOnce};
 ghost use Rattle.adr_server.specs.Crews.{threads_of};
+ghost use Rattle.adr_server.specs.Outcomes.{AsksOffice};
 
 use crate::connection::serve_connection;
 use crate::shared::Shared;
@@ -48,7 +51,10 @@ fn serve_next<D: Desk + Drop, L: Ledger, C: Clock, R: Wait + time::Clock>(
     routes: &mut Option<Routes>,
     pass: &mut Pass<L>,
     stream: &TcpStream,
-) {
+)
+    ensures once { TakesOnce (AsksOffice office.now (C.tells clock.now)) pass.old pass.new }
+    ensures one { TakesOneAtMost pass.old pass.new }
+{
     if routes.is_none() {
         *routes = Routes::new(shared.alloc).ok();
     }

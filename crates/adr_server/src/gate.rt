@@ -3,6 +3,7 @@ ghost use Rattle.std.specs.Prelude.{◌≡◌, [], IfOk};
 ghost use Rattle.std.specs.String.{string_bytes};
 ghost use Rattle.adr_link.specs.Addresses.{endpoint};
 ghost use Rattle.adr_server.specs.Endpoints.{endpoint_of};
+ghost use Rattle.adr_server.specs.Stopping.{AsksUnless};
 
 use crate::exchange::exchange_paced;
 use crate::paced::Term;
@@ -48,7 +49,7 @@ fn ask_at<N: Net<Stream = TcpStream> + Clock>(
     endpoint: &str,
     request: &[u8],
 ) -> Result<HttpReply, LinkFault> {
-    let Some(address) = address_of(alloc, endpoint) else {
+    let Ok(Some(address)) = address_of(alloc, endpoint) else {
         return Err(LinkFault::Read);
     };
     let mut term = term();
@@ -103,6 +104,20 @@ pub struct StoppedGate<G: Gate + Drop> {
     log: Log<Request, Result<HttpReply, LinkFault>>,
 }
 
+// Sends a request through a gate, unless the node is to stop: then no reply comes.
+fn ask_unless<G: Gate>(
+    stopped: bool,
+    gate: &mut G,
+    request: &Request,
+) -> Result<HttpReply, LinkFault>
+    ensures { AsksUnless stopped (G.exchanges gate.old) (G.exchanges gate.new) request.now result }
+{
+    if stopped {
+        return Err(LinkFault::Read);
+    }
+    gate.ask(request)
+}
+
 impl<G: Gate + Drop> StoppedGate<G> {
     pub fn new(gate: G, stopped: Arc<AtomicBool, Global>) -> StoppedGate<G>
         ensures { result.log.items ≡ [] }
@@ -119,11 +134,8 @@ impl<G: Gate + Drop> Gate for StoppedGate<G> {
     ghost exchanges = { λ g. g.log.items };
 
     fn ask(&mut self, request: &Request) -> Result<HttpReply, LinkFault> {
-        let came = if self.stopped.load(Ordering::SeqCst) {
-            Err(LinkFault::Read)
-        } else {
-            self.gate.ask(request)
-        };
+        let stopped = self.stopped.load(Ordering::SeqCst);
+        let came = ask_unless(stopped, &mut self.gate, request);
         self.log = self.log.and(request, &came);
         came
     }

@@ -4,16 +4,15 @@ ghost use Rattle.adr_desk.specs.Desks.{settings_of};
 
 use crate::crew::{Crew, Served};
 use crate::gate::{SocketGate, StoppedGate};
-use crate::poller::poll_loop;
 use crate::shared::Shared;
 use adr_book::{Office, Pass};
 use adr_config::Config;
 use adr_desk::MemoryDesk;
 use adr_link::Upstream;
-use adr_lock::Clock;
+use adr_lock::{Clock, Steps};
 use adr_machine::Desk;
 use adr_text::Refusal;
-use adr_work::{JobQueue, Peers, ROOM, start, stop};
+use adr_work::{JobQueue, Peers, ROOM, poll_loop, start, stop};
 use std::alloc::{AllocError, AllocFailed, Global};
 use std::marker::Brand;
 use std::net::{Net, TcpListener, TcpStream};
@@ -155,6 +154,7 @@ where
     let peers = Arc::try_clone(peers)?;
     let work = move || -> Pass<L> {
         let mut gate = gate;
+        let mut steps = Steps::new();
         poll_loop(
             &rt,
             alloc,
@@ -165,6 +165,7 @@ where
             seconds,
             &*stopped,
             pass,
+            &mut steps,
         )
     };
     Ok(thread::spawn(&rt, work)?)

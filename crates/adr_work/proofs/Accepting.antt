@@ -1,5 +1,5 @@
 -- Steps that are accepted, one more.
-use Rattle.std.proofs.Common.{◌≡◌, ℕ, List, [], ◌∷◌, ◌++◌, map, Result, Ok, Err, ap, ap₂, append-nil, ◌∙◌}
+use Rattle.std.proofs.Common.{◌≡◌, ℕ, List, [], ◌∷◌, ◌++◌, map, Ok, Err, ap, ap₂, append-nil, ◌∙◌}
 use Rattle.std.proofs.lemmas.List.{map-append}
 use Rattle.std.proofs.lemmas.List.Elements.{filter_map-append}
 use Rattle.adr_text.specs.declared.refusal.Refusal.{Refusal}

@@ -1,13 +1,16 @@
--- A round at an office.
-use Rattle.std.proofs.Common.{◌≡◌, List, Result, ap}
+-- Rounds at an office.
+use Rattle.std.proofs.Common.{◌≡◌, List, [], ◌∷◌, ◌++◌, Result, sym, ap, ◌∙◌, append_assoc, append-nil}
+use Rattle.std.specs.List.{flat_map}
+use Rattle.std.proofs.lemmas.List.Concat.{flat_map-append}
+use Rattle.std.proofs.lemmas.List.Elements.{All-nil, All-push}
 use Rattle.adr_text.specs.declared.refusal.Refusal.{Refusal}
 use Rattle.adr_link.specs.Upstreams.{UpstreamParts}
 use Rattle.adr_lock.specs.Steps.{Step}
 use Rattle.adr_work.specs.declared.page.PollEnd.{PollEnd}
 use Rattle.adr_work.specs.Exchanges.{Exchange}
-use Rattle.adr_work.specs.Tellings.{Memory, accepted, commands_of, memory_of}
+use Rattle.adr_work.specs.Tellings.{Memory, Told, accepted, commands_of, memory_of}
 use Rattle.adr_work.specs.Rounds.{Goes, IsRound}
-use Rattle.adr_work.specs.OfficeRounds.{TakesRound}
+use Rattle.adr_work.specs.OfficeRounds.{TakesRound, Round, IsMade, TakesRounds}
 
 -- its commands are the steps that were accepted
 pub takes_round : (u : UpstreamParts) (before after : List Exchange) (first last : List Step) (r : Result PollEnd Refusal)
@@ -20,3 +23,42 @@ takes_round u before after first last r g = record {
   steps = ap (λ (m : Memory). m.told) g.memory;
   round = g.holds;
 }
+
+abbrev asked_in : Round → List Exchange
+asked_in round = round.asked
+
+abbrev told_in : Round → List Told
+told_in round = round.told
+
+-- what is of one element more stands behind what is of the others
+behind : {A B : Type 0} (f : A → List B) (xs : List A) (x : A) → flat_map f xs ++ f x ≡ flat_map f (xs ++ x ∷ [])
+behind f xs x = ap (λ ys. flat_map f xs ++ ys) (sym (append-nil (f x))) ∙ sym (flat_map-append f xs (x ∷ []))
+
+-- no round
+pub rounds_none : (u : UpstreamParts) (before : List Exchange) (first : List Step) → TakesRounds u before before first first
+rounds_none u before first = record {
+  rounds = [];
+  each = All-nil (IsMade u);
+  exchanges = sym (append-nil before);
+  steps = sym (append-nil (accepted first));
+}
+
+-- a round more
+pub rounds_more : (u : UpstreamParts) (before between after : List Exchange) (first some last : List Step) (r : Result PollEnd Refusal)
+    → TakesRounds u before between first some → TakesRound u between after some last r → TakesRounds u before after first last
+rounds_more u before between after first some last r s t =
+    let round : Round = record { asked = t.asked; told = t.told; ended = r } in record {
+      rounds = s.rounds ++ round ∷ [];
+      each = All-push (IsMade u) s.rounds round s.each t.round;
+      exchanges =
+          t.exchanges ∙ ap (λ xs. xs ++ t.asked) s.exchanges ∙ append_assoc before (flat_map asked_in s.rounds) t.asked
+          ∙ ap (λ xs. before ++ xs) (behind asked_in s.rounds round);
+      steps =
+          t.steps ∙ ap (λ xs. xs ++ t.told) s.steps ∙ append_assoc (accepted first) (flat_map told_in s.rounds) t.told
+          ∙ ap (λ xs. accepted first ++ xs) (behind told_in s.rounds round);
+    }
+
+-- the same, by other names
+pub rounds_same : (u : UpstreamParts) (before after other : List Exchange) (first last more : List Step) → TakesRounds u before after first last → other ≡ after → more ≡ last → TakesRounds u before other first more
+rounds_same u before after other first last more s is are =
+    record { rounds = s.rounds; each = s.each; exchanges = is ∙ s.exchanges; steps = ap accepted are ∙ s.steps }

@@ -1,5 +1,5 @@
 -- The job that a lease was answered with.
-use Rattle.std.specs.Prelude.{◌≡◌, List, [], ◌∷◌, ◌++◌, Option, None, Result, Ok, IfOk}
+use Rattle.std.specs.Prelude.{◌≡◌, List, [], ◌∷◌, ◌++◌, map, Option, None, Result, Ok, IfOk}
 use Rattle.adr_text.specs.declared.refusal.Refusal.{Refusal}
 use Rattle.adr_delivery.specs.declared.job.Job.{Job}
 use Rattle.adr_queries.specs.declared.answer.Answer.{Answer}
@@ -17,3 +17,12 @@ pub record LeasesOnce (before after : List Step) (result : Result (Option Job) R
   pub answered : Result Answer Refusal
   pub steps : after ≡ before ++ (Lease, answered) ∷ []
   pub gives : IfOk result (λ job. (a : Answer) × (answered ≡ Ok a) × (job ≡ job_in a))
+
+-- a lease, and what came of it
+abbrev pub lease_with : Result Answer Refusal → Step
+lease_with answered = (Lease, answered)
+
+-- leases were asked for, and no other step
+pub record OnlyLeases (before after : List Step) : Type 0 where
+  pub answers : List (Result Answer Refusal)
+  pub steps : after ≡ before ++ map lease_with answers

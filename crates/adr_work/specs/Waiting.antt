@@ -1,5 +1,5 @@
 -- Whether an entry waits in the outbox.
-use Rattle.std.specs.Prelude.{Bool, true, nat_lt, Result, Ok, Err}
+use Rattle.std.specs.Prelude.{Bool, true, nat_lt, Result, Ok}
 use Rattle.adr_text.specs.declared.refusal.Refusal.{Refusal}
 use Rattle.adr_queries.specs.declared.answer.Answer.{Answer}
 use Rattle.adr_queries.specs.declared.answer.Answer.TheVariants as answer

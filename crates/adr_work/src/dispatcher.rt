@@ -4,7 +4,7 @@ ghost use Rattle.crossbeam_queue.specs.Passes.{view};
 ghost use Rattle.adr_machine.specs.declared.command.Command.TheVariants.{Lease};
 ghost use Rattle.adr_book.specs.Refused.{MayRefuse};
 ghost use Rattle.adr_book.specs.Words.{seen_by};
-ghost use Rattle.adr_work.specs.Leased.{LeasesOnce};
+ghost use Rattle.adr_work.specs.Leased.{LeasesOnce, OnlyLeases};
 ghost use Rattle.adr_work.specs.Seats.{IsSeatOf, OnlyPuts};
 ghost use Rattle.adr_work.specs.Waiting.{may_wait};
 
@@ -38,6 +38,7 @@ pub(crate) fn lease<D: Desk + Drop, L: Ledger, C: Clock, R: Wait>(
 
 /// Leases jobs and puts each into the queue, outside the lock, while the queue is open and has room and a job is due. A
 /// refusal ends it and is handed back. A job that was leased and cannot be put is left: its lease expires.
+#[tactic(auto, using(crate::proofs::Leasing::leases_none, crate::proofs::Leasing::leases_more))]
 pub fn dispatch<D: Desk + Drop, L: Ledger, C: Clock, R: Wait>(
     rt: &R,
     office: &Office<D, L>,
@@ -49,6 +50,7 @@ pub fn dispatch<D: Desk + Drop, L: Ledger, C: Clock, R: Wait>(
 ) -> Result<(), Refusal>
     requires { IsSeatOf queue.now seat.old × (0 < (view seat.old).parts) }
     ensures puts { OnlyPuts seat.old seat.new }
+    ensures leases { OnlyLeases steps.old.items steps.new.items }
     ensures refusal { IfErr result (MayRefuse D.may_refuse (seen_by pass.new) Lease) }
 {
     for _ in rt.forever() {
@@ -80,7 +82,9 @@ fn waits<D: Desk + Drop, L: Ledger, C: Clock, R: Wait>(
     clock: &C,
     pass: &mut Pass<L>,
     steps: &mut Steps,
-) -> bool {
+) -> bool
+    ensures { steps.new.items ≡ steps.old.items }
+{
     let query = Query::Outbox {
         role: Role::Operator,
     };
@@ -89,6 +93,7 @@ fn waits<D: Desk + Drop, L: Ledger, C: Clock, R: Wait>(
 
 /// Dispatches again after each job that was taken or settled, and at least once a second, until the queue is closed, where
 /// an entry waits. A refusal is passed over.
+#[tactic(auto, using(crate::proofs::Leasing::leases_none, crate::proofs::Leasing::leases_both))]
 pub fn dispatch_loop<D: Desk + Drop, L: Ledger, C: Clock, R: Wait + time::Clock>(
     rt: &R,
     office: &Office<D, L>,
@@ -96,17 +101,18 @@ pub fn dispatch_loop<D: Desk + Drop, L: Ledger, C: Clock, R: Wait + time::Clock>
     clock: &C,
     mut pass: Pass<L>,
     mut seat: Seat,
+    steps: &mut Steps,
 ) -> Ended<L>
     requires { IsSeatOf queue.now seat × (0 < (view seat).parts) }
-    ensures { OnlyPuts seat result.seat }
+    ensures puts { OnlyPuts seat result.seat }
+    ensures leases { OnlyLeases steps.old.items steps.new.items }
 {
-    let mut steps = Steps::new();
     for _ in rt.forever() {
         let Some(seen) = queue.ends(rt) else {
             break;
         };
-        if waits(rt, office, clock, &mut pass, &mut steps) {
-            let _ = dispatch(rt, office, queue, clock, &mut pass, &mut seat, &mut steps);
+        if waits(rt, office, clock, &mut pass, steps) {
+            let _ = dispatch(rt, office, queue, clock, &mut pass, &mut seat, steps);
         }
         queue.wait_for_end(rt, seen);
     }

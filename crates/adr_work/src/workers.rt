@@ -85,7 +85,10 @@ where
     let work = move || -> Ended<L>
         requires { IsFresh (arc_value queue) seat }
         ensures { IsBack seat result.seat }
-    { dispatch_loop(&rt, &*office, &*queue, &*clock, pass, seat) };
+    {
+        let mut steps = Steps::new();
+        dispatch_loop(&rt, &*office, &*queue, &*clock, pass, seat, &mut steps)
+    };
     Ok(thread::spawn_with(&rt, handed, work)?)
 }
 

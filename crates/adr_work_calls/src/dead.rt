@@ -1,12 +1,13 @@
 //! A day with one sender, twenty destinations that are dead, and one that is healthy.
 ghost use Rattle.std.specs.Prelude.{◌≡◌};
 
+use crate::clock::{Moving, Seconds};
 use crate::day::{Day, UntilNoneWaits, run_day};
 use crate::desk::{desk_of_jobs, ten};
 use crate::peer::{Peer, PeerGate, reply};
 use adr_link::{HttpReply, LinkFault};
-use adr_text::{Moment, Refusal};
-use adr_work::{Clock, ROOM, Request};
+use adr_text::Refusal;
+use adr_work::{ROOM, Request};
 use std::alloc::Global;
 use std::marker::Brand;
 use std::sync::atomic::{AtomicU64, Ordering};
@@ -28,40 +29,11 @@ const DEAD: u64 = 20;
 /// How many seconds pass while a job is sent, and between two readings of the clock.
 const STEP: u64 = 2;
 
-/// The seconds that have passed, and how often the healthy destination was called, and dead ones.
-struct Passed {
-    seconds: AtomicU64,
+/// How often the healthy destination was called, and dead ones.
+#[derive(Drop)]
+struct Called {
     healthy: AtomicU64,
     dead: AtomicU64,
-}
-
-impl Drop for Passed {
-    fn drop(self) {
-        let Passed {
-            seconds: _,
-            healthy: _,
-            dead: _,
-        } = self;
-    }
-}
-
-/// A clock that moves with each job that is sent and each time that it is read.
-#[derive(Drop)]
-struct Moving {
-    since: Moment,
-    passed: Arc<Passed, Global>,
-}
-
-impl Clock for Moving {
-    ghost use Rattle.std.specs.Prelude.{⊤};
-
-    ghost tells = { λ clock moment. ⊤ };
-
-    fn now<R: Wait>(&self, _rt: &R) -> Moment {
-        let seconds = self.passed.seconds.fetch_add(STEP, Ordering::SeqCst);
-        self.since
-            .plus_seconds(u32::try_from(seconds).unwrap_or(u32::MAX))
-    }
 }
 
 /// How long a call takes in truth, in milliseconds: whoever dispatches fills the queue meanwhile.
@@ -72,18 +44,19 @@ const NAP: u64 = 3;
 struct OneHealthy<T: Wait + time::Clock + Drop> {
     rt: T,
     alloc: Global,
-    passed: Arc<Passed, Global>,
+    seconds: Arc<Seconds, Global>,
+    called: Arc<Called, Global>,
 }
 
 impl<T: Wait + time::Clock + Drop> Peer for OneHealthy<T> {
     fn reply(&self, request: &Request) -> Result<HttpReply, LinkFault> {
         thread::sleep(&self.rt, Duration::from_millis(NAP));
-        self.passed.seconds.fetch_add(STEP, Ordering::SeqCst);
+        self.seconds.pass(STEP);
         if request.bytes.as_slice().starts_with(TO_HEALTHY) {
-            self.passed.healthy.fetch_add(1, Ordering::SeqCst);
+            self.called.healthy.fetch_add(1, Ordering::SeqCst);
             return reply(self.alloc, 204, "");
         }
-        self.passed.dead.fetch_add(1, Ordering::SeqCst);
+        self.called.dead.fetch_add(1, Ordering::SeqCst);
         Err(LinkFault::Read)
     }
 }
@@ -91,11 +64,16 @@ impl<T: Wait + time::Clock + Drop> Peer for OneHealthy<T> {
 fn gates<T: Wait + time::Clock + Copy + Drop>(
     rt: T,
     alloc: Global,
-    passed: &Arc<Passed, Global>,
+    seconds: &Arc<Seconds, Global>,
+    called: &Arc<Called, Global>,
 ) -> Result<Vec<PeerGate<OneHealthy<T>>>, Refusal> {
     let mut gates = Vec::new(alloc);
-    let passed = Arc::try_clone(passed)?;
-    gates.push(PeerGate::new(OneHealthy { rt, alloc, passed }))?;
+    gates.push(PeerGate::new(OneHealthy {
+        rt,
+        alloc,
+        seconds: Arc::try_clone(seconds)?,
+        called: Arc::try_clone(called)?,
+    }))?;
     Ok(gates)
 }
 
@@ -104,19 +82,20 @@ fn gates<T: Wait + time::Clock + Copy + Drop>(
 #[test]
 fn one_healthy_among_twenty_dead(rt: HostRuntime) -> Result<(), Fail> {
     let alloc = rt.alloc();
-    let passed = Arc::new(
+    let seconds = Arc::new(alloc, Seconds::new())?;
+    let called = Arc::new(
         alloc,
-        Passed {
-            seconds: AtomicU64::new(0),
+        Called {
             healthy: AtomicU64::new(0),
             dead: AtomicU64::new(0),
         },
     )?;
-    let gates = gates(rt, alloc, &passed)?;
+    let gates = gates(rt, alloc, &seconds, &called)?;
     assert_eq!(rt; gates.len(), 1);
     let clock = Moving {
         since: ten()?,
-        passed: Arc::try_clone(&passed)?,
+        seconds: Arc::try_clone(&seconds)?,
+        each: STEP,
     };
     let desk = desk_of_jobs(alloc, ALL)?;
     let Ok(
@@ -149,7 +128,7 @@ fn one_healthy_among_twenty_dead(rt: HostRuntime) -> Result<(), Fail> {
         (ALL, 1, DEAD, 0, 0)
     );
     assert_eq!(rt; left.len(), 0);
-    assert_eq!(rt; passed.healthy.load(Ordering::SeqCst), 1);
-    assert_eq!(rt; passed.dead.load(Ordering::SeqCst), 8 * DEAD);
+    assert_eq!(rt; called.healthy.load(Ordering::SeqCst), 1);
+    assert_eq!(rt; called.dead.load(Ordering::SeqCst), 8 * DEAD);
     Ok(())
 }

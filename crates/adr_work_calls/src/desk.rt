@@ -4,10 +4,7 @@ use adr_objects::{Kind, ResourceIn, ResourceName, ShareIn, VenIn};
 use adr_schema::read_page;
 use adr_subscription::read_sub;
 use adr_text::{Moment, Name, ObjectId, Refusal};
-use adr_work::Clock;
 use std::alloc::{AllocError, Global};
-use std::sync::Wait;
-use std::sync::atomic::{AtomicU64, Ordering};
 
 /// A subscription of the operator to new programs, with an address of its own.
 fn to_programs(alloc: Global, number: u64) -> Result<String, AllocError> {
@@ -124,42 +121,4 @@ pub fn desk_of_jobs(alloc: Global, subscriptions: u64) -> Result<PlainDesk, Refu
     }
     desk.apply(ten()?, &page(alloc, Kind::Program, PROGRAM)?)?;
     Ok(desk)
-}
-
-/// A clock that is a second later each time that it is read.
-pub struct Ticks {
-    pub since: Moment,
-    pub count: AtomicU64,
-}
-
-impl Drop for Ticks {
-    fn drop(self) {
-        let Ticks { since: _, count: _ } = self;
-    }
-}
-
-impl Clock for Ticks {
-    ghost use Rattle.std.specs.Prelude.{⊤};
-
-    ghost tells = { λ clock moment. ⊤ };
-
-    fn now<R: Wait>(&self, _rt: &R) -> Moment {
-        let seconds = self.count.fetch_add(1, Ordering::SeqCst);
-        self.since
-            .plus_seconds(u32::try_from(seconds).unwrap_or(u32::MAX))
-    }
-}
-
-/// A clock that stands still.
-#[derive(Clone, Copy, Drop)]
-pub struct Still(pub Moment);
-
-impl Clock for Still {
-    ghost use Rattle.std.specs.Prelude.{◌≡◌};
-
-    ghost tells = { λ clock moment. moment ≡ clock.0 };
-
-    fn now<R: Wait>(&self, _rt: &R) -> Moment {
-        self.0
-    }
 }

@@ -1,7 +1,8 @@
 //! Two threads that enrol fifty vens each, over a trail that holds all their commands, and over one that doesn't.
 ghost use Rattle.std.specs.Prelude.{◌≡◌};
 
-use crate::desk::{Still, desk_with_trail, ten, ven};
+use crate::clock::Still;
+use crate::desk::{desk_with_trail, ten, ven};
 use adr_book::{Office, Pass, Receipt};
 use adr_lock::{Call, Steps, take_under_lock};
 use adr_machine::{Answer, Command, Desk, Object, Page, PlainDesk, Query, Role};

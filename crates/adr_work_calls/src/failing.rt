@@ -1,8 +1,9 @@
 //! Destinations that fail in each way, and the reports of a day.
 ghost use Rattle.std.specs.Prelude.{◌≡◌};
 
+use crate::clock::Ticks;
 use crate::day::{Day, UntilNoneWaits, run_day};
-use crate::desk::{Ticks, desk_of_jobs, ten};
+use crate::desk::{desk_of_jobs, ten};
 use crate::peer::{Peer, PeerGate, reply};
 use adr_link::{HttpReply, LinkFault};
 use adr_text::Refusal;

@@ -1,8 +1,9 @@
 //! Senders work side by side, and outside the lock.
 ghost use Rattle.std.specs.Prelude.{◌≡◌, ◌<◌};
 
+use crate::clock::{Still, Ticks};
 use crate::day::{Day, Meanwhile, UntilNoneWaits, run_day};
-use crate::desk::{Still, Ticks, desk_of_jobs, empty_desk, ten, ven};
+use crate::desk::{desk_of_jobs, empty_desk, ten, ven};
 use crate::peer::{Peer, PeerGate, reply};
 use adr_book::{Office, Pass};
 use adr_link::{HttpReply, LinkFault};

@@ -1,8 +1,9 @@
 //! A day on which nothing is to be sent.
 ghost use Rattle.std.specs.Prelude.{◌≡◌};
 
+use crate::clock::Still;
 use crate::day::{Day, Meanwhile, run_day};
-use crate::desk::{Still, empty_desk, ten};
+use crate::desk::{empty_desk, ten};
 use crate::peer::{Peer, PeerGate};
 use adr_book::{Office, Pass};
 use adr_link::{HttpReply, LinkFault};

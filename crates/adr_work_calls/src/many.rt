@@ -1,8 +1,9 @@
 //! Many senders over a queue that holds one job.
 ghost use Rattle.std.specs.Prelude.{◌≡◌};
 
+use crate::clock::Still;
 use crate::day::{Day, UntilNoneWaits, run_day};
-use crate::desk::{Still, desk_of_jobs, ten};
+use crate::desk::{desk_of_jobs, ten};
 use crate::peer::{Peer, PeerGate, reply};
 use adr_link::{HttpReply, LinkFault};
 use adr_text::Refusal;

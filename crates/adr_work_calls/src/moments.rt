@@ -1,6 +1,7 @@
 //! A job is settled at a moment behind its exchange.
 ghost use Rattle.std.specs.Prelude.{◌≡◌};
 
+use crate::clock::{Moving, Seconds};
 use crate::day::{Day, Meanwhile, UntilNoneWaits, run_day};
 use crate::desk::{desk_of_jobs, ten};
 use crate::peer::{Peer, PeerGate, reply};
@@ -8,7 +9,7 @@ use adr_book::{Office, Pass};
 use adr_link::{HttpReply, LinkFault};
 use adr_machine::{Command, Desk};
 use adr_text::{Moment, Refusal};
-use adr_work::{Clock, Request};
+use adr_work::Request;
 use std::alloc::Global;
 use std::marker::Brand;
 use std::sync::atomic::{AtomicU64, Ordering};
@@ -20,31 +21,6 @@ use std::time;
 /// How many seconds an exchange takes.
 const EXCHANGE: u32 = 7;
 
-/// The seconds that have passed.
-#[derive(Drop)]
-struct Seconds {
-    passed: AtomicU64,
-}
-
-/// A clock that moves with exchanges alone.
-#[derive(Drop)]
-struct Moving {
-    since: Moment,
-    seconds: Arc<Seconds, Global>,
-}
-
-impl Clock for Moving {
-    ghost use Rattle.std.specs.Prelude.{⊤};
-
-    ghost tells = { λ clock moment. ⊤ };
-
-    fn now<R: Wait>(&self, _rt: &R) -> Moment {
-        let seconds = self.seconds.passed.load(Ordering::SeqCst);
-        self.since
-            .plus_seconds(u32::try_from(seconds).unwrap_or(u32::MAX))
-    }
-}
-
 /// Takes whatever comes, in its time.
 #[derive(Drop)]
 struct Slow {
@@ -54,9 +30,7 @@ struct Slow {
 
 impl Peer for Slow {
     fn reply(&self, _request: &Request) -> Result<HttpReply, LinkFault> {
-        self.seconds
-            .passed
-            .fetch_add(EXCHANGE as u64, Ordering::SeqCst);
+        self.seconds.pass(EXCHANGE as u64);
         reply(self.alloc, 200, "")
     }
 }
@@ -98,12 +72,7 @@ fn gates(alloc: Global, seconds: &Arc<Seconds, Global>) -> Result<Vec<PeerGate<S
 #[test]
 fn a_job_is_settled_behind_its_exchange(rt: HostRuntime) -> Result<(), Fail> {
     let alloc = rt.alloc();
-    let seconds = Arc::new(
-        alloc,
-        Seconds {
-            passed: AtomicU64::new(0),
-        },
-    )?;
+    let seconds = Arc::new(alloc, Seconds::new())?;
     let gates = gates(alloc, &seconds)?;
     assert_eq!(rt; gates.len(), 1);
     let settlements = Settlements {
@@ -114,6 +83,7 @@ fn a_job_is_settled_behind_its_exchange(rt: HostRuntime) -> Result<(), Fail> {
     let clock = Moving {
         since: ten()?,
         seconds: Arc::try_clone(&seconds)?,
+        each: 0,
     };
     let desk = desk_of_jobs(alloc, 1)?;
     let Ok(Day { counts, .. }) = run_day::<Brand, _, _, _, _>(

@@ -1,8 +1,9 @@
 //! Rounds of polling over a gate of fixed replies: an event that is gone upstream, of which nobody was told, is found.
 ghost use Rattle.std.specs.Prelude.{◌≡◌};
 
+use crate::clock::{Still, Ticks};
 use crate::day::counts;
-use crate::desk::{ONE_EVENT, Still, Ticks, desk_with_keys, enrolled, subscription, ten};
+use crate::desk::{ONE_EVENT, desk_with_keys, enrolled, subscription, ten};
 use crate::peer::{Peer, PeerGate, peers, reply};
 use adr_book::{Office, Pass};
 use adr_link::{HttpReply, LinkFault};

@@ -1,8 +1,9 @@
 //! Reports for the utility: a new one, one in the place of that, and a new one again where the utility has none any more.
 ghost use Rattle.std.specs.Prelude.{◌≡◌};
 
+use crate::clock::Ticks;
 use crate::day::{Day, UntilNoneWaits, run_day};
-use crate::desk::{ONE_EVENT, Ticks, enrolled, page, ten};
+use crate::desk::{ONE_EVENT, enrolled, page, ten};
 use crate::peer::{Peer, PeerGate, reply};
 use adr_link::{HttpReply, LinkFault};
 use adr_machine::{Command, Desk, PlainDesk, Role};

@@ -1,8 +1,9 @@
 //! A stop while jobs are left.
 ghost use Rattle.std.specs.Prelude.{◌≡◌};
 
+use crate::clock::Still;
 use crate::day::{Day, MOST_LOOKS, Meanwhile, run_day};
-use crate::desk::{Still, desk_of_jobs, ten};
+use crate::desk::{desk_of_jobs, ten};
 use crate::peer::{Peer, PeerGate, reply};
 use adr_book::{Office, Pass};
 use adr_link::{HttpReply, LinkFault};
