@@ -1,27 +1,31 @@
 -- A configuration says in one way in which networks addresses may be called.
-use Rattle.std.proofs.Common.{◌≡◌, inl, inr, ℕ, ◌+◌, ◌<◌, ◌≤◌, length, get_or, map, drop, drop-cons, add-one, ap, ap₂, ◌∙◌, codes, List, [], ◌∷◌, ◌++◌, append_assoc, append-nil, Option, Some, None, Result, Ok, Err, IfOk, IfErr, refl, sym, subst}
+use Rattle.std.proofs.Common.{◌≡◌, inl, inr, ℕ, ◌+◌, ◌<◌, ◌≤◌, length, get_or, map, drop, drop-cons, add-one, ap, ap₂, ◌∙◌, codes, List, [], ◌∷◌, ◌++◌, append_assoc, append-nil, Option, Some, None, Result, Ok, Err, IfOk, IfErr, IsErr, refl, sym, subst}
 use Rattle.std.proofs.lemmas.List.{drop_all}
 use Rattle.std.specs.declared.net.socket_addr.SocketAddr.{SocketAddr}
 use Rattle.serde_json.specs.Data.{Data}
 use Rattle.adr_text.specs.Fields.{items_in, member_of, text_of}
-use Rattle.adr_text.specs.Faults.{Finds, Lacks}
+use Rattle.adr_text.specs.Faults.{Lacks}
 use Rattle.adr_text.specs.declared.fault.Fault.{Fault}
-use Rattle.adr_text.specs.declared.fault.Fault.TheVariants.{OutOfMemory}
+use Rattle.adr_text.specs.declared.fault.Fault.TheVariants as fault
 use Rattle.adr_network.specs.declared.network.Network.{Network}
 use Rattle.adr_network.specs.Texts.{IsNetworkText}
 use Rattle.adr_network.proofs.Reading.{one_network}
 use Rattle.adr_config.specs.declared.config.Config.{Config}
 use Rattle.adr_config.specs.Configs.{Calls, SaysAt, config_at}
 use Rattle.adr_config.specs.Callbacks.{FindsNone, IsNetworkIn, AreNetworks, AreNetworksIn, CallsBack}
+use Rattle.adr_config.specs.Tellings.{told, Misses, Tells}
+use Rattle.adr_config.specs.declared.fault.ConfigFault.{ConfigFault}
+use Rattle.adr_config.specs.declared.fault.ConfigFault.TheVariants.{OutOfMemory}
+use Rattle.adr_config.specs.declared.wrong.Wrong.{Wrong}
 
 -- ---- one
 
 -- what a text writes is what its value does
-pub in_text_ok : (d : Data) (text : List ℕ) (r : Result Network Fault) → text_of d ≡ Ok text → IfOk r (IsNetworkText text) → IfOk r (IsNetworkIn d)
+pub in_text_ok : (d : Data) (text : List ℕ) (r : Result Network ConfigFault) → text_of d ≡ Ok text → IfOk r (IsNetworkText text) → IfOk r (IsNetworkIn d)
 in_text_ok d text (Ok network) is writes = (text, is, writes)
 in_text_ok d text (Err e) is writes = tt
 
-pub in_text_err : (d : Data) (text : List ℕ) (r : Result Network Fault) → text_of d ≡ Ok text → IfErr r (λ e. FindsNone e (IsNetworkText text)) → IfErr r (λ e. FindsNone e (IsNetworkIn d))
+pub in_text_err : (d : Data) (text : List ℕ) (r : Result Network ConfigFault) → text_of d ≡ Ok text → IfErr r (λ e. FindsNone e (IsNetworkText text)) → IfErr r (λ e. FindsNone e (IsNetworkIn d))
 in_text_err d text (Ok network) is lacks = tt
 in_text_err d text (Err e) is lacks = by lacks
   where
@@ -34,9 +38,9 @@ in_text_err d text (Err e) is lacks = by lacks
     by (inr none) = inr (never none)
 
 -- what is no text writes none
-pub no_text : (d : Data) (e : Fault) → Lacks e (text_of d) → FindsNone e (IsNetworkIn d)
-no_text d OutOfMemory lacks = inl refl
-no_text d e fails = inr none
+pub no_text : (d : Data) (e : Fault) (wrong : Wrong) → Lacks e (text_of d) → FindsNone (told e wrong) (IsNetworkIn d)
+no_text d fault.OutOfMemory wrong lacks = inl refl
+no_text d e wrong fails = inr none
   where
     none : (network : Network) → ¬ (IsNetworkIn d network)
     none network (text, is, writes) = absurd cc
@@ -64,7 +68,7 @@ reads_more ds left d networks network reads writes = record { forward = forward;
 pub reads_all : (ds : List Data) (networks : List Network) → Reads ds [] networks → AreNetworks ds networks
 reads_all ds networks reads = subst (λ ns. AreNetworks ds ns) (append-nil networks) (reads.forward [] tt)
 
-pub reads_not : (ds left : List Data) (d : Data) (networks : List Network) (e : Fault) → Reads ds (d ∷ left) networks → FindsNone e (IsNetworkIn d) → FindsNone e (AreNetworks ds)
+pub reads_not : (ds left : List Data) (d : Data) (networks : List Network) (e : ConfigFault) → Reads ds (d ∷ left) networks → FindsNone e (IsNetworkIn d) → FindsNone e (AreNetworks ds)
 reads_not ds left d networks e reads (inl wanting) = inl wanting
 reads_not ds left d networks e reads (inr none) = inr (λ whole h. never (reads.back whole h))
   where
@@ -84,14 +88,14 @@ reads_end f vs i ds networks past reads = reads_all ds networks (subst (λ left.
 
 -- ---- a list, and the member
 
-pub no_list : (d : Data) (e : Fault) → Lacks e (items_in d) → FindsNone e (AreNetworksIn d)
-no_list d OutOfMemory lacks = inl refl
-no_list d e fails = inr none
+pub no_list : (d : Data) (e : Fault) (wrong : Wrong) → Lacks e (items_in d) → FindsNone (told e wrong) (AreNetworksIn d)
+no_list d fault.OutOfMemory wrong lacks = inl refl
+no_list d e wrong fails = inr none
   where
     none : (networks : List Network) → ¬ (AreNetworksIn d networks)
     none networks (ds, is, writes) = absurd cc
 
-pub in_list_err : (d : Data) (ds : List Data) (r : Result (List Network) Fault) → items_in d ≡ Ok ds → IfErr r (λ e. FindsNone e (AreNetworks ds)) → IfErr r (λ e. FindsNone e (AreNetworksIn d))
+pub in_list_err : (d : Data) (ds : List Data) (r : Result (List Network) ConfigFault) → items_in d ≡ Ok ds → IfErr r (λ e. FindsNone e (AreNetworks ds)) → IfErr r (λ e. FindsNone e (AreNetworksIn d))
 in_list_err d ds (Ok networks) is lacks = tt
 in_list_err d ds (Err e) is lacks = by lacks
   where
@@ -103,14 +107,14 @@ in_list_err d ds (Err e) is lacks = by lacks
     by (inl wanting) = inl wanting
     by (inr none) = inr (never none)
 
-pub none_called : (d : Data) (e : Fault) → FindsNone e (AreNetworksIn d) → FindsNone e (CallsBack (Some d))
+pub none_called : (d : Data) (e : ConfigFault) → FindsNone e (AreNetworksIn d) → FindsNone e (CallsBack (Some d))
 none_called d e (inl wanting) = inl wanting
 none_called d e (inr none) = inr never
   where
     never : (networks : Option (List Network)) → ¬ (CallsBack (Some d) networks)
     never networks (listed, writes, is) = none listed writes
 
-pub called_err : (said : Option Data) (d : Data) (r : Result (Option (List Network)) Fault) → said ≡ Some d → IfErr r (λ e. FindsNone e (CallsBack (Some d))) → IfErr r (λ e. FindsNone e (CallsBack said))
+pub called_err : (said : Option Data) (d : Data) (r : Result (Option (List Network)) ConfigFault) → said ≡ Some d → IfErr r (λ e. FindsNone e (CallsBack (Some d))) → IfErr r (λ e. FindsNone e (CallsBack said))
 called_err said d r is h = subst (λ s. IfErr r (λ e. FindsNone e (CallsBack s))) (sym is) h
 
 -- ---- a configuration
@@ -134,26 +138,27 @@ one_calls (Some d) a b (x, (ds, is, at), h) (y, (es, was, there), k) =
     h ∙ ap (λ ns. Some ns) (one_list ds x y at (subst (λ t. AreNetworks t y) same there)) ∙ sym k
 
 -- where networks are said, the configuration is what the rest gives
-pub says_at : (listen : SocketAddr) (callbacks : Option (List Network)) (d : Data) → Calls d callbacks → (r : Result Config Fault) → Finds (λ c. c) r (config_at listen callbacks d) → IfOk r (SaysAt listen d)
+pub says_at : (listen : SocketAddr) (callbacks : Option (List Network)) (d : Data) → Calls d callbacks → (r : Result Config ConfigFault) → Tells (λ c. c) r (config_at listen callbacks d) → IfOk r (SaysAt listen d)
 says_at listen callbacks d calls (Ok c) found = (callbacks, calls, found)
 says_at listen callbacks d calls (Err e) found = tt
 
-pub says_none_at : (listen : SocketAddr) (callbacks : Option (List Network)) (d : Data) → Calls d callbacks → (r : Result Config Fault) → Finds (λ c. c) r (config_at listen callbacks d) → IfErr r (λ e. FindsNone e (SaysAt listen d))
+pub says_none_at : (listen : SocketAddr) (callbacks : Option (List Network)) (d : Data) → Calls d callbacks → (r : Result Config ConfigFault) → Tells (λ c. c) r (config_at listen callbacks d) → IfErr r (λ e. FindsNone e (SaysAt listen d))
 says_none_at listen callbacks d calls (Ok c) found = tt
 says_none_at listen callbacks d calls (Err e) found = by e found
   where
-    no_other : (e : Fault) → config_at listen callbacks d ≡ Err e → (config : Config) → ¬ (SaysAt listen d config)
-    no_other e fails config (other, there, said) =
+    no_other : IsErr (config_at listen callbacks d) → (config : Config) → ¬ (SaysAt listen d config)
+    no_other fails config (other, there, said) =
         let same : other ≡ callbacks = one_calls (member_of (codes "callbacks") d) other callbacks there calls in
         let here : config_at listen callbacks d ≡ Ok config = subst (λ ns. config_at listen ns d ≡ Ok config) same said in
+        let failed : IsErr {T = Config} {E = Fault} (Ok config) = subst (λ r. IsErr r) here fails in
         absurd cc
 
-    by : (e : Fault) → Lacks e (config_at listen callbacks d) → FindsNone e (SaysAt listen d)
-    by OutOfMemory lacks = inl refl
-    by e fails = inr (no_other e fails)
+    by : (e : ConfigFault) → Misses e (config_at listen callbacks d) → FindsNone e (SaysAt listen d)
+    by OutOfMemory misses = inl refl
+    by e fails = inr (no_other fails)
 
 -- where none are, no configuration is
-pub none_calls : (listen : SocketAddr) (e : Fault) (d : Data) → FindsNone e (Calls d) → FindsNone e (SaysAt listen d)
+pub none_calls : (listen : SocketAddr) (e : ConfigFault) (d : Data) → FindsNone e (Calls d) → FindsNone e (SaysAt listen d)
 none_calls listen e d (inl wanting) = inl wanting
 none_calls listen e d (inr none) = inr never
   where

@@ -2,13 +2,13 @@
 use Rattle.std.specs.Prelude.{◌≡◌, ◌⊎◌, ℕ, List, [], ◌∷◌, Option, Some, None, Ok, ⊤}
 use Rattle.serde_json.specs.Data.{Data}
 use Rattle.adr_text.specs.Fields.{items_in, text_of}
-use Rattle.adr_text.specs.declared.fault.Fault.{Fault}
-use Rattle.adr_text.specs.declared.fault.Fault.TheVariants.{OutOfMemory}
 use Rattle.adr_network.specs.declared.network.Network.{Network}
 use Rattle.adr_network.specs.Texts.{IsNetworkText}
+use Rattle.adr_config.specs.declared.fault.ConfigFault.{ConfigFault}
+use Rattle.adr_config.specs.declared.fault.ConfigFault.TheVariants.{OutOfMemory}
 
 -- memory was wanting, or nothing is one
-abbrev pub FindsNone : {A : Type 0} → Fault → (A → Type 0) → Type 0
+abbrev pub FindsNone : {A : Type 0} → ConfigFault → (A → Type 0) → Type 0
 FindsNone {A} e P = (e ≡ OutOfMemory) ⊎ ((a : A) → ¬ (P a))
 
 -- a text that writes the network

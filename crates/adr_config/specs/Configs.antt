@@ -1,7 +1,9 @@
 -- The configuration of a node that serves.
-use Rattle.std.specs.Prelude.{◌≡◌, ℕ, List, codes, Option, Some, None, Result, Ok}
+use Rattle.std.specs.Prelude.{◌≡◌, ℕ, List, codes, Option, Some, None, unwrap_or, Result, Ok}
 use Rattle.std.specs.declared.net.socket_addr.SocketAddr.{SocketAddr}
 use Rattle.std.specs.Net.Grammar.{IsSocketText}
+use Rattle.log.specs.declared.level.LevelFilter.{LevelFilter}
+use Rattle.log.specs.declared.level.LevelFilter.TheVariants.{Off}
 use Rattle.serde_json.specs.Data.{Data}
 use Rattle.adr_text.specs.Faults.{as_fault}
 use Rattle.adr_text.specs.Fields.{member_of, name_in, optional, required, text_of, value_in}
@@ -10,11 +12,13 @@ use Rattle.adr_text.specs.declared.fault.Fault.{Fault}
 use Rattle.adr_state.specs.declared.limits.Limits.{Limits}
 use Rattle.adr_state.specs.declared.limits.Settings.{Settings}
 use Rattle.adr_state.specs.Limits.{largest}
+use Rattle.adr_queries.specs.declared.role.Role.{Role}
 use Rattle.adr_network.specs.declared.network.Network.{Network}
 use Rattle.adr_link.specs.Upstreams.{UpstreamParts, upstream_of}
 use Rattle.adr_config.specs.declared.config.Config.{Config}
 use Rattle.adr_config.specs.Callbacks.{CallsBack}
 use Rattle.adr_config.specs.Grants.{limits_in, roles_in}
+use Rattle.adr_config.specs.Levels.{log_in}
 use Rattle.adr_config.specs.Members.{limit_in}
 
 -- the utility's address, and the token that it is shown
@@ -35,6 +39,14 @@ settings_in d = do
   limits ← optional (member_of (codes "limits") d) limits_in
   Ok (record { client = client; limits = limits_or_largest limits })
 
+-- who may ask, after how many connections it stops, and how much is told
+unfoldable pub serving_in : Data → Result (List (List ℕ × Role) × Option ℕ × LevelFilter) Fault
+serving_in d = do
+  roles ← required (member_of (codes "tokens") d) roles_in
+  stop_after ← optional (member_of (codes "stopAfter") d) (limit_in 4_294_967_295)
+  log ← optional (member_of (codes "log") d) log_in
+  Ok (roles, stop_after, unwrap_or log Off)
+
 -- what is said by a configuration that listens there and lets addresses in those networks be called
 unfoldable pub config_at : SocketAddr → Option (List Network) → Data → Result Config Fault
 config_at listen callbacks d = do
@@ -42,9 +54,8 @@ config_at listen callbacks d = do
   settings ← settings_in d
   poll ← required (member_of (codes "poll") d) (limit_in 3_600)
   workers ← required (member_of (codes "workers") d) (limit_in 16)
-  roles ← required (member_of (codes "tokens") d) roles_in
-  stop_after ← optional (member_of (codes "stopAfter") d) (limit_in 4_294_967_295)
-  Ok (record { listen = listen; upstream = upstream; callbacks = callbacks; settings = settings; poll = poll; workers = workers; roles = roles; stop_after = stop_after })
+  serving ← serving_in d
+  Ok (record { listen = listen; upstream = upstream; callbacks = callbacks; settings = settings; poll = poll; workers = workers; roles = serving.0; stop_after = serving.1; log = serving.2 })
 
 -- an address and a port are where it listens
 abbrev pub Listens : Data → SocketAddr → Type 0

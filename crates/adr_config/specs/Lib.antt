@@ -1,4 +1,6 @@
 pub mod Members
 pub mod Grants
 pub mod Callbacks
+pub mod Levels
+pub mod Tellings
 pub mod Configs

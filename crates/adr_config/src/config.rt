@@ -3,6 +3,7 @@ use adr_http::Roles;
 use adr_link::Upstream;
 use adr_network::Networks;
 use adr_state::{Limit, Settings};
+use log::LevelFilter;
 use std::net::SocketAddr;
 
 /// What a node that serves is set to.
@@ -24,4 +25,6 @@ pub struct Config {
     pub roles: Roles,
     /// After how many connections it stops, if ever.
     pub stop_after: Option<Limit<4_294_967_295>>,
+    /// How much is told on standard error.
+    pub log: LevelFilter,
 }

@@ -3,11 +3,21 @@
 
 mod callbacks;
 mod config;
+mod fault;
 mod grants;
+mod level;
 mod limits;
 mod members;
+mod oddity;
+mod place;
 mod read;
 #[cfg(test)]
 mod tests;
+mod texts;
+mod wrong;
 
 pub use config::Config;
+pub use fault::ConfigFault;
+pub use level::log_of;
+pub use oddity::{Oddity, oddities};
+pub use wrong::Wrong;

@@ -4,13 +4,18 @@ ghost use Rattle.serde_json.specs.View.{view};
 ghost use Rattle.adr_text.specs.Faults.{Finds};
 ghost use Rattle.adr_text.specs.Fields.{member_of};
 ghost use Rattle.adr_config.specs.Grants.{limit_said, limits_said, limits_in};
+ghost use Rattle.adr_config.specs.Tellings.{Tells};
 
+use crate::fault::ConfigFault;
 use crate::members::count;
+use crate::place::Place;
+use crate::wrong::Why;
 use adr_state::Limits;
-use adr_text::{Fault, FromJson, member};
+use adr_text::{Fault, member};
 use serde_json::Value;
 
-const NAMES: [&str; 9] = [
+/// The names of the limits.
+pub(crate) const NAMES: [&str; 9] = [
     "keys",
     "vens",
     "subs",
@@ -21,6 +26,22 @@ const NAMES: [&str; 9] = [
     "serial",
     "trail",
 ];
+
+/// The largest number that the limit of a name may be.
+fn largest(name: &str) -> u64 {
+    let limits = Limits::largest();
+    match name {
+        "keys" => limits.keys.get(),
+        "vens" => limits.vens.get(),
+        "subs" => limits.subs.get(),
+        "resources" => limits.resources.get(),
+        "shares" => limits.shares.get(),
+        "reports" => limits.reports.get(),
+        "pending" => limits.pending.get(),
+        "serial" => limits.serial.get(),
+        _ => limits.trail.get(),
+    }
+}
 
 /// The limits with that of a name, where it is said.
 fn limit_said(mut limits: Limits, value: &Value, name: &str) -> Result<Limits, Fault>
@@ -35,24 +56,39 @@ fn limit_said(mut limits: Limits, value: &Value, name: &str) -> Result<Limits, F
     Ok(limits)
 }
 
+/// The same, or that what stands there is wrong.
+fn limit_told(
+    limits: Limits,
+    value: &Value,
+    name: &str,
+    place: Place,
+) -> Result<Limits, ConfigFault>
+    ensures { Tells (λ limits. limits) result (limit_said name.now (member_of name.now (view value.now)) limits) }
+{
+    match limit_said(limits, value, name) {
+        Ok(limits) => Ok(limits),
+        Err(fault) => Err(place.wrong(Why::NoCount(largest(name))).told(fault)),
+    }
+}
+
 /// The limits with those of the names in turn.
-fn limits_said(value: &Value, names: &[&str], limits: Limits) -> Result<Limits, Fault>
-    ensures { Finds (λ limits. limits) result (limits_said (view value.now) (map (λ name. name.now) names.now) limits) }
+fn limits_said(value: &Value, names: &[&str], limits: Limits) -> Result<Limits, ConfigFault>
+    ensures { Tells (λ limits. limits) result (limits_said (view value.now) (map (λ name. name.now) names.now) limits) }
 {
     let mut limits = limits;
-    for name in names {
-        limits = limit_said(limits, value, name)?;
+    for i in 0..names.len() {
+        limits = limit_told(limits, value, names[i], Place::Limit(i))?;
     }
     Ok(limits)
 }
 
 /// The largest limits, but for those that are said.
 #[tactic(auto, unfolding(crate::specs::Grants::limits_in))]
-pub(crate) fn limits(value: &Value) -> Result<Limits, Fault>
-    ensures { Finds (λ limits. limits) result (limits_in (view value.now)) }
+pub(crate) fn limits(value: &Value) -> Result<Limits, ConfigFault>
+    ensures { Tells (λ limits. limits) result (limits_in (view value.now)) }
 {
     if !value.is_object() {
-        return Err(Fault::BadShape);
+        return Err(ConfigFault::Wrong(Place::Limits.wrong(Why::NoObject)));
     }
     limits_said(value, &NAMES, Limits::largest())
 }

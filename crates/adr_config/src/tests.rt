@@ -1,16 +1,20 @@
-//! What no clause says: that an example is read, that each wrong member is refused, and by which words the members go.
+//! What no clause says: that an example is read, that each wrong member is refused and told, by which words the members go,
+//! and what has no effect.
 use crate::config::Config;
+use crate::level::log_of;
+use crate::oddity::oddities;
 use adr_http::Roles;
 use adr_machine::Role;
 use adr_network::Networks;
 use adr_state::{Limits, Settings};
 use adr_text::Refusal;
+use log::LevelFilter;
 use std::alloc::{AllocError, Global};
 use std::net::{IpAddr, SocketAddr};
 use std::test::Fail;
 
 /// The members of an example, each with its value.
-const MEMBERS: [(&str, &str); 10] = [
+const MEMBERS: [(&str, &str); 11] = [
     ("listen", "\"127.0.0.1:8080\""),
     ("upstream", "\"http://127.0.0.1:8081/openadr3\""),
     ("upstreamToken", "\"up\""),
@@ -24,6 +28,7 @@ const MEMBERS: [(&str, &str); 10] = [
     ),
     ("limits", "{\"vens\":7,\"trail\":1000000}"),
     ("stopAfter", "4294967295"),
+    ("log", "\"info\""),
 ];
 
 /// Members that have to be there.
@@ -36,105 +41,227 @@ const NEEDED: [&str; 6] = [
     "tokens",
 ];
 
-/// Values with which a member is refused.
-const WRONG: [(&str, &str); 55] = [
-    ("listen", "8080"),
-    ("listen", "null"),
-    ("listen", "\"\""),
-    ("listen", "\"127.0.0.1\""),
-    ("listen", "\"127.0.0.1:\""),
-    ("listen", "\"127.0.0.1:70000\""),
-    ("listen", "\"localhost:8080\""),
-    ("listen", "\"127.0.0.1:8080 \""),
-    ("upstream", "80"),
-    ("upstream", "\"\""),
-    ("upstream", "\"127.0.0.1:8081\""),
-    ("upstream", "\"https://127.0.0.1:8081/openadr3\""),
-    ("upstream", "\"http://127.0.0.1:70000/openadr3\""),
-    ("upstreamToken", "1"),
-    ("upstreamToken", "\"\""),
-    ("upstreamToken", "\"a b\""),
-    ("clientName", "1"),
-    ("clientName", "\"\""),
-    ("poll", "\"1\""),
-    ("poll", "0"),
-    ("poll", "-1"),
-    ("poll", "3601"),
-    ("poll", "1.5"),
-    ("poll", "true"),
-    ("workers", "\"1\""),
-    ("workers", "0"),
-    ("workers", "17"),
-    ("workers", "-1"),
-    ("tokens", "{}"),
-    ("tokens", "\"t0\""),
-    ("tokens", "[\"t0\"]"),
-    ("tokens", "[{\"role\":\"operator\"}]"),
-    ("tokens", "[{\"token\":\"t0\"}]"),
-    ("tokens", "[{\"token\":7,\"role\":\"operator\"}]"),
-    ("tokens", "[{\"token\":\"\",\"role\":\"operator\"}]"),
-    ("tokens", "[{\"token\":\"t 0\",\"role\":\"operator\"}]"),
-    ("tokens", "[{\"token\":\"t0\",\"role\":\"Operator\"}]"),
-    ("tokens", "[{\"token\":\"t0\",\"role\":\"node\"}]"),
-    ("tokens", "[{\"token\":\"t0\",\"role\":\"ven\"}]"),
+/// Members, what is told of them, and the values with which they are refused so.
+const WRONG: [(&str, &str, &[&str]); 33] = [
+    ("listen", "listen: not a text", &["8080"]),
+    ("listen", "listen: missing", &["null"]),
+    (
+        "listen",
+        "listen: not an IP address, a colon and a port",
+        &[
+            "\"\"",
+            "\"127.0.0.1\"",
+            "\"127.0.0.1:\"",
+            "\"127.0.0.1:70000\"",
+            "\"localhost:8080\"",
+            "\"127.0.0.1:8080 \"",
+        ],
+    ),
+    ("upstream", "upstream: not a text", &["80"]),
+    (
+        "upstream",
+        "upstream: not an http address of an IP address or localhost",
+        &[
+            "\"\"",
+            "\"127.0.0.1:8081\"",
+            "\"https://127.0.0.1:8081/openadr3\"",
+            "\"http://127.0.0.1:70000/openadr3\"",
+        ],
+    ),
+    ("upstreamToken", "upstreamToken: not a text", &["1"]),
+    (
+        "upstreamToken",
+        "upstreamToken: not 1 to 1024 characters from ! to ~",
+        &["\"\"", "\"a b\""],
+    ),
+    ("clientName", "clientName: not a text", &["1"]),
+    ("clientName", "clientName: not 1 to 128 bytes", &["\"\""]),
+    (
+        "poll",
+        "poll: not a whole number from 1 to 3600",
+        &["\"1\"", "0", "-1", "3601", "1.5", "true"],
+    ),
+    (
+        "workers",
+        "workers: not a whole number from 1 to 16",
+        &["\"1\"", "0", "17", "-1"],
+    ),
+    ("tokens", "tokens: not a list", &["{}", "\"t0\""]),
+    ("tokens", "tokens[0]: not an object", &["[\"t0\"]"]),
     (
         "tokens",
-        "[{\"token\":\"t0\",\"role\":\"ven\",\"venID\":1}]",
+        "tokens[0].token: missing",
+        &["[{\"role\":\"operator\"}]"],
     ),
     (
         "tokens",
-        "[{\"token\":\"t0\",\"role\":\"ven\",\"venID\":\"\"}]",
+        "tokens[0].role: missing",
+        &["[{\"token\":\"t0\"}]"],
     ),
     (
         "tokens",
-        "[{\"token\":\"t0\",\"role\":\"operator\",\"venID\":\"v1\"}]",
+        "tokens[0].token: not a text",
+        &["[{\"token\":7,\"role\":\"operator\"}]"],
     ),
     (
         "tokens",
-        "[{\"token\":\"t0\",\"role\":\"utility\",\"venID\":\"v1\"}]",
+        "tokens[0].token: not 1 to 1024 characters from ! to ~",
+        &[
+            "[{\"token\":\"\",\"role\":\"operator\"}]",
+            "[{\"token\":\"t 0\",\"role\":\"operator\"}]",
+        ],
     ),
     (
         "tokens",
-        "[{\"token\":\"t0\",\"role\":\"operator\"},{\"token\":\"t0\",\"role\":\"operator\"}]",
+        "tokens[0].role: not operator, utility or ven",
+        &[
+            "[{\"token\":\"t0\",\"role\":\"Operator\"}]",
+            "[{\"token\":\"t0\",\"role\":\"node\"}]",
+        ],
     ),
     (
         "tokens",
-        "[{\"token\":\"t0\",\"role\":\"operator\"},{\"token\":\"u0\",\"role\":\"utility\"},{\"token\":\"t0\",\"role\":\"utility\"}]",
+        "tokens[0].venID: missing",
+        &["[{\"token\":\"t0\",\"role\":\"ven\"}]"],
     ),
-    ("limits", "[]"),
-    ("limits", "7"),
-    ("limits", "{\"vens\":0}"),
-    ("limits", "{\"vens\":1001}"),
-    ("limits", "{\"vens\":\"7\"}"),
-    ("limits", "{\"serial\":9000000000000001}"),
-    ("stopAfter", "0"),
-    ("stopAfter", "-1"),
-    ("stopAfter", "4294967296"),
-    ("stopAfter", "\"1\""),
+    (
+        "tokens",
+        "tokens[0].venID: not a text",
+        &["[{\"token\":\"t0\",\"role\":\"ven\",\"venID\":1}]"],
+    ),
+    (
+        "tokens",
+        "tokens[0].venID: not 1 to 128 letters, digits, - and _",
+        &["[{\"token\":\"t0\",\"role\":\"ven\",\"venID\":\"\"}]"],
+    ),
+    (
+        "tokens",
+        "tokens[0].venID: only a ven has one",
+        &[
+            "[{\"token\":\"t0\",\"role\":\"operator\",\"venID\":\"v1\"}]",
+            "[{\"token\":\"t0\",\"role\":\"utility\",\"venID\":\"v1\"}]",
+        ],
+    ),
+    (
+        "tokens",
+        "tokens[1].token: the same as in an item before",
+        &["[{\"token\":\"t0\",\"role\":\"operator\"},{\"token\":\"t0\",\"role\":\"operator\"}]"],
+    ),
+    (
+        "tokens",
+        "tokens[2].token: the same as in an item before",
+        &[
+            "[{\"token\":\"t0\",\"role\":\"operator\"},{\"token\":\"u0\",\"role\":\"utility\"},{\"token\":\"t0\",\"role\":\"utility\"}]",
+        ],
+    ),
+    ("limits", "limits: not an object", &["[]", "7"]),
+    (
+        "limits",
+        "limits.vens: not a whole number from 1 to 1000",
+        &["{\"vens\":0}", "{\"vens\":1001}", "{\"vens\":\"7\"}"],
+    ),
+    (
+        "limits",
+        "limits.serial: not a whole number from 1 to 9000000000000000",
+        &["{\"serial\":9000000000000001}"],
+    ),
+    (
+        "stopAfter",
+        "stopAfter: not a whole number from 1 to 4294967295",
+        &["0", "-1", "4294967296", "\"1\""],
+    ),
+    (
+        "callbacks",
+        "callbacks: not a list",
+        &["{}", "true", "\"10.20.0.0/16\""],
+    ),
+    ("callbacks", "callbacks[0]: not a text", &["[7]", "[null]"]),
+    (
+        "callbacks",
+        "callbacks[0]: not a network",
+        &["[\"10.20.0.0\"]", "[\"10.20.3.4/16\"]"],
+    ),
+    (
+        "callbacks",
+        "callbacks[1]: not a network",
+        &["[\"::1/128\",\"localhost/8\"]"],
+    ),
+    (
+        "log",
+        "log: not off, error, warn, info or debug",
+        &["\"trace\"", "\"OFF\"", "\"\"", "1", "{}"],
+    ),
 ];
 
-/// Values of members that are passed over, or of which a member is.
-const MORE: [(&str, &str); 5] = [
-    ("mode", "1"),
-    ("stopafter", "\"1\""),
-    ("limits", "{\"ven\":0}"),
+/// Values with which the example is taken, and what is told to have no effect.
+const MORE: [(&str, &str, &str); 14] = [
+    ("mode", "1", "mode: not a known member"),
+    ("stopafter", "\"1\"", "stopafter: not a known member"),
+    ("$schema", "\"config.schema.json\"", ""),
+    ("stopAfter", "null", ""),
+    (
+        "limits",
+        "{\"keys\":7,\"kyes\":0}",
+        "limits.kyes: not a known member",
+    ),
     (
         "tokens",
         "[{\"token\":\"t0\",\"role\":\"operator\",\"name\":\"x\"}]",
+        "tokens[0].name: not a known member",
     ),
-    ("stopAfter", "null"),
+    (
+        "tokens",
+        "[{\"token\":\"t0\",\"role\":\"operator\"},{\"token\":\"v0\",\"role\":\"ven\",\"venID\":\"alpha\"}]",
+        "tokens[1].venID: no ven has such an id",
+    ),
+    (
+        "tokens",
+        "[{\"token\":\"v0\",\"role\":\"ven\",\"venID\":\"v0\"}]",
+        "tokens[0].venID: no ven has such an id",
+    ),
+    (
+        "tokens",
+        "[{\"token\":\"v0\",\"role\":\"ven\",\"venID\":\"v01\"}]",
+        "tokens[0].venID: no ven has such an id",
+    ),
+    (
+        "tokens",
+        "[{\"token\":\"v0\",\"role\":\"ven\",\"venID\":\"r1\"}]",
+        "tokens[0].venID: no ven has such an id",
+    ),
+    (
+        "tokens",
+        "[{\"token\":\"v0\",\"role\":\"ven\",\"venID\":\"v10\"}]",
+        "",
+    ),
+    ("p\\u00e9\\n \\u007fll", "1", "p?? ?ll: not a known member"),
+    (
+        "1234567890123456789012345678901234567890123456789012345678901234567",
+        "1",
+        "1234567890123456789012345678901234567890123456789012345678901234: not a known member",
+    ),
+    ("", "1", ": not a known member"),
 ];
 
-/// Values of `callbacks` that are refused.
-const NO_NETWORKS: [&str; 8] = [
-    "{}",
-    "true",
-    "\"10.20.0.0/16\"",
-    "[7]",
-    "[null]",
-    "[\"10.20.0.0\"]",
-    "[\"10.20.3.4/16\"]",
-    "[\"::1/128\",\"localhost/8\"]",
+/// Values of `log`, and the level that each is.
+const LEVELS: [(&str, LevelFilter); 6] = [
+    ("null", LevelFilter::Off),
+    ("\"off\"", LevelFilter::Off),
+    ("\"error\"", LevelFilter::Error),
+    ("\"warn\"", LevelFilter::Warn),
+    ("\"info\"", LevelFilter::Info),
+    ("\"debug\"", LevelFilter::Debug),
+];
+
+/// Texts that are no configuration, and the level by which they are told of.
+const TOLD_BY: [(&str, LevelFilter); 7] = [
+    ("{", LevelFilter::Off),
+    ("[\"log\",\"debug\"]", LevelFilter::Off),
+    ("{}", LevelFilter::Off),
+    ("{\"log\":\"off\"}", LevelFilter::Off),
+    ("{\"poll\":0,\"log\":\"warn\"}", LevelFilter::Warn),
+    ("{\"log\":\"trace\"}", LevelFilter::Error),
+    ("{\"log\":4}", LevelFilter::Error),
 ];
 
 /// Values of `callbacks`, an address, and whether it may be called.
@@ -190,9 +317,30 @@ fn read(alloc: Global, other: &str, value: Option<&str>) -> Result<Config, Refus
     Config::read(alloc, text.as_bytes())
 }
 
-/// Whether it is refused, and not for want of memory.
-fn is_refused(alloc: Global, other: &str, value: Option<&str>) -> bool {
-    matches!(read(alloc, other, value), Err(Refusal::BadShape))
+/// What is told of a text that is refused, not for want of memory; nothing of one that isn't.
+fn told(alloc: Global, text: &str) -> Result<String, AllocError> {
+    let is_refused = matches!(Config::read(alloc, text.as_bytes()), Err(Refusal::BadShape));
+    match Config::read_or_tell(alloc, text.as_bytes()) {
+        Err(fault) if is_refused => format!(in alloc; "{fault}"),
+        _ => Ok(String::new(alloc)),
+    }
+}
+
+/// The same of the example with that value for a member, or without it.
+fn told_of(alloc: Global, other: &str, value: Option<&str>) -> Result<String, AllocError> {
+    told(alloc, example(alloc, other, value)?.as_str())
+}
+
+/// What is told to have no effect in a text, each behind a comma.
+fn odd(alloc: Global, text: &str) -> Result<String, AllocError> {
+    let mut all = String::new(alloc);
+    for oddity in oddities(alloc, text.as_bytes())? {
+        if !all.is_empty() {
+            all.push_str(", ")?;
+        }
+        all.push_str(format!(in alloc; "{oddity}")?.as_str())?;
+    }
+    Ok(all)
 }
 
 fn is_example_of_settings(settings: &Settings) -> bool {
@@ -245,6 +393,7 @@ fn is_example(config: &Config) -> bool {
         && is_example_of_settings(&config.settings)
         && is_example_of_counts(config)
         && is_example_of_roles(&config.roles)
+        && config.log == LevelFilter::Info
 }
 
 #[test]
@@ -276,18 +425,11 @@ fn who_may_be_called(rt: HostRuntime) {
 }
 
 #[test]
-fn what_names_no_networks(rt: HostRuntime) {
-    let alloc = rt.alloc();
-    for value in NO_NETWORKS {
-        assert!(rt; is_refused(alloc, "callbacks", Some(value)), "{value}");
-    }
-}
-
-#[test]
 fn what_need_not_be_said(rt: HostRuntime) -> Result<(), Fail> {
     let alloc = rt.alloc();
     assert!(rt; read(alloc, "upstreamToken", None).is_ok());
     assert!(rt; read(alloc, "stopAfter", None)?.stop_after.is_none());
+    assert!(rt; read(alloc, "log", None)?.log == LevelFilter::Off);
     assert!(rt; read(alloc, "limits", None)?.settings.limits == Limits::largest());
     assert!(rt;
         read(alloc, "tokens", Some("[]"))?
@@ -298,27 +440,83 @@ fn what_need_not_be_said(rt: HostRuntime) -> Result<(), Fail> {
     Ok(())
 }
 
-#[test]
-fn what_is_refused(rt: HostRuntime) {
-    let alloc = rt.alloc();
-    for name in NEEDED {
-        assert!(rt; is_refused(alloc, name, None), "without {name}");
+/// Whether the example with each of these values of a member is told of in those words.
+fn is_told_of_each(
+    alloc: Global,
+    name: &str,
+    words: &str,
+    values: &[&str],
+) -> Result<bool, Refusal> {
+    for value in values {
+        if told_of(alloc, name, Some(value))?.as_str() != words {
+            return Ok(false);
+        }
     }
-    for (name, value) in WRONG {
-        assert!(rt; is_refused(alloc, name, Some(value)), "{name}: {value}");
-    }
-    for text in NO_OBJECTS {
-        let read = Config::read(alloc, text.as_bytes());
-        assert!(rt; matches!(read, Err(Refusal::BadShape)), "{text}");
-    }
+    Ok(true)
 }
 
 #[test]
-fn what_is_passed_over(rt: HostRuntime) {
+fn what_is_refused(rt: HostRuntime) -> Result<(), Fail> {
     let alloc = rt.alloc();
-    for (name, value) in MORE {
-        assert!(rt; read(alloc, name, Some(value)).is_ok(), "{name}: {value}");
+    for name in NEEDED {
+        let words = format!(in alloc; "{name}: missing")?;
+        assert_eq!(rt; told_of(alloc, name, None)?, words);
     }
+    for (name, words, values) in WRONG {
+        assert!(rt;
+            is_told_of_each(alloc, name, words, values)?,
+            "{name}: {words}"
+        );
+    }
+    for text in NO_OBJECTS {
+        assert_eq!(rt; told(alloc, text)?.as_str(), "not a JSON object", "{text}");
+    }
+    let first = "{\"listen\":\"127.0.0.1:8080\",\"log\":7,\"poll\":0}";
+    assert_eq!(rt; told(alloc, first)?.as_str(), "upstream: missing");
+    Ok(())
+}
+
+#[test]
+fn what_has_no_effect(rt: HostRuntime) -> Result<(), Fail> {
+    let alloc = rt.alloc();
+    for (name, value, words) in MORE {
+        let text = example(alloc, name, Some(value))?;
+        assert!(rt;
+            Config::read(alloc, text.as_bytes()).is_ok(),
+            "{name}: {value}"
+        );
+        assert_eq!(rt;
+            odd(alloc, text.as_str())?.as_str(),
+            words,
+            "{name}: {value}"
+        );
+    }
+    let several =
+        "{\"tokens\":[7,{\"venID\":\"v 1\",\"Role\":1},{\"venID\":1}],\"limits\":{\"a\":1},\"b\":1,\"Log\":1}";
+    let words =
+        "Log: not a known member, b: not a known member, limits.a: not a known member, tokens[1].Role: not a known member, tokens[1].venID: no ven has such an id";
+    assert_eq!(rt; odd(alloc, several)?.as_str(), words);
+    for text in NO_OBJECTS {
+        assert!(rt; oddities(alloc, text.as_bytes())?.is_empty(), "{text}");
+    }
+    Ok(())
+}
+
+#[test]
+fn how_much_is_told(rt: HostRuntime) -> Result<(), Fail> {
+    let alloc = rt.alloc();
+    for (value, level) in LEVELS {
+        let text = example(alloc, "log", Some(value))?;
+        assert!(rt;
+            Config::read(alloc, text.as_bytes())?.log == level,
+            "{value}"
+        );
+        assert!(rt; log_of(alloc, text.as_bytes())? == level, "{value}");
+    }
+    for (text, level) in TOLD_BY {
+        assert!(rt; log_of(alloc, text.as_bytes())? == level, "{text}");
+    }
+    Ok(())
 }
 
 /// The example where that limit is said to be so many.

@@ -12,6 +12,7 @@ use crate::fault::ServeFault;
 use crate::roles::Roles;
 use crate::serving::serve;
 use crate::taker::Taker;
+use crate::witness::Unseen;
 use adr_asked::{Asked, take_asked};
 use adr_machine::{Answer, Desk};
 use adr_request::HttpRequest;
@@ -102,7 +103,7 @@ fn serve_lent<D: Desk, S: Source, W: Sink>(
     ensures same_settings { D.settings taker.new.desk.now ≡ D.settings taker.old.desk.now }
     ensures same_desk { taker.new.desk.ghost_name ≡ taker.old.desk.ghost_name }
 {
-    serve(alloc, roles, routes, taker, source, sink)
+    serve(alloc, roles, routes, taker, source, sink, &mut Unseen)
 }
 
 /// Reads a request, takes its step at that moment, and writes the reply.

@@ -11,6 +11,7 @@ mod replying;
 mod roles;
 mod serving;
 mod taker;
+mod witness;
 
 pub use adr_asked::Asked;
 pub use adr_reply::{MEMORY_REPLY, Problem, Reply, render};
@@ -25,3 +26,4 @@ pub use replying::problem_bytes;
 pub use roles::{Grant, Roles};
 pub use serving::{reply_to_end, serve};
 pub use taker::Taker;
+pub use witness::{Unseen, Witness};

@@ -90,6 +90,13 @@ impl Roles {
         role_in(&self.grants, token)
     }
 
+    /// The tokens, each with its role.
+    pub fn grants(&self) -> &[Grant]
+        ensures { map granted result.now ≡ self.now }
+    {
+        &self.grants
+    }
+
     /// The same roles again.
     pub fn copy(&self, alloc: Global) -> Result<Roles, AllocError>
         ensures { IfOk result (λ copy. copy ≡ self.now) }

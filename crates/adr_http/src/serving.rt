@@ -15,6 +15,7 @@ use crate::outgoing::Outgoing;
 use crate::replying::problem_bytes;
 use crate::roles::Roles;
 use crate::taker::Taker;
+use crate::witness::Witness;
 use adr_reply::Problem;
 use adr_request::{HttpRequest, read_request};
 use adr_routes::Routes;
@@ -98,14 +99,15 @@ fn reply_to_reading<T: Taker>(
 ///
 /// Bytes that are no request are told so, and nothing is taken. Where memory runs out, that is what is replied, in place of
 /// the taking or behind it. A read that fails ends it at once: nothing is written, and nothing is taken. After a write that
-/// fails a part of the reply is written, and what was taken stays.
-pub fn serve<T: Taker, S: Source, W: Sink>(
+/// fails a part of the reply is written, and what was taken stays. Who sees it changes nothing.
+pub fn serve<T: Taker, S: Source, W: Sink, V: Witness>(
     alloc: Global,
     roles: &Roles,
     routes: &Routes,
     taker: &mut T,
     source: &mut S,
     sink: &mut W,
+    witness: &mut V,
 ) -> Result<(), ServeFault>
     ensures all { OnOk result (IfSome (S.left source.old) (λ bytes. ServesBy T.takes (T.client taker.old) roles.now taker.old bytes taker.new (W.written sink.old) (W.written sink.new))) }
     ensures part { result ≡ Err Write → IfSome (S.left source.old) (λ bytes. ServesPartBy T.takes (T.client taker.old) roles.now taker.old bytes taker.new (W.written sink.old) (W.written sink.new)) }
@@ -120,7 +122,9 @@ pub fn serve<T: Taker, S: Source, W: Sink>(
     ensures no_write_fault { result ≢ Err Write → NoneFails (W.calls sink.old) (W.calls sink.new) }
 {
     let reading = read_request(alloc, source);
+    witness.reads(&reading);
     let out = reply_to_reading(alloc, roles, routes, taker, &reading)?;
+    witness.replies(&out);
     match write_all(sink, out.bytes()) {
         Ok(()) => Ok(()),
         Err(_) => Err(ServeFault::Write),

@@ -6,6 +6,7 @@ mod clock;
 mod in_book;
 mod room;
 mod steps;
+mod telling;
 mod under_lock;
 
 pub use call::Call;

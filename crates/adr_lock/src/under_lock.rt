@@ -10,14 +10,17 @@ use crate::clock::Clock;
 use crate::in_book::take_in_book;
 use crate::room::MOST_WEIGHT;
 use crate::steps::{Steps, note};
+use crate::telling::tell;
 use adr_book::{Office, Pass};
 use adr_machine::{Answer, Desk};
 use adr_text::Refusal;
+use log::Log;
 use std::sync::Wait;
 use std::sync::ledger::Ledger;
 
-/// Takes a step under the lock, or looks, once, at the moment that the clock tells under it.
-pub fn take_under_lock<D: Desk + Drop, L: Ledger, C: Clock, R: Wait>(
+/// Takes a step under the lock, or looks, once, at the moment that the clock tells under it. What the log is told of it
+/// is told once the lock is free.
+pub fn take_under_lock<D: Desk + Drop, L: Ledger, C: Clock, R: Wait + Log>(
     rt: &R,
     office: &Office<D, L>,
     clock: &C,
@@ -33,7 +36,11 @@ pub fn take_under_lock<D: Desk + Drop, L: Ledger, C: Clock, R: Wait>(
 {
     let mut book = office.book.lock(rt);
     let now = clock.now(rt);
+    let since = book.since();
     let outcome = take_in_book(&mut *book, pass, now, MOST_WEIGHT, call);
+    let is_new_base = book.since() != since;
+    drop(book);
     note(steps, call, &outcome);
+    tell(rt, &outcome, is_new_base);
     outcome
 }

@@ -41,6 +41,7 @@ fn ran<R>(rt: R) -> Ran
 where
     R: Env
         + Files
+        + Eprint
         + Input
         + Print
         + AllocGlobal

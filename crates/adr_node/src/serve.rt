@@ -1,13 +1,15 @@
 //! A node that serves over sockets.
-ghost use Rattle.std.specs.Prelude.{ℕ, List, IfOk, IfErr};
+ghost use Rattle.std.specs.Prelude.{IfOk, IfErr};
 ghost use Rattle.adr_config.specs.Configs.{IsConfig};
 ghost use Rattle.adr_node.specs.Endings.{IsOfReading};
 
 use crate::ending::NodeFault;
-use adr_config::Config;
+use adr_config::{Config, ConfigFault, log_of, oddities};
+use adr_log::Console;
 use adr_script::ScriptFault;
+use adr_server as server;
 use adr_server::{HostClock, serve_with};
-use adr_text::Refusal;
+use log::{Level, LevelFilter, Log, Logged, error, log_enabled, warn};
 use std::fs;
 use std::io::ErrorKind;
 use std::net::{Net, TcpListener, TcpStream};
@@ -29,15 +31,50 @@ fn bytes<R: Files + AllocGlobal>(rt: &R, name: &str) -> Result<Vec<u8>, NodeFaul
     }
 }
 
-/// The configuration in a file.
-fn config<R: Files + AllocGlobal>(rt: &R, name: &str) -> Result<Config, NodeFault>
-    ensures said { IfOk result (λ config. (bytes : List ℕ) × IsConfig bytes config) }
+/// How much is told on standard error by what the bytes say.
+fn level<R: AllocGlobal>(rt: &R, bytes: &[u8]) -> Result<LevelFilter, NodeFault>
+    ensures { IfErr result IsOfReading }
+{
+    match log_of(rt.alloc(), bytes) {
+        Ok(level) => Ok(level),
+        Err(_) => Err(NodeFault::Script(ScriptFault::OutOfMemory)),
+    }
+}
+
+/// The configuration that the bytes are; the log is told what is wrong in them.
+fn config<R: AllocGlobal + Log>(rt: &R, bytes: &[u8]) -> Result<Config, NodeFault>
+    ensures said { IfOk result (IsConfig bytes.now) }
     ensures fault { IfErr result IsOfReading }
 {
-    match Config::read(rt.alloc(), &bytes(rt, name)?) {
+    match Config::read_or_tell(rt.alloc(), bytes) {
         Ok(config) => Ok(config),
-        Err(Refusal::OutOfMemory) => Err(NodeFault::Script(ScriptFault::OutOfMemory)),
-        Err(_) => Err(NodeFault::BadConfig),
+        Err(ConfigFault::OutOfMemory) => Err(NodeFault::Script(ScriptFault::OutOfMemory)),
+        Err(fault) => {
+            error!(rt; target: "node", "bad configuration: {fault}");
+            Err(NodeFault::BadConfig)
+        }
+    }
+}
+
+/// Tells the log what in the bytes of a configuration has no effect.
+fn tell_oddities<R: AllocGlobal + Log>(rt: &R, bytes: &[u8]) {
+    if !log_enabled!(rt; target: "node", Level::Warn) {
+        return;
+    }
+    let Ok(oddities) = oddities(rt.alloc(), bytes) else {
+        return;
+    };
+    for oddity in &oddities {
+        warn!(rt; target: "node", "configuration: {oddity}");
+    }
+}
+
+/// Tells the log why a node ended early, but for an address at which it can't listen, which is told where that is tried.
+fn tell_end<R: Log>(rt: &R, fault: server::NodeFault) {
+    match fault {
+        server::NodeFault::Bind => (),
+        server::NodeFault::OutOfMemory => error!(rt; target: "node", "ended: out of memory"),
+        server::NodeFault::Store => error!(rt; target: "node", "ended: store refused"),
     }
 }
 
@@ -45,6 +82,7 @@ fn config<R: Files + AllocGlobal>(rt: &R, name: &str) -> Result<Config, NodeFaul
 pub fn run<R>(rt: R, name: &str) -> Result<(), NodeFault>
 where
     R: Files
+        + Eprint
         + AllocGlobal
         + Threads
         + Wait
@@ -56,6 +94,15 @@ where
         + Sync
         + 'static,
 {
-    let config = config(&rt, name)?;
-    Ok(serve_with(rt, rt.alloc(), &config, HostClock(rt))?)
+    let bytes = bytes(&rt, name)?;
+    // The handle that logs passes on no connecting within a time, so the plain one goes where the net is used.
+    let net = rt;
+    let rt = Logged::new(rt, level(&rt, &bytes)?, Console(rt));
+    let config = config(&rt, &bytes)?;
+    tell_oddities(&rt, &bytes);
+    let served = serve_with(rt, net, rt.alloc(), &config, HostClock(rt));
+    if let Err(fault) = &served {
+        tell_end(&rt, *fault);
+    }
+    Ok(served?)
 }

@@ -6,12 +6,16 @@ ghost use Rattle.adr_server.specs.Outcomes.{AsksOffice};
 
 use crate::office_taker::serve_shared;
 use crate::paced::{Paced, Term};
+use crate::request_log::{RequestLog, tell_request};
 use crate::shared::Shared;
+use crate::traffic::{Metered, Traffic};
 use adr_book::{Office, Pass};
 use adr_http::{Routes, ServeFault};
 use adr_lock::Clock;
+use adr_log::Stopwatch;
 use adr_machine::Desk;
 use adr_text::{Reader, Writer};
+use log::Log;
 use std::io::Read;
 use std::marker::Brand;
 use std::net::{Shutdown, TcpStream};
@@ -76,12 +80,15 @@ fn serve_over<D, L, C, R, K, M>(
     stream: &TcpStream,
     reads: Blank,
     writes: Blank,
+    seen: &mut RequestLog<'_>,
+    read: &mut Traffic,
+    written: &mut Traffic,
 ) -> Result<(), ServeFault>
 where
     D: Desk + Drop,
     L: Ledger,
     C: Clock,
-    R: Wait + time::Clock,
+    R: Wait + time::Clock + Log,
     K: Ledger,
     M: Ledger,
     requires reads { (reads.name ≡ K.name) × (reads.parts ≡ K.parts) × (1 < reads.parts) }
@@ -89,8 +96,16 @@ where
     ensures once { TakesOnce (AsksOffice office.now (C.tells clock.now)) pass.old pass.new }
     ensures one { TakesOneAtMost pass.old pass.new }
 {
-    let mut source = Reader::<Paced<'_, R>, K>::new(paced(rt, stream), reads);
-    let mut sink = Writer::<Paced<'_, R>, M>::new(paced(rt, stream), writes);
+    let reader = Metered {
+        stream: paced(rt, stream),
+        traffic: read,
+    };
+    let writer = Metered {
+        stream: paced(rt, stream),
+        traffic: written,
+    };
+    let mut source = Reader::<Metered<'_, Paced<'_, R>>, K>::new(reader, reads);
+    let mut sink = Writer::<Metered<'_, Paced<'_, R>>, M>::new(writer, writes);
     serve_shared(
         rt,
         office,
@@ -100,12 +115,13 @@ where
         pass,
         &mut source,
         &mut sink,
+        seen,
     )
 }
 
 /// Serves a connection: one request, for which one turn is taken at most, and one reply. Reading and writing are outside
-/// the lock.
-pub fn serve_connection<D: Desk + Drop, L: Ledger, C: Clock, R: Wait + time::Clock>(
+/// the lock; the log is told before the connection is let go.
+pub fn serve_connection<D: Desk + Drop, L: Ledger, C: Clock, R: Wait + time::Clock + Log>(
     rt: &R,
     office: &Office<D, L>,
     shared: &Shared,
@@ -117,6 +133,9 @@ pub fn serve_connection<D: Desk + Drop, L: Ledger, C: Clock, R: Wait + time::Clo
     ensures once { TakesOnce (AsksOffice office.now (C.tells clock.now)) pass.old pass.new }
     ensures one { TakesOneAtMost pass.old pass.new }
 {
+    let begun = Stopwatch::start(rt);
+    let mut seen = RequestLog::new(rt, &shared.roles);
+    let (mut read, mut written) = (Traffic::none(), Traffic::none());
     let served = serve_over::<D, L, C, R, Brand, Brand>(
         rt,
         office,
@@ -127,7 +146,11 @@ pub fn serve_connection<D: Desk + Drop, L: Ledger, C: Clock, R: Wait + time::Clo
         stream,
         Blank::new(2),
         Blank::new(2),
+        &mut seen,
+        &mut read,
+        &mut written,
     );
+    tell_request(rt, &seen, served, &read, &written, begun.millis(rt));
     match served {
         Ok(()) | Err(ServeFault::Write) => let_go(rt, stream),
         Err(ServeFault::Read) => (),

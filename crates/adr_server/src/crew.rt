@@ -12,6 +12,7 @@ use adr_http::Routes;
 use adr_lock::Clock;
 use adr_machine::Desk;
 use crossbeam_channel::{Receiver, Sender};
+use log::Log;
 use std::alloc::{AllocError, Global};
 use std::net::TcpStream;
 use std::sync::ledger::Ledger;
@@ -43,7 +44,7 @@ impl<D: Desk + Drop, L: Ledger, C: Clock + Drop> Served<D, L, C> {
 
 // Serves a connection by the paths that the thread has made at its first one. Where memory is wanting for these, the
 // connection is dropped, and the next one has them made.
-fn serve_next<D: Desk + Drop, L: Ledger, C: Clock, R: Wait + time::Clock>(
+fn serve_next<D: Desk + Drop, L: Ledger, C: Clock, R: Wait + time::Clock + Log>(
     rt: &R,
     office: &Office<D, L>,
     shared: &Shared,
@@ -64,7 +65,7 @@ fn serve_next<D: Desk + Drop, L: Ledger, C: Clock, R: Wait + time::Clock>(
 }
 
 // Serves connections as they come, until no more can.
-fn work<D: Desk + Drop, L: Ledger, C: Clock, R: Wait + time::Clock>(
+fn work<D: Desk + Drop, L: Ledger, C: Clock, R: Wait + time::Clock + Log>(
     rt: &R,
     office: &Office<D, L>,
     shared: &Shared,
@@ -91,7 +92,7 @@ where
     D: Desk + Drop + Send + 'static,
     L: Ledger + Send + Sync + 'static,
     C: Clock + Drop + Send + Sync + 'static,
-    R: Threads + Wait + time::Clock + Copy + Send + 'static,
+    R: Threads + Wait + time::Clock + Log + Copy + Send + 'static,
 {
     let Served {
         office,
@@ -129,7 +130,7 @@ where
     D: Desk + Drop + Send + 'static,
     L: Ledger + Send + Sync + 'static,
     C: Clock + Drop + Send + Sync + 'static,
-    R: Threads + Wait + time::Clock + Copy + Send + 'static,
+    R: Threads + Wait + time::Clock + Log + Copy + Send + 'static,
     ensures { IfOk result (λ made. length made.items ≡ length passes.items) }
 {
     let mut passes = passes;
@@ -159,7 +160,7 @@ impl<L: Ledger> Crew<L> {
         D: Desk + Drop + Send + 'static,
         L: Send + Sync + 'static,
         C: Clock + Drop + Send + Sync + 'static,
-        R: Threads + Wait + time::Clock + Copy + Send + 'static,
+        R: Threads + Wait + time::Clock + Log + Copy + Send + 'static,
         ensures { IfOk result (λ crew. threads_of crew ≡ length passes.items) }
     {
         let (streams, taken) = crossbeam_channel::bounded::<TcpStream, Global>(alloc, ROOM)?;

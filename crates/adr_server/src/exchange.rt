@@ -6,6 +6,7 @@ ghost use Rattle.adr_link.specs.Replies.{IsLinkReading, IsReply};
 ghost use Rattle.adr_link.specs.declared.reply.LinkFault.TheVariants.{Read};
 
 use crate::paced::{Paced, Term};
+use crate::traffic::{Metered, Traffic};
 use adr_link::{HttpReply, LinkFault, read_reply};
 use adr_text::{Reader, Sink, Source, Writer};
 use adr_wire::write_all;
@@ -36,8 +37,8 @@ pub fn exchange<S: Source, W: Sink>(
 
 fn exchange_over<T: Clock, K: Ledger, M: Ledger>(
     alloc: Global,
-    reader: Paced<'_, T>,
-    writer: Paced<'_, T>,
+    reader: Metered<'_, Paced<'_, T>>,
+    writer: Metered<'_, Paced<'_, T>>,
     request: &[u8],
     reads: Blank,
     writes: Blank,
@@ -46,20 +47,28 @@ where
     requires reads { (reads.name ≡ K.name) × (reads.parts ≡ K.parts) × (1 < reads.parts) }
     requires writes { (writes.name ≡ M.name) × (writes.parts ≡ M.parts) × (1 < writes.parts) }
 {
-    let mut source = Reader::<Paced<'_, T>, K>::new(reader, reads);
-    let mut sink = Writer::<Paced<'_, T>, M>::new(writer, writes);
+    let mut source = Reader::<Metered<'_, Paced<'_, T>>, K>::new(reader, reads);
+    let mut sink = Writer::<Metered<'_, Paced<'_, T>>, M>::new(writer, writes);
     exchange(alloc, &mut source, &mut sink, request)
 }
 
-/// The same over a connection, within a term.
+/// The same over a connection, within a term. What was read and written is counted.
 pub fn exchange_paced<T: Clock>(
     alloc: Global,
     time: &T,
     stream: &TcpStream,
     term: Term,
     request: &[u8],
+    read: &mut Traffic,
+    written: &mut Traffic,
 ) -> Result<HttpReply, LinkFault> {
-    let reader = Paced { time, stream, term };
-    let writer = Paced { time, stream, term };
+    let reader = Metered {
+        stream: Paced { time, stream, term },
+        traffic: read,
+    };
+    let writer = Metered {
+        stream: Paced { time, stream, term },
+        traffic: written,
+    };
     exchange_over::<T, Brand, Brand>(alloc, reader, writer, request, Blank::new(2), Blank::new(2))
 }

@@ -7,12 +7,14 @@ ghost use Rattle.adr_server.specs.Stopping.{AsksUnless};
 
 use crate::exchange::exchange_paced;
 use crate::paced::Term;
+use crate::traffic::Traffic;
 use adr_link::{HttpReply, LinkFault, Upstream};
 use adr_network::address_of;
-use adr_work::{Callee, Gate, Request, exchange as longest};
+use adr_work::{Account, Callee, Failure, Gate, Request, exchange as longest};
 use http_server::Log;
 use std::alloc::{AllocError, Global};
 use std::io;
+use std::io::ErrorKind;
 use std::net::{Net, SocketAddr, TcpStream};
 use std::sync::Arc;
 use std::sync::atomic::{AtomicBool, Ordering};
@@ -31,6 +33,7 @@ pub struct SocketGate<N: Net<Stream = TcpStream> + Clock + Drop> {
     /// The host and the port of the utility.
     utility: String,
     log: Log<Request, Result<HttpReply, LinkFault>>,
+    account: Account,
 }
 
 // Connects. The exchange's time begins here.
@@ -42,20 +45,62 @@ fn connect<N: Net<Stream = TcpStream> + Clock>(
     TcpStream::connect_timeout(net, &address, term.wait(net)?)
 }
 
+// Why no reply came, by what went over the stream.
+fn fault_of(fault: LinkFault, read: &Traffic, written: &Traffic) -> Account {
+    match (fault, written.fault, read.fault) {
+        (LinkFault::Memory, _, _) => Account::Memory,
+        (LinkFault::TooLarge, _, _) => Account::TooLarge,
+        (LinkFault::BadReply, _, _) if read.is_ended => Account::Cut(read.bytes),
+        (LinkFault::BadReply, _, _) => Account::NoReply(read.bytes),
+        (LinkFault::Read, Some(kind), _) => Account::NotWritten(kind),
+        (LinkFault::Read, None, _) if read.is_late() => Account::Late(read.bytes),
+        (LinkFault::Read, None, Some(kind)) => Account::NotRead(kind, read.bytes),
+        (LinkFault::Read, None, None) => Account::Untold,
+    }
+}
+
+// How an exchange went, for the log.
+fn account_of(came: &Result<HttpReply, LinkFault>, read: &Traffic, written: &Traffic) -> Account {
+    match came {
+        Ok(reply) => Account::Status(reply.status),
+        Err(fault) => fault_of(*fault, read, written),
+    }
+}
+
+// Sends a request over a connection, and gives the reply.
+fn ask_over<T: Clock>(
+    alloc: Global,
+    time: &T,
+    stream: &TcpStream,
+    term: Term,
+    request: &[u8],
+    account: &mut Account,
+) -> Result<HttpReply, LinkFault> {
+    let (mut read, mut written) = (Traffic::none(), Traffic::none());
+    let came = exchange_paced(alloc, time, stream, term, request, &mut read, &mut written);
+    *account = account_of(&came, &read, &written);
+    came
+}
+
 // Sends a request to an endpoint, and gives the reply; where no connection is made, none came.
 fn ask_at<N: Net<Stream = TcpStream> + Clock>(
     net: &N,
     alloc: Global,
     endpoint: &str,
     request: &[u8],
+    account: &mut Account,
 ) -> Result<HttpReply, LinkFault> {
     let Ok(Some(address)) = address_of(alloc, endpoint) else {
+        *account = Account::NotConnected(Failure::unmade(ErrorKind::InvalidInput));
         return Err(LinkFault::Read);
     };
     let mut term = term();
     match connect(net, &mut term, address) {
-        Ok(stream) => exchange_paced(alloc, net, &stream, term, request),
-        Err(_) => Err(LinkFault::Read),
+        Ok(stream) => ask_over(alloc, net, &stream, term, request, account),
+        Err(error) => {
+            *account = Account::NotConnected(Failure::of(&error));
+            Err(LinkFault::Read)
+        }
     }
 }
 
@@ -80,6 +125,7 @@ impl<N: Net<Stream = TcpStream> + Clock + Drop> SocketGate<N> {
             alloc,
             utility: upstream.endpoint(alloc)?,
             log: Log::new(),
+            account: Account::Untold,
         })
     }
 }
@@ -89,9 +135,16 @@ impl<N: Net<Stream = TcpStream> + Clock + Drop> Gate for SocketGate<N> {
 
     fn ask(&mut self, request: &Request) -> Result<HttpReply, LinkFault> {
         let endpoint = endpoint_of(self.utility.as_str(), &request.to);
-        let came = ask_at(&self.net, self.alloc, endpoint, request.bytes.as_slice());
+        let bytes = request.bytes.as_slice();
+        let mut account = Account::Untold;
+        let came = ask_at(&self.net, self.alloc, endpoint, bytes, &mut account);
+        self.account = account;
         self.log = self.log.and(request, &came);
         came
+    }
+
+    fn account(&self) -> Account {
+        self.account
     }
 }
 
@@ -101,6 +154,8 @@ impl<N: Net<Stream = TcpStream> + Clock + Drop> Gate for SocketGate<N> {
 pub struct StoppedGate<G: Gate + Drop> {
     gate: G,
     stopped: Arc<AtomicBool, Global>,
+    /// Whether the last request was not asked for that.
+    is_stopped: bool,
     log: Log<Request, Result<HttpReply, LinkFault>>,
 }
 
@@ -125,6 +180,7 @@ impl<G: Gate + Drop> StoppedGate<G> {
         StoppedGate {
             gate,
             stopped,
+            is_stopped: false,
             log: Log::new(),
         }
     }
@@ -136,7 +192,15 @@ impl<G: Gate + Drop> Gate for StoppedGate<G> {
     fn ask(&mut self, request: &Request) -> Result<HttpReply, LinkFault> {
         let stopped = self.stopped.load(Ordering::SeqCst);
         let came = ask_unless(stopped, &mut self.gate, request);
+        self.is_stopped = stopped;
         self.log = self.log.and(request, &came);
         came
+    }
+
+    fn account(&self) -> Account {
+        if self.is_stopped {
+            return Account::Stopped;
+        }
+        self.gate.account()
     }
 }

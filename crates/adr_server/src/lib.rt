@@ -7,10 +7,14 @@ mod connection;
 mod crew;
 mod exchange;
 mod gate;
+mod node_log;
+mod notice_log;
 mod office_taker;
 mod paced;
+mod request_log;
 mod server;
 mod shared;
+mod traffic;
 
 pub use clock::HostClock;
 pub use gate::{SocketGate, StoppedGate};

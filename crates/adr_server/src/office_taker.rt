@@ -6,18 +6,20 @@ ghost use Rattle.adr_http.specs.Takers.{TakesOnce, ServesBy, ServesPartBy};
 ghost use Rattle.adr_http.specs.declared.fault.ServeFault.TheVariants.{Read, Write};
 ghost use Rattle.adr_server.specs.Outcomes.{AsksOffice};
 
+use crate::notice_log::tell_asked;
 use crate::shared::Shared;
 use adr_book::{Office, Pass};
-use adr_http::{Asked, Routes, ServeFault, Taker, serve};
+use adr_http::{Asked, Routes, ServeFault, Taker, Witness, serve};
 use adr_lock::{Call, Clock, Steps, take_under_lock};
 use adr_machine::{Answer, Command, Desk, Query};
 use adr_text::{Name, Refusal, Sink, Source};
+use log::Log;
 use std::sync::Wait;
 use std::sync::ledger::Ledger;
 
 /// An office, the name and the clock by which it answers, and the pass of who comes to it.
 #[derive(Drop)]
-pub struct OfficeTaker<'a, D: Desk + Drop, L: Ledger, C: Clock, R: Wait> {
+pub struct OfficeTaker<'a, D: Desk + Drop, L: Ledger, C: Clock, R: Wait + Log> {
     pub rt: &'a R,
     pub office: &'a Office<D, L>,
     pub client: &'a Name,
@@ -25,7 +27,7 @@ pub struct OfficeTaker<'a, D: Desk + Drop, L: Ledger, C: Clock, R: Wait> {
     pub pass: &'a mut Pass<L>,
 }
 
-fn take_step<D: Desk + Drop, L: Ledger, C: Clock, R: Wait>(
+fn take_step<D: Desk + Drop, L: Ledger, C: Clock, R: Wait + Log>(
     rt: &R,
     office: &Office<D, L>,
     clock: &C,
@@ -45,7 +47,7 @@ fn take_step<D: Desk + Drop, L: Ledger, C: Clock, R: Wait>(
     )
 }
 
-fn look<D: Desk + Drop, L: Ledger, C: Clock, R: Wait>(
+fn look<D: Desk + Drop, L: Ledger, C: Clock, R: Wait + Log>(
     rt: &R,
     office: &Office<D, L>,
     clock: &C,
@@ -66,7 +68,7 @@ fn look<D: Desk + Drop, L: Ledger, C: Clock, R: Wait>(
 }
 
 /// Takes what is asked, under the lock. Nothing is asked without it.
-fn take_asked<D: Desk + Drop, L: Ledger, C: Clock, R: Wait>(
+fn take_asked<D: Desk + Drop, L: Ledger, C: Clock, R: Wait + Log>(
     rt: &R,
     office: &Office<D, L>,
     clock: &C,
@@ -84,7 +86,7 @@ fn take_asked<D: Desk + Drop, L: Ledger, C: Clock, R: Wait>(
     }
 }
 
-impl<'a, D: Desk + Drop, L: Ledger, C: Clock, R: Wait> Taker for OfficeTaker<'a, D, L, C, R> {
+impl<'a, D: Desk + Drop, L: Ledger, C: Clock, R: Wait + Log> Taker for OfficeTaker<'a, D, L, C, R> {
     ghost takes = { λ before asked outcome after.
         (after.pass.ghost_name ≡ before.pass.ghost_name)
         × (after.office ≡ before.office)
@@ -95,6 +97,7 @@ impl<'a, D: Desk + Drop, L: Ledger, C: Clock, R: Wait> Taker for OfficeTaker<'a,
     ghost client = { λ t. t.client.now };
 
     fn take(&mut self, asked: &Asked) -> Result<Answer, Refusal> {
+        tell_asked(self.rt, asked);
         take_asked(self.rt, self.office, self.clock, self.pass, asked)
     }
 
@@ -104,12 +107,13 @@ impl<'a, D: Desk + Drop, L: Ledger, C: Clock, R: Wait> Taker for OfficeTaker<'a,
 }
 
 /// Serves one request at the office, with the pass that is lent there.
-fn serve_lent<D: Desk + Drop, L: Ledger, C: Clock, R: Wait, S: Source, W: Sink>(
+fn serve_lent<D: Desk + Drop, L: Ledger, C: Clock, R: Wait + Log, S: Source, W: Sink, V: Witness>(
     shared: &Shared,
     routes: &Routes,
     taker: &mut OfficeTaker<'_, D, L, C, R>,
     source: &mut S,
     sink: &mut W,
+    witness: &mut V,
 ) -> Result<(), ServeFault>
     ensures all { OnOk result (IfSome (S.left source.old) (λ bytes. ServesBy (AsksOffice taker.old.office.now (C.tells taker.old.clock.now)) taker.old.client.now shared.now.roles taker.old.pass.now bytes taker.new.pass.now (W.written sink.old) (W.written sink.new))) }
     ensures part { result ≡ Err Write → IfSome (S.left source.old) (λ bytes. ServesPartBy (AsksOffice taker.old.office.now (C.tells taker.old.clock.now)) taker.old.client.now shared.now.roles taker.old.pass.now bytes taker.new.pass.now (W.written sink.old) (W.written sink.new)) }
@@ -118,12 +122,28 @@ fn serve_lent<D: Desk + Drop, L: Ledger, C: Clock, R: Wait, S: Source, W: Sink>(
     ensures one { TakesOneAtMost taker.old.pass.now taker.new.pass.now }
     ensures same_pass { taker.new.pass.ghost_name ≡ taker.old.pass.ghost_name }
 {
-    serve(shared.alloc, &shared.roles, routes, taker, source, sink)
+    serve(
+        shared.alloc,
+        &shared.roles,
+        routes,
+        taker,
+        source,
+        sink,
+        witness,
+    )
 }
 
 /// Serves one request at an office, whose lock is held for the taking alone: one turn at most. What is written is the reply
 /// to what was read, and to an outcome that the book behind the lock may give.
-pub fn serve_shared<D: Desk + Drop, L: Ledger, C: Clock, R: Wait, S: Source, W: Sink>(
+pub fn serve_shared<
+    D: Desk + Drop,
+    L: Ledger,
+    C: Clock,
+    R: Wait + Log,
+    S: Source,
+    W: Sink,
+    V: Witness,
+>(
     rt: &R,
     office: &Office<D, L>,
     shared: &Shared,
@@ -132,6 +152,7 @@ pub fn serve_shared<D: Desk + Drop, L: Ledger, C: Clock, R: Wait, S: Source, W: 
     pass: &mut Pass<L>,
     source: &mut S,
     sink: &mut W,
+    witness: &mut V,
 ) -> Result<(), ServeFault>
     ensures all { OnOk result (IfSome (S.left source.old) (λ bytes. ServesBy (AsksOffice office.now (C.tells clock.now)) shared.now.client shared.now.roles pass.old bytes pass.new (W.written sink.old) (W.written sink.new))) }
     ensures part { result ≡ Err Write → IfSome (S.left source.old) (λ bytes. ServesPartBy (AsksOffice office.now (C.tells clock.now)) shared.now.client shared.now.roles pass.old bytes pass.new (W.written sink.old) (W.written sink.new)) }
@@ -146,5 +167,5 @@ pub fn serve_shared<D: Desk + Drop, L: Ledger, C: Clock, R: Wait, S: Source, W: 
         clock,
         pass,
     };
-    serve_lent(shared, routes, &mut taker, source, sink)
+    serve_lent(shared, routes, &mut taker, source, sink, witness)
 }

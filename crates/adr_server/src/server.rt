@@ -4,6 +4,7 @@ ghost use Rattle.adr_desk.specs.Desks.{settings_of};
 
 use crate::crew::{Crew, Served};
 use crate::gate::{SocketGate, StoppedGate};
+use crate::node_log::{AcceptLog, tell_bind_fault, tell_start, tell_stop};
 use crate::shared::Shared;
 use adr_book::{Office, Pass};
 use adr_config::Config;
@@ -13,6 +14,7 @@ use adr_lock::{Clock, Steps};
 use adr_machine::Desk;
 use adr_text::Refusal;
 use adr_work::{JobQueue, Peers, ROOM, poll_loop, start, stop};
+use log::Log;
 use std::alloc::{AllocError, AllocFailed, Global};
 use std::marker::Brand;
 use std::net::{Net, TcpListener, TcpStream};
@@ -60,13 +62,14 @@ const REST: u64 = 10;
 
 // Accepts connections, so many where that is said, and puts each for the threads. One that memory is wanting for is
 // dropped, and then the node rests, as where none could be accepted.
-fn accept_each<L: Ledger, R: Wait + time::Clock>(
+fn accept_each<L: Ledger, R: Wait + time::Clock + Log>(
     rt: &R,
     listener: &TcpListener,
     crew: &Crew<L>,
     most: Option<u64>,
 ) {
     let mut accepted = 0u64;
+    let mut faults = AcceptLog::new();
     for _ in rt.forever() {
         if most == Some(accepted) {
             break;
@@ -76,7 +79,10 @@ fn accept_each<L: Ledger, R: Wait + time::Clock>(
                 accepted = accepted.saturating_add(1);
                 crew.put(rt, stream)
             }
-            Err(_) => false,
+            Err(error) => {
+                faults.note(rt, &error);
+                false
+            }
         };
         if !is_put {
             thread::sleep(rt, Duration::from_millis(REST));
@@ -97,7 +103,7 @@ where
     D: Desk + Drop + Send + 'static,
     L: Ledger + Send + Sync + 'static,
     C: Clock + Drop + Send + Sync + 'static,
-    R: Threads + Wait + time::Clock + Copy + Send + 'static,
+    R: Threads + Wait + time::Clock + Log + Copy + Send + 'static,
 {
     let crew = Crew::start(rt, alloc, served, passes)?;
     accept_each(&rt, listener, &crew, most);
@@ -106,26 +112,27 @@ where
 }
 
 // A gate for each sender.
-fn gates<R>(
-    rt: R,
+fn gates<N>(
+    net: N,
     alloc: Global,
     upstream: &Upstream,
     count: u64,
-) -> Result<Vec<SocketGate<R>>, AllocError>
+) -> Result<Vec<SocketGate<N>>, AllocError>
 where
-    R: Net<Listener = TcpListener, Stream = TcpStream> + time::Clock + Copy + Drop,
+    N: Net<Listener = TcpListener, Stream = TcpStream> + time::Clock + Copy + Drop,
     ensures { IfOk result (λ gates. length gates.items ≡ count) }
 {
     let mut gates = Vec::new(alloc);
     for _i in 0..count {
-        gates.push(SocketGate::new(rt, alloc, upstream)?)?;
+        gates.push(SocketGate::new(net, alloc, upstream)?)?;
     }
     Ok(gates)
 }
 
 // Starts the rounds of polling.
-fn poller<D, L, C, R>(
+fn poller<D, L, C, R, N>(
     rt: R,
+    net: N,
     alloc: Global,
     served: &Served<D, L, C>,
     peers: &Arc<Peers, Global>,
@@ -137,19 +144,13 @@ where
     D: Desk + Drop + Send + 'static,
     L: Ledger + Send + Sync + 'static,
     C: Clock + Drop + Send + Sync + 'static,
-    R: Threads
-        + Wait
-        + time::Clock
-        + Net<Listener = TcpListener, Stream = TcpStream>
-        + Copy
-        + Drop
-        + Send
-        + 'static,
+    R: Threads + Wait + time::Clock + Log + Copy + Drop + Send + 'static,
+    N: Net<Listener = TcpListener, Stream = TcpStream> + time::Clock + Copy + Drop + Send + 'static,
 {
     let office = Arc::try_clone(&served.office)?;
     let clock = Arc::try_clone(&served.clock)?;
     let stopped = Arc::try_clone(stopped)?;
-    let gate = SocketGate::new(rt, alloc, &peers.upstream)?;
+    let gate = SocketGate::new(net, alloc, &peers.upstream)?;
     let gate = StoppedGate::new(gate, Arc::try_clone(&stopped)?);
     let peers = Arc::try_clone(peers)?;
     let work = move || -> Pass<L> {
@@ -201,8 +202,24 @@ fn desk(alloc: Global, config: &Config) -> Result<MemoryDesk, Refusal>
     MemoryDesk::open_memory(alloc, config.settings.copy()?)
 }
 
-fn serve_over<L, C, R>(
+// Listens where the configuration says.
+fn bind<R, N>(rt: &R, net: &N, config: &Config) -> Result<TcpListener, NodeFault>
+where
+    R: Log,
+    N: Net<Listener = TcpListener, Stream = TcpStream>,
+{
+    match TcpListener::bind(net, config.listen) {
+        Ok(listener) => Ok(listener),
+        Err(error) => {
+            tell_bind_fault(rt, config, &error);
+            Err(NodeFault::Bind)
+        }
+    }
+}
+
+fn serve_over<L, C, R, N>(
     rt: R,
+    net: N,
     alloc: Global,
     blank: Blank,
     config: &Config,
@@ -211,14 +228,8 @@ fn serve_over<L, C, R>(
 where
     L: Ledger + Send + Sync + 'static,
     C: Clock + Drop + Send + Sync + 'static,
-    R: Threads
-        + Wait
-        + time::Clock
-        + Net<Listener = TcpListener, Stream = TcpStream>
-        + Copy
-        + Drop
-        + Send
-        + 'static,
+    R: Threads + Wait + time::Clock + Log + Copy + Drop + Send + 'static,
+    N: Net<Listener = TcpListener, Stream = TcpStream> + time::Clock + Copy + Drop + Send + 'static,
     requires name { blank.name ≡ L.name }
     requires parts { blank.parts ≡ L.parts }
     requires count { blank.parts ≡ 2 * config.now.workers + 2 }
@@ -231,9 +242,7 @@ where
         desk,
         2 * count as u32 + 2,
     )?;
-    let Ok(listener) = TcpListener::bind(&rt, config.listen) else {
-        return Err(NodeFault::Bind);
-    };
+    let listener = bind(&rt, &net, config)?;
     let served = Served {
         office: Arc::new(alloc, office)?,
         shared: Arc::new(alloc, shared(alloc, config)?)?,
@@ -246,7 +255,7 @@ where
     };
     let sending = passes.split_off(count as usize)?;
     let (queue, whole) = JobQueue::new(alloc, ROOM)?;
-    let gates = gates(rt, alloc, &config.upstream, count)?;
+    let gates = gates(net, alloc, &config.upstream, count)?;
     let workers = start(
         rt,
         alloc,
@@ -258,9 +267,10 @@ where
         sending,
         gates,
     )?;
+    tell_start(&rt, alloc, config, &listener);
     let seconds = config.poll.get();
     let most = config.stop_after.map(|most| most.get());
-    let poller = poller(rt, alloc, &served, &peers, &stopped, seconds, pass);
+    let poller = poller(rt, net, alloc, &served, &peers, &stopped, seconds, pass);
     let ended = match &poller {
         Ok(_) => accept_all(rt, alloc, &served, &listener, passes, most),
         Err(_) => Err(AllocError),
@@ -271,23 +281,25 @@ where
         let _pass = poller.join(&rt);
     }
     left?;
-    Ok(ended?)
+    ended?;
+    tell_stop(&rt);
+    Ok(())
 }
 
-/// Serves by a configuration and a clock: connections, on so many threads, rounds of polling the utility, and the outbox,
-/// until it has accepted as many connections as the configuration says, or for ever.
-pub fn serve_with<C, R>(rt: R, alloc: Global, config: &Config, clock: C) -> Result<(), NodeFault>
+/// Serves by a configuration and a clock over a net: connections, on so many threads, rounds of polling the utility, and
+/// the outbox, until it has accepted as many connections as the configuration says, or for ever.
+pub fn serve_with<C, R, N>(
+    rt: R,
+    net: N,
+    alloc: Global,
+    config: &Config,
+    clock: C,
+) -> Result<(), NodeFault>
 where
     C: Clock + Drop + Send + Sync + 'static,
-    R: Threads
-        + Wait
-        + time::Clock
-        + Net<Listener = TcpListener, Stream = TcpStream>
-        + Copy
-        + Drop
-        + Send
-        + 'static,
+    R: Threads + Wait + time::Clock + Log + Copy + Drop + Send + 'static,
+    N: Net<Listener = TcpListener, Stream = TcpStream> + time::Clock + Copy + Drop + Send + 'static,
 {
     let passes = 2 * config.workers.get() + 2;
-    serve_over::<Brand, C, R>(rt, alloc, Blank::new(passes), config, clock)
+    serve_over::<Brand, C, R, N>(rt, net, alloc, Blank::new(passes), config, clock)
 }

@@ -3,6 +3,8 @@ use adr_config::Config;
 use adr_lock::Clock;
 use adr_server::{NodeFault, serve_with};
 use adr_text::Moment;
+use log::sink::Discard;
+use log::{LevelFilter, Logged};
 use std::alloc::{AllocError, Global};
 use std::io::{Read, Write};
 use std::net::{Net, SocketAddr, TcpListener, TcpStream};
@@ -80,7 +82,10 @@ where
         + 'static,
 {
     match Moment::read("2024-07-01T10:00:00Z") {
-        Ok(at) => serve_with(rt, alloc, config, Still(at)),
+        Ok(at) => {
+            let quiet = Logged::new(rt, LevelFilter::Off, Discard);
+            serve_with(quiet, rt, alloc, config, Still(at))
+        }
         Err(_) => Err(NodeFault::Store),
     }
 }

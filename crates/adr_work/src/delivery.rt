@@ -6,6 +6,7 @@ ghost use Rattle.adr_work.specs.Rounds.{Asks};
 ghost use Rattle.adr_work.specs.Deliveries.{IsCalleeOf, IsRequestOf, MayCall, IsSent, Delivers, outcome_in};
 
 use crate::gate::Gate;
+use crate::message_log::tell_message;
 use crate::peers::Peers;
 use crate::request::{Callee, Request};
 use crate::send_fault::SendFault;
@@ -14,12 +15,15 @@ use adr_book::{Office, Pass};
 use adr_delivery::Job;
 use adr_link::{Outcome, Upstream, is_for_utility, outcome_of};
 use adr_lock::{Call, Clock, Steps, take_under_lock};
+use adr_log::Stopwatch;
 use adr_machine::Desk;
 use adr_network::Networks;
 use adr_text::{Refusal, Rows};
+use log::Log;
 use std::alloc::{AllocError, Global};
 use std::sync::Wait;
 use std::sync::ledger::Ledger;
+use std::time;
 
 /// Whom a job goes to: a report to the utility, and a notification to the endpoint of its address.
 #[tactic(auto, using(crate::proofs::Delivering::endpoint_fails))]
@@ -85,7 +89,7 @@ fn outcome_in(sent: Result<Outcome, SendFault>) -> Outcome
 /// Sends a job outside the lock, and then settles it by one step under it. A settlement that is refused is passed over:
 /// the lease expires then.
 #[tactic(auto, using(crate::proofs::Delivering::one))]
-pub(crate) fn deliver<D: Desk + Drop, L: Ledger, G: Gate, C: Clock, R: Wait>(
+pub(crate) fn deliver<D: Desk + Drop, L: Ledger, G: Gate, C: Clock, R: Wait + time::Clock + Log>(
     rt: &R,
     alloc: Global,
     office: &Office<D, L>,
@@ -98,7 +102,10 @@ pub(crate) fn deliver<D: Desk + Drop, L: Ledger, G: Gate, C: Clock, R: Wait>(
 )
     ensures { Delivers peers.now (job.now ∷ []) (G.exchanges gate.old) (G.exchanges gate.new) steps.old.items steps.new.items }
 {
-    let outcome = outcome_in(send(alloc, gate, peers, job));
+    let begun = Stopwatch::start(rt);
+    let sent = send(alloc, gate, peers, job);
+    tell_message(rt, job, gate.account(), &sent, begun);
+    let outcome = outcome_in(sent);
     let command = settlement_of(job, outcome);
     let _ = take_under_lock(rt, office, clock, pass, steps, Call::Step(&command));
 }

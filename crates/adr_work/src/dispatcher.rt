@@ -16,13 +16,14 @@ use adr_delivery::Job;
 use adr_lock::{Call, Clock, Steps, take_under_lock};
 use adr_machine::{Answer, Command, Desk, Query, Role};
 use adr_text::Refusal;
+use log::Log;
 use std::sync::Wait;
 use std::sync::ledger::Ledger;
 use std::time;
 
 /// Leases the next entry, where one is due at the clock's moment, by one step under the lock.
 #[tactic(auto, using(crate::proofs::Refusing::may_refuse_same, crate::proofs::Leasing::leases_ok, crate::proofs::Leasing::leases_err))]
-pub(crate) fn lease<D: Desk + Drop, L: Ledger, C: Clock, R: Wait>(
+pub(crate) fn lease<D: Desk + Drop, L: Ledger, C: Clock, R: Wait + Log>(
     rt: &R,
     office: &Office<D, L>,
     clock: &C,
@@ -39,7 +40,7 @@ pub(crate) fn lease<D: Desk + Drop, L: Ledger, C: Clock, R: Wait>(
 /// Leases jobs and puts each into the queue, outside the lock, while the queue is open and has room and a job is due. A
 /// refusal ends it and is handed back. A job that was leased and cannot be put is left: its lease expires.
 #[tactic(auto, using(crate::proofs::Leasing::leases_none, crate::proofs::Leasing::leases_more))]
-pub fn dispatch<D: Desk + Drop, L: Ledger, C: Clock, R: Wait>(
+pub fn dispatch<D: Desk + Drop, L: Ledger, C: Clock, R: Wait + Log>(
     rt: &R,
     office: &Office<D, L>,
     queue: &JobQueue,
@@ -76,7 +77,7 @@ fn may_wait(looked: &Result<Answer, Refusal>) -> bool
 }
 
 /// Whether an entry waits in the outbox. It takes no turn, as a lease does that finds none.
-fn waits<D: Desk + Drop, L: Ledger, C: Clock, R: Wait>(
+fn waits<D: Desk + Drop, L: Ledger, C: Clock, R: Wait + Log>(
     rt: &R,
     office: &Office<D, L>,
     clock: &C,
@@ -94,7 +95,7 @@ fn waits<D: Desk + Drop, L: Ledger, C: Clock, R: Wait>(
 /// Dispatches again after each job that was taken or settled, and at least once a second, until the queue is closed, where
 /// an entry waits. A refusal is passed over.
 #[tactic(auto, using(crate::proofs::Leasing::leases_none, crate::proofs::Leasing::leases_both))]
-pub fn dispatch_loop<D: Desk + Drop, L: Ledger, C: Clock, R: Wait + time::Clock>(
+pub fn dispatch_loop<D: Desk + Drop, L: Ledger, C: Clock, R: Wait + time::Clock + Log>(
     rt: &R,
     office: &Office<D, L>,
     queue: &JobQueue,

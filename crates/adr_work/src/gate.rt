@@ -2,6 +2,7 @@
 ghost use Rattle.std.specs.Prelude.{◌≡◌, List, [], ◌∷◌, ◌++◌};
 ghost use Rattle.adr_work.specs.Exchanges.{Exchange};
 
+use crate::account::Account;
 use crate::request::Request;
 use adr_link::{HttpReply, LinkFault};
 
@@ -13,4 +14,9 @@ pub trait Gate {
     /// Sends a request, and gives the reply, or the fault where none came.
     fn ask(&mut self, request: &Request) -> Result<HttpReply, LinkFault>
         ensures { exchanges self.new ≡ exchanges self.old ++ (request.now, result) ∷ [] };
+
+    /// How the last exchange went, for the log: no contract says anything of it.
+    fn account(&self) -> Account {
+        Account::Untold
+    }
 }

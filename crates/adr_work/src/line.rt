@@ -3,25 +3,28 @@ ghost use Rattle.adr_work.specs.Tellings.{accepted, commands_of, memory_of};
 ghost use Rattle.adr_work.specs.Refused.{MayRefuseSome, Refuses};
 ghost use Rattle.adr_work.specs.BookRounds.{commands_in};
 
+use crate::counted::Counted;
 use crate::teller::Teller;
 use adr_book::{Book, Office, Pass};
 use adr_lock::{Call, Clock, Steps, take_under_lock};
 use adr_machine::{Answer, Command, Desk};
 use adr_text::Refusal;
+use log::Log;
 use std::sync::Wait;
 use std::sync::ledger::Ledger;
 
 /// Tells the book of an office. The lock is taken anew for each command.
 #[derive(Drop)]
-pub(crate) struct OfficeTeller<'a, D: Desk + Drop, L: Ledger, C: Clock, R: Wait> {
+pub(crate) struct OfficeTeller<'a, D: Desk + Drop, L: Ledger, C: Clock, R: Wait + Log> {
     pub(crate) rt: &'a R,
     pub(crate) office: &'a Office<D, L>,
     pub(crate) clock: &'a C,
     pub(crate) pass: &'a mut Pass<L>,
     pub(crate) steps: Steps,
+    pub(crate) counted: Counted,
 }
 
-impl<D: Desk + Drop, L: Ledger, C: Clock, R: Wait> Teller for OfficeTeller<'_, D, L, C, R> {
+impl<D: Desk + Drop, L: Ledger, C: Clock, R: Wait + Log> Teller for OfficeTeller<'_, D, L, C, R> {
     ghost steps = { λ t. t.steps.items };
 
     ghost memory = { λ t. memory_of (accepted t.steps.items) (commands_of (accepted t.steps.items)) };
@@ -38,6 +41,7 @@ impl<D: Desk + Drop, L: Ledger, C: Clock, R: Wait> Teller for OfficeTeller<'_, D
             &mut self.steps,
             Call::Step(command),
         )?;
+        self.counted.add(command, &answer);
         Ok(answer)
     }
 }

@@ -3,10 +3,12 @@ ghost use Rattle.adr_work.specs.OfficeRounds.{TakesRounds};
 
 use crate::gate::Gate;
 use crate::round::poll_round;
+use crate::round_log::RoundLog;
 use adr_book::{Office, Pass};
 use adr_link::Upstream;
 use adr_lock::{Clock, Steps};
 use adr_machine::Desk;
+use log::Log;
 use std::alloc::Global;
 use std::sync::Wait;
 use std::sync::atomic::{AtomicBool, Ordering};
@@ -28,7 +30,7 @@ fn is_stopped_within<R: Wait + time::Clock>(rt: &R, seconds: u64, stopped: &Atom
 /// Asks the utility in rounds, the first at once, until it is told to stop. A round that is broken or refused is passed
 /// over: the next one asks for everything again.
 #[tactic(auto, using(crate::proofs::Taking::rounds_none, crate::proofs::Taking::rounds_more))]
-pub fn poll_loop<D: Desk + Drop, L: Ledger, G: Gate, C: Clock, R: Wait + time::Clock>(
+pub fn poll_loop<D: Desk + Drop, L: Ledger, G: Gate, C: Clock, R: Wait + time::Clock + Log>(
     rt: &R,
     alloc: Global,
     office: &Office<D, L>,
@@ -42,8 +44,13 @@ pub fn poll_loop<D: Desk + Drop, L: Ledger, G: Gate, C: Clock, R: Wait + time::C
 ) -> Pass<L>
     ensures { TakesRounds upstream.now (G.exchanges gate.old) (G.exchanges gate.new) steps.old.items steps.new.items }
 {
+    let mut log = RoundLog::new(rt, alloc);
     for _ in rt.forever() {
-        let _ = poll_round(rt, alloc, office, gate, upstream, clock, &mut pass, steps);
+        log.begin();
+        let end = poll_round(
+            rt, alloc, office, gate, upstream, clock, &mut pass, steps, &mut log,
+        );
+        log.end(&end);
         if is_stopped_within(rt, seconds, stopped) {
             break;
         }

@@ -4,24 +4,28 @@ ghost use Rattle.adr_work.specs.BookRounds.{KeepsRound};
 ghost use Rattle.adr_work.specs.OfficeRounds.{TakesRound};
 ghost use Rattle.adr_work.specs.Refused.{MayRefuseSome, Refuses, EndsBy};
 
+use crate::counted::Counted;
 use crate::gate::Gate;
 use crate::line::{BookTeller, OfficeTeller};
 use crate::page::PollEnd;
 use crate::polling::poll;
+use crate::round_log::RoundLog;
+use crate::watch::Unwatched;
 use adr_book::{Book, Office, Pass};
 use adr_link::Upstream;
 use adr_lock::{Clock, Steps};
 use adr_machine::Desk;
 use adr_text::Refusal;
+use log::Log;
 use std::alloc::Global;
-use std::mem;
 use std::sync::Wait;
 use std::sync::ledger::Ledger;
+use std::{mem, time};
 
 /// One round (`poll`): what is asked goes through the gate, outside the lock, and each command is one step under it, at
-/// the clock's moment then.
+/// the clock's moment then. What it came to is seen by who tells the log.
 #[tactic(auto, using(crate::proofs::Taking::takes_round))]
-pub fn poll_round<D: Desk + Drop, L: Ledger, G: Gate, C: Clock, R: Wait>(
+pub fn poll_round<D: Desk + Drop, L: Ledger, G: Gate, C: Clock, R: Wait + time::Clock + Log>(
     rt: &R,
     alloc: Global,
     office: &Office<D, L>,
@@ -30,6 +34,7 @@ pub fn poll_round<D: Desk + Drop, L: Ledger, G: Gate, C: Clock, R: Wait>(
     clock: &C,
     pass: &mut Pass<L>,
     steps: &mut Steps,
+    log: &mut RoundLog<'_, R>,
 ) -> Result<PollEnd, Refusal>
     ensures round { TakesRound upstream.now (G.exchanges gate.old) (G.exchanges gate.new) steps.old.items steps.new.items result }
     ensures refusal { IfErr result (λ refusal. EndsBy (MayRefuseSome D.may_refuse) refusal) }
@@ -40,9 +45,15 @@ pub fn poll_round<D: Desk + Drop, L: Ledger, G: Gate, C: Clock, R: Wait>(
         clock,
         pass,
         steps: mem::replace(steps, Steps::new()),
+        counted: Counted::none(),
     };
-    let end = poll(alloc, gate, &mut teller, upstream);
-    let OfficeTeller { steps: taken, .. } = teller;
+    let end = poll(alloc, gate, &mut teller, upstream, log);
+    let OfficeTeller {
+        steps: taken,
+        counted,
+        ..
+    } = teller;
+    log.count(counted);
     *steps = taken;
     end
 }
@@ -67,7 +78,7 @@ pub fn poll_book<G: Gate, D: Desk + Drop, L: Ledger, C: Clock, R: Wait>(
         pass,
         steps: Steps::new(),
     };
-    let end = poll(alloc, gate, &mut teller, upstream);
+    let end = poll(alloc, gate, &mut teller, upstream, &mut Unwatched);
     let BookTeller { book, pass, .. } = teller;
     (book, pass, end)
 }

@@ -12,14 +12,16 @@ use crate::queue::{JobQueue, Seat};
 use adr_book::{Office, Pass};
 use adr_lock::{Clock, Steps};
 use adr_machine::Desk;
+use log::Log;
 use std::alloc::Global;
 use std::sync::Wait;
 use std::sync::ledger::Ledger;
+use std::time;
 
 /// Takes jobs, sends and settles them, until the queue is closed. Once it is, the job in hand is settled, and no further
 /// one is taken.
 #[tactic(auto, using(crate::proofs::Delivering::sends_none, crate::proofs::Delivering::sends_more, crate::proofs::Delivering::sends_same))]
-pub fn send_loop<D: Desk + Drop, L: Ledger, G: Gate, C: Clock, R: Wait>(
+pub fn send_loop<D: Desk + Drop, L: Ledger, G: Gate, C: Clock, R: Wait + time::Clock + Log>(
     rt: &R,
     alloc: Global,
     office: &Office<D, L>,

@@ -15,6 +15,7 @@ use crate::sender::send_loop;
 use adr_book::{Office, Pass};
 use adr_lock::{Clock, Steps};
 use adr_machine::Desk;
+use log::Log;
 use std::alloc::{AllocError, Global};
 use std::snapshot::Snapshot;
 use std::sync::ledger::Ledger;
@@ -39,7 +40,7 @@ where
     L: Ledger + Send + Sync + 'static,
     G: Gate + Drop + Send + 'static,
     C: Clock + Drop + Send + Sync + 'static,
-    R: Threads + Wait + Copy + Send + 'static,
+    R: Threads + Wait + time::Clock + Log + Copy + Send + 'static,
     requires { IsFresh (arc_value queue.now) seat }
     ensures { IfOk result (λ t. t.promise.0.value ≡ seat) }
 {
@@ -74,7 +75,7 @@ where
     D: Desk + Drop + Send + 'static,
     L: Ledger + Send + Sync + 'static,
     C: Clock + Drop + Send + Sync + 'static,
-    R: Threads + Wait + time::Clock + Copy + Send + 'static,
+    R: Threads + Wait + time::Clock + Log + Copy + Send + 'static,
     requires { IsFresh (arc_value queue.now) seat }
     ensures { IfOk result (λ t. t.promise.0.value ≡ seat) }
 {
@@ -132,7 +133,7 @@ impl<L: Ledger> Workers<L> {
         L: Send + Sync + 'static,
         G: Gate + Drop + Send + 'static,
         C: Clock + Drop + Send + Sync + 'static,
-        R: Threads + Wait + Copy + Send + 'static,
+        R: Threads + Wait + time::Clock + Log + Copy + Send + 'static,
         requires { threads_of self < 60 }
         ensures threads { IfOk result (λ w. threads_of w ≡ threads_of self + 1) }
         ensures queue { IfOk result (λ w. queue_of w ≡ queue_of self) }
@@ -172,7 +173,7 @@ impl<L: Ledger> Workers<L> {
         D: Desk + Drop + Send + 'static,
         L: Send + Sync + 'static,
         C: Clock + Drop + Send + Sync + 'static,
-        R: Threads + Wait + time::Clock + Copy + Send + 'static,
+        R: Threads + Wait + time::Clock + Log + Copy + Send + 'static,
         requires { threads_of self < 60 }
         ensures threads { IfOk result (λ w. threads_of w ≡ threads_of self + 1) }
         ensures queue { IfOk result (λ w. queue_of w ≡ queue_of self) }
@@ -219,7 +220,7 @@ where
     L: Ledger + Send + Sync + 'static,
     G: Gate + Drop + Send + 'static,
     C: Clock + Drop + Send + Sync + 'static,
-    R: Threads + Wait + time::Clock + Copy + Send + 'static,
+    R: Threads + Wait + time::Clock + Log + Copy + Send + 'static,
     requires queue { IsSeatOf queue whole × (view whole ≡ hand all_parts [] [] []) }
     requires gates { (0 < length gates.items) × (length gates.items ≤ 16) }
     requires passes { length passes.items ≡ length gates.items + 1 }

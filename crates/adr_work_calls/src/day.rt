@@ -2,6 +2,7 @@
 ghost use Rattle.std.specs.Prelude.{◌≡◌, ◌+◌, ◌<◌, ◌≤◌, length};
 
 use crate::peer::peers;
+use crate::quiet::quiet;
 use adr_book::{Office, Pass};
 use adr_delivery::Job;
 use adr_machine::{Answer, Desk, PlainDesk, Query, Role};
@@ -120,7 +121,7 @@ where
     let clock = Arc::new(alloc, clock)?;
     let (queue, whole) = JobQueue::new(alloc, capacity)?;
     let workers = start(
-        rt,
+        quiet(rt),
         alloc,
         &office,
         queue,

@@ -3,6 +3,7 @@ ghost use Rattle.std.specs.Prelude.{◌≡◌};
 
 use crate::clock::Still;
 use crate::desk::{desk_with_trail, ten, ven};
+use crate::quiet::quiet;
 use adr_book::{Office, Pass, Receipt};
 use adr_lock::{Call, Steps, take_under_lock};
 use adr_machine::{Answer, Command, Desk, Object, Page, PlainDesk, Query, Role};
@@ -78,7 +79,7 @@ fn enrol_under_lock<D: Desk + Drop, L: Ledger, R: Wait>(
         let name = format!(in alloc; "{name}-{step}")?;
         let command = ven(alloc, name.as_str())?;
         take_under_lock(
-            rt,
+            &quiet(rt),
             office,
             &Still(at),
             pass,

@@ -5,6 +5,7 @@ use crate::clock::{Still, Ticks};
 use crate::day::{Day, Meanwhile, UntilNoneWaits, run_day};
 use crate::desk::{desk_of_jobs, empty_desk, ten, ven};
 use crate::peer::{Peer, PeerGate, reply};
+use crate::quiet::quiet;
 use adr_book::{Office, Pass};
 use adr_link::{HttpReply, LinkFault};
 use adr_machine::{Command, Desk, PlainDesk};
@@ -188,7 +189,13 @@ fn puts_none<L: Ledger, R: Wait>(
     let clock = Still(at);
     let mut steps = Steps::new();
     dispatch(
-        rt, &office, &queue, &clock, &mut pass, &mut seat, &mut steps,
+        &quiet(rt),
+        &office,
+        &queue,
+        &clock,
+        &mut pass,
+        &mut seat,
+        &mut steps,
     )?;
     Ok(queue.take(rt, &mut seat).is_none())
 }
@@ -211,10 +218,22 @@ fn steps_of_two<L: Ledger, R: Wait>(
     let clock = Still(at);
     let mut steps = Steps::new();
     dispatch(
-        rt, &office, &queue, &clock, &mut pass, &mut seat, &mut steps,
+        &quiet(rt),
+        &office,
+        &queue,
+        &clock,
+        &mut pass,
+        &mut seat,
+        &mut steps,
     )?;
     dispatch(
-        rt, &office, &queue, &clock, &mut pass, &mut seat, &mut steps,
+        &quiet(rt),
+        &office,
+        &queue,
+        &clock,
+        &mut pass,
+        &mut seat,
+        &mut steps,
     )?;
     Ok(office.book.lock(rt).turn())
 }

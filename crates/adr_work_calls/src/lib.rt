@@ -32,6 +32,8 @@ mod polled;
 #[cfg(test)]
 mod queue;
 #[cfg(test)]
+mod quiet;
+#[cfg(test)]
 mod reporting;
 #[cfg(test)]
 mod steps;

@@ -5,18 +5,20 @@ use crate::clock::{Still, Ticks};
 use crate::day::counts;
 use crate::desk::{ONE_EVENT, desk_with_keys, enrolled, subscription, ten};
 use crate::peer::{Peer, PeerGate, peers, reply};
+use crate::quiet::quiet;
 use adr_book::{Office, Pass};
 use adr_link::{HttpReply, LinkFault};
 use adr_machine::{Desk, PlainDesk};
 use adr_objects::OutboxCounts;
 use adr_text::Refusal;
-use adr_work::{Callee, PollEnd, Request, Steps, poll_round};
+use adr_work::{Callee, PollEnd, Request, RoundLog, Steps, poll_round};
 use std::alloc::Global;
 use std::marker::Brand;
 use std::sync::Wait;
 use std::sync::atomic::{AtomicU64, Ordering};
 use std::sync::ledger::{Blank, Ledger};
 use std::test::*;
+use std::time;
 
 const TO_EVENTS: &str =
     "{\"clientName\":\"ops\",\"objectOperations\":[{\"objects\":[\"EVENT\"],\"operations\":[\"POST\",\"PUT\",\"DELETE\"],\"callbackUrl\":\"http://127.0.0.1:9000/n\"}]}";
@@ -76,7 +78,7 @@ fn enrolled_and_subscribed(alloc: Global) -> Result<PlainDesk, Refusal> {
 }
 
 /// What a round ended with, and how many entries there are then.
-fn round<L: Ledger, R: Wait>(
+fn round<L: Ledger, R: Wait + time::Clock>(
     rt: &R,
     alloc: Global,
     office: &Office<PlainDesk, L>,
@@ -87,8 +89,9 @@ fn round<L: Ledger, R: Wait>(
     let clock = Still(ten()?);
     let mut gate = PeerGate::new(utility);
     let mut steps = Steps::new();
+    let quiet = quiet(rt);
     let end = poll_round(
-        rt,
+        &quiet,
         alloc,
         office,
         &mut gate,
@@ -96,6 +99,7 @@ fn round<L: Ledger, R: Wait>(
         &clock,
         pass,
         &mut steps,
+        &mut RoundLog::new(&quiet, alloc),
     )?;
     Ok((end, counts(rt, office, pass)?))
 }
@@ -105,7 +109,7 @@ fn made(round: &(PollEnd, OutboxCounts)) -> (PollEnd, u64) {
 }
 
 // How each of three rounds ended, with how many entries were made by then: two events come; the pages fail; one is gone.
-fn rounds<L: Ledger, R: Wait>(
+fn rounds<L: Ledger, R: Wait + time::Clock>(
     rt: &R,
     alloc: Global,
     blank: Blank,
@@ -154,7 +158,11 @@ fn a_scan_finds_what_is_gone(rt: HostRuntime) -> Result<(), Fail> {
 }
 
 // How often a round reads the clock, which it does once for each step, where the book refuses the page of events.
-fn steps_to_refusal<L: Ledger, R: Wait>(rt: &R, alloc: Global, blank: Blank) -> Result<u64, Refusal>
+fn steps_to_refusal<L: Ledger, R: Wait + time::Clock>(
+    rt: &R,
+    alloc: Global,
+    blank: Blank,
+) -> Result<u64, Refusal>
     requires { (blank.name ≡ L.name) × (blank.parts ≡ L.parts) × (blank.parts ≡ 1) }
 {
     let desk = desk_with_keys(alloc, 1)?;
@@ -174,8 +182,9 @@ fn steps_to_refusal<L: Ledger, R: Wait>(rt: &R, alloc: Global, blank: Blank) -> 
         fails: false,
     });
     let mut steps = Steps::new();
+    let quiet = quiet(rt);
     let end = poll_round(
-        rt,
+        &quiet,
         alloc,
         &office,
         &mut gate,
@@ -183,6 +192,7 @@ fn steps_to_refusal<L: Ledger, R: Wait>(rt: &R, alloc: Global, blank: Blank) -> 
         &clock,
         &mut pass,
         &mut steps,
+        &mut RoundLog::new(&quiet, alloc),
     );
     match end {
         Ok(_) => Err(Refusal::NotFound),

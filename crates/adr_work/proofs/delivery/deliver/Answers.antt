@@ -10,7 +10,7 @@ pub returns : goal.returns
 returns g c =
     let first = c.args.steps.now.items in
     let answered = c.take_under_lock.result in
-    one c.args.peers.now c.args.job.now (g.G.Gate.exchanges c.args.gate.now) (g.G.Gate.exchanges c.send.new.gate)
-    first c.take_under_lock.new.steps.items c.send.result answered c.send.ensures
+    one c.args.peers.now c.args.job.now (g.G.Gate.exchanges c.args.gate.now) (g.G.Gate.exchanges c.send-sent.new.gate)
+    first c.take_under_lock.new.steps.items c.send-sent.result answered c.send-sent.ensures
     (c.take_under_lock.ensures.steps ∙ ap (λ (it : Command). first ++ (it, answered) ∷ [])
     (c.settlement_of-command.ensures ∙ ap (λ (outcome : Outcome). settlement_of c.args.job.now outcome) c.outcome_in-outcome.ensures))

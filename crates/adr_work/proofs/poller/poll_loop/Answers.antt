@@ -8,8 +8,8 @@ pub loop-preserved : goal.loop-preserved
 loop-preserved g c = (
   tt,
   tt,
-  rounds_more c.args.upstream.now (g.G.Gate.exchanges c.args.gate.now) (g.G.Gate.exchanges c.loop.gate) (g.G.Gate.exchanges c.poll_round.new.gate)
-      c.args.steps.now.items c.loop.steps.items c.poll_round.new.steps.items c.poll_round.result c.loop.invariant.2 c.poll_round.ensures.round,
+  rounds_more c.args.upstream.now (g.G.Gate.exchanges c.args.gate.now) (g.G.Gate.exchanges c.loop.gate) (g.G.Gate.exchanges c.poll_round-end.new.gate)
+      c.args.steps.now.items c.loop.steps.items c.poll_round-end.new.steps.items c.poll_round-end.result c.loop.invariant.2 c.poll_round-end.ensures.round,
 )
 
 pub returns : goal.returns
@@ -24,8 +24,8 @@ returns g c =
           rounds_same u before (g.G.Gate.exchanges c.loop.gate) after first c.loop.steps.items last c.loop.invariant.2
           (ap g.G.Gate.exchanges w.gate-is) (ap (λ s. s.items) w.steps-is)
       | in-Some+then-is_stopped_within w ↦
-          rounds_same u before (g.G.Gate.exchanges w.poll_round.new.gate) after first w.poll_round.new.steps.items last
-          (rounds_more u before (g.G.Gate.exchanges c.loop.gate) (g.G.Gate.exchanges w.poll_round.new.gate)
-          first c.loop.steps.items w.poll_round.new.steps.items w.poll_round.result c.loop.invariant.2 w.poll_round.ensures.round)
+          rounds_same u before (g.G.Gate.exchanges w.poll_round-end.new.gate) after first w.poll_round-end.new.steps.items last
+          (rounds_more u before (g.G.Gate.exchanges c.loop.gate) (g.G.Gate.exchanges w.poll_round-end.new.gate)
+          first c.loop.steps.items w.poll_round-end.new.steps.items w.poll_round-end.result c.loop.invariant.2 w.poll_round-end.ensures.round)
           (ap g.G.Gate.exchanges w.gate-is) (ap (λ s. s.items) w.steps-is)
     ]

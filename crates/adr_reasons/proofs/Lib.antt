@@ -1,0 +1,4 @@
+pub mod Stopping
+pub mod Agreement
+pub mod Fates
+pub mod Everybody

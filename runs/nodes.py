@@ -1,0 +1,123 @@
+"""Nodes that a script runs, and asks as an operator, a utility or a site would."""
+import json
+import os
+import re
+import shutil
+import socket
+import subprocess
+import tempfile
+import time
+
+from peers import UNTOLD
+
+# How long is waited at most for what is to come, in seconds.
+PATIENCE = 300
+# The seconds between two rounds of a node that is to make one.
+SELDOM = 3600
+TOKENS = [
+    {"token": f"{UNTOLD}-operator", "role": "operator"},
+    {"token": f"{UNTOLD}-utility", "role": "utility"},
+    {"token": f"{UNTOLD}-v1", "role": "ven", "venID": "v1"},
+]
+
+
+def free_port():
+    with socket.socket() as it:
+        it.bind(("127.0.0.1", 0))
+        return it.getsockname()[1]
+
+
+def request(role, method, target, value=None, more=""):
+    """Returns the bytes of a request of a role, or of nobody."""
+    token = f"Authorization: Bearer {UNTOLD}-{role}\r\n" if role else ""
+    body = b"" if value is None else json.dumps(value).encode()
+    head = f"{method} {target} HTTP/1.1\r\nHost: x\r\n{token}{more}Content-Length: {len(body)}\r\n\r\n"
+    return head.encode("latin-1") + body
+
+
+class Node:
+    """A node with the configuration that follows, with other members in it; `None` takes one away, and `text` all."""
+
+    program = None
+
+    def __init__(self, upstream, text=None, **more):
+        config = {
+            "listen": "127.0.0.1:0",
+            "upstream": f"http://127.0.0.1:{upstream}/openadr3",
+            "upstreamToken": f"{UNTOLD}-upstream",
+            "clientName": UNTOLD,
+            "poll": SELDOM,
+            "workers": 1,
+            "tokens": TOKENS,
+            "log": "debug",
+            **more,
+        }
+        config = {name: value for name, value in config.items() if value is not None}
+        self.port = int(config["listen"].rpartition(":")[2])
+        self.folder = tempfile.mkdtemp(prefix="adr_node_run.")
+        self.said = os.path.join(self.folder, "said")
+        with open(os.path.join(self.folder, "node.json"), "w", encoding="utf-8") as it:
+            it.write(text or json.dumps(config))
+        with open(self.said, "wb") as it:
+            how = {"cwd": self.folder, "stdin": subprocess.DEVNULL, "stdout": it, "stderr": it}
+            self.process = subprocess.Popen([self.program, "serve", "node.json"], **how)
+
+    def __enter__(self):
+        return self
+
+    def __exit__(self, *_):
+        self.stop()
+        shutil.rmtree(self.folder, ignore_errors=True)
+
+    def lines(self):
+        """Returns the lines that it wrote so far, with a character for each byte."""
+        with open(self.said, encoding="latin-1", newline="\n") as it:
+            return it.read().split("\n")[:-1]
+
+    def sees(self, part, times=1, seconds=PATIENCE):
+        """Waits until so many lines have that part."""
+        until = time.monotonic() + seconds
+        is_over = False
+        while sum(part in it for it in self.lines()) < times:
+            if is_over:
+                raise TimeoutError(f"no {part!r} within {seconds} s, or to its end: {self.lines()[-2:]}")
+            time.sleep(0.02)
+            is_over = time.monotonic() > until or self.process.poll() is not None
+
+    def listens(self):
+        """Waits until it has told where it listens, and whom its tokens are for."""
+        self.sees("] token role=ven ")
+        self.port = int(re.search(r"\] listening at=127\.0\.0\.1:(\d+) ", "\n".join(self.lines()))[1])
+
+    def starts(self):
+        """Waits until its first round is over too."""
+        self.listens()
+        self.sees(" since=")
+
+    def stop(self):
+        """Ends it, if it has not ended; returns what it wrote."""
+        if self.process.poll() is None:
+            self.process.terminate()
+        self.process.wait(PATIENCE)
+        return self.lines()
+
+    def ends(self):
+        """Waits for its end; returns what it wrote, and behind it its status."""
+        self.process.wait(PATIENCE)
+        return [*self.lines(), f"status {self.process.returncode}"]
+
+    def link(self, said):
+        """Opens a connection, and says something."""
+        link = socket.create_connection(("127.0.0.1", self.port), PATIENCE)
+        link.sendall(said)
+        return link
+
+    def tells(self, said):
+        """Says something, and reads to the end, before which it writes what it tells of that."""
+        with self.link(said) as link:
+            while link.recv(65536):
+                pass
+
+    def ask(self, role, method, target, value=None, more=""):
+        """Asks as a role would, or as nobody, and waits for the end of the reply."""
+        self.tells(request(role, method, target, value, more))
