@@ -6,6 +6,7 @@ import shutil
 import socket
 import subprocess
 import tempfile
+import threading
 import time
 
 from peers import UNTOLD
@@ -36,11 +37,13 @@ def request(role, method, target, value=None, more=""):
 
 
 class Node:
-    """A node with the configuration that follows, with other members in it; `None` takes one away, and `text` all."""
+    """A node with the configuration that follows, with other members in it; `None` takes one away, and `text` all. What it
+    writes goes into a file, but what it tells into a small pipe where it is not `heard`; and `before` is called in its process
+    before it begins."""
 
     program = None
 
-    def __init__(self, upstream, text=None, **more):
+    def __init__(self, upstream, text=None, heard=True, before=None, **more):
         config = {
             "listen": "127.0.0.1:0",
             "upstream": f"http://127.0.0.1:{upstream}/openadr3",
@@ -59,7 +62,8 @@ class Node:
         with open(os.path.join(self.folder, "node.json"), "w", encoding="utf-8") as it:
             it.write(text or json.dumps(config))
         with open(self.said, "wb") as it:
-            how = {"cwd": self.folder, "stdin": subprocess.DEVNULL, "stdout": it, "stderr": it}
+            how = {"cwd": self.folder, "stdin": subprocess.DEVNULL, "stdout": it, "preexec_fn": before}
+            how |= {"stderr": it} if heard else {"stderr": subprocess.PIPE, "pipesize": 4096}
             self.process = subprocess.Popen([self.program, "serve", "node.json"], **how)
 
     def __enter__(self):
@@ -68,6 +72,16 @@ class Node:
     def __exit__(self, *_):
         self.stop()
         shutil.rmtree(self.folder, ignore_errors=True)
+
+    def hear(self):
+        """From now on what it tells is read."""
+
+        def read():
+            with open(self.said, "ab", buffering=0) as it:
+                while told := os.read(self.process.stderr.fileno(), 65536):
+                    it.write(told)
+
+        threading.Thread(target=read, daemon=True).start()
 
     def lines(self):
         """Returns the lines that it wrote so far, with a character for each byte."""
@@ -84,6 +98,17 @@ class Node:
             time.sleep(0.02)
             is_over = time.monotonic() > until or self.process.poll() is not None
 
+    def is_there(self):
+        """Waits until it takes connections at an address that it was given, whatever it tells."""
+        until = time.monotonic() + PATIENCE
+        while True:
+            try:
+                return self.link(b"").close()
+            except ConnectionRefusedError:
+                if time.monotonic() > until:
+                    raise
+                time.sleep(0.02)
+
     def listens(self):
         """Waits until it has told where it listens, and whom its tokens are for."""
         self.sees("] token role=ven ")
@@ -94,9 +119,17 @@ class Node:
         self.listens()
         self.sees(" since=")
 
+    def rests(self):
+        """Waits until it has written nothing for a while: what it tells is written a little later than what it does."""
+        size = -1
+        while (told := os.stat(self.said).st_size) != size:
+            size = told
+            time.sleep(0.3)
+
     def stop(self):
         """Ends it, if it has not ended; returns what it wrote."""
         if self.process.poll() is None:
+            self.rests()
             self.process.terminate()
         self.process.wait(PATIENCE)
         return self.lines()
@@ -113,11 +146,10 @@ class Node:
         return link
 
     def tells(self, said):
-        """Says something, and reads to the end, before which it writes what it tells of that."""
+        """Says something, and returns what comes to the end."""
         with self.link(said) as link:
-            while link.recv(65536):
-                pass
+            return b"".join(iter(lambda: link.recv(65536), b""))
 
     def ask(self, role, method, target, value=None, more=""):
-        """Asks as a role would, or as nobody, and waits for the end of the reply."""
-        self.tells(request(role, method, target, value, more))
+        """Asks as a role would, or as nobody, and returns the whole reply."""
+        return self.tells(request(role, method, target, value, more))

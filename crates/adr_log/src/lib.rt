@@ -1,7 +1,8 @@
 //! The log: what a node tells on standard error, a line for each thing that happened.
 //!
 //! What is told comes from outside in part. So each line is made of printable ASCII alone, is cut where it grows long, and
-//! is written at once: whatever a peer sends, it stays within the line that tells of it.
+//! is written at once, by a thread of its own: whatever a peer sends, it stays within the line that tells of it, and
+//! nobody who tells something waits until it is written.
 #![tactic(auto)]
 
 mod console;
@@ -10,6 +11,6 @@ mod stopwatch;
 #[cfg(test)]
 mod tests;
 
-pub use console::Console;
+pub use console::{Console, Writer};
 pub use shown::{MOST_SHOWN, Shown};
 pub use stopwatch::Stopwatch;

@@ -1,6 +1,7 @@
 //! What no clause says: which text a line has, and what is left out.
-use crate::{Console, MOST_SHOWN, Shown};
+use crate::{MOST_SHOWN, Shown, Writer};
 use log::{Level, Log, Logged, info, warn};
+use std::alloc::AllocError;
 use std::fmt::Write;
 
 const CASES: [(&str, &str); 5] = [
@@ -31,9 +32,12 @@ fn a_long_text_is_cut(rt: HostRuntime) {
 
 // The lines themselves are seen on standard error, where nothing of a test reads them.
 #[test]
-fn a_record_is_written(rt: HostRuntime) {
-    let rt = Logged::new(rt, Level::Info, Console(rt));
+fn a_record_is_written(rt: HostRuntime) -> Result<(), AllocError> {
+    let writer = Writer::start(rt, rt.alloc())?;
+    let rt = Logged::new(rt, Level::Info, writer.console());
     info!(rt; target: "node", at = "127.0.0.1:8080"; "listening");
     warn!(rt; target: "round", page = "/events?skip=50\n[INFO  node] forged"; "broke: {}", "status 404");
     assert!(rt; rt.enabled(&log::Metadata::new(Level::Info, "node")));
+    writer.end();
+    Ok(())
 }

@@ -23,12 +23,12 @@ abbrev pub limits_after : Limits → List (List ℕ) → Option Limits
 limits_after limits [] = Some limits
 limits_after limits (a ∷ arguments) = option_and_then (λ l. limits_after l arguments) (limit_set limits a)
 
--- the limits that the words behind the program's name set
+-- the limits that the words behind the program's name set: `script`, and then limits
 abbrev pub limits_of : List (List ℕ) → Option Limits
 limits_of [] = None
 limits_of (word ∷ arguments) = if bytes_eq word (codes "script") then limits_after largest arguments else None
 
--- the name of the configuration that the words behind the program's name serve by
+-- the name of the configuration that the words behind the program's name serve by: `serve`, and that name
 abbrev pub config_of : List (List ℕ) → Option (List ℕ)
 config_of (word ∷ name ∷ []) = if bytes_eq word (codes "serve") then Some name else None
 config_of _ = None

@@ -27,6 +27,7 @@ IsOfOpening fault = (fault ≡ Script OutOfMemory) ⊎ (fault ≡ Store)
 abbrev pub IsOfReading : NodeFault → Type 0
 IsOfReading fault = (fault ≡ Script OutOfMemory) ⊎ (fault ≡ BadConfig)
 
+-- the line of a fault: the program's name, and what went wrong
 abbrev pub fault_line : NodeFault → List ℕ
 fault_line (Script Read) = codes "adr_node: read fault"
 fault_line (Script Write) = codes "adr_node: write fault"
@@ -37,12 +38,14 @@ fault_line Store = codes "adr_node: store refused"
 fault_line BadConfig = codes "adr_node: bad configuration"
 fault_line Bind = codes "adr_node: bind fault"
 
--- after a script of which so many lines were printed or a server that stopped, where the arguments are of another form, and after a fault
+-- the line on standard error: none after a script of which so many lines were printed or a server that stopped, the
+-- usage where the arguments are of another form, and that of a fault
 abbrev pub line_of : Result (Option ℕ) NodeFault → Option (List ℕ)
 line_of (Ok (Some n)) = None
 line_of (Ok None) = Some (codes "usage: adr_node script [NAME=NUMBER ..] | serve CONFIG")
 line_of (Err fault) = Some (fault_line fault)
 
+-- the exit status: 0 after such a script or server, 2 where the arguments are of another form, and 1 after a fault
 abbrev pub status_of : Result (Option ℕ) NodeFault → ℕ
 status_of (Ok (Some n)) = 0
 status_of (Ok None) = 2

@@ -8,7 +8,7 @@ use Rattle.adr_state.specs.declared.limits.Settings.{Settings}
 use Rattle.adr_script.specs.Lines.{lines_of}
 use Rattle.adr_script.specs.Scripts.{RunsScript, StopsScript, StopsAtLongLine, StopsAtManyLines}
 
--- what the program is set to: the name under which it reports, and the limits of its arguments
+-- what the program is set to: `aggregator`, the name under which it reports, and the limits of its arguments
 abbrev pub settings_of : Limits → Settings
 settings_of limits = record { client = codes "aggregator"; limits = limits }
 

@@ -5,12 +5,13 @@ ghost use Rattle.adr_node.specs.Endings.{IsOfReading};
 
 use crate::ending::NodeFault;
 use adr_config::{Config, ConfigFault, log_of, oddities};
-use adr_log::Console;
+use adr_log::{Console, Writer};
 use adr_script::ScriptFault;
 use adr_server as server;
 use adr_server::{HostClock, serve_with};
 use log::{Level, LevelFilter, Log, Logged, error, log_enabled, warn};
 use std::fs;
+use std::fs::File;
 use std::io::ErrorKind;
 use std::net::{Net, TcpListener, TcpStream};
 use std::rt::Files;
@@ -78,6 +79,43 @@ fn tell_end<R: Log>(rt: &R, fault: server::NodeFault) {
     }
 }
 
+/// Serves by the configuration that the bytes are. The log is told what stands in it, and why serving ended early.
+fn serve<R, N>(rt: R, net: N, bytes: &[u8]) -> Result<(), NodeFault>
+where
+    R: AllocGlobal + Threads + Wait + Clock + Log + Copy + Drop + Send + Sync + 'static,
+    N: Net<Listener = TcpListener, Stream = TcpStream> + Clock + Copy + Drop + Send + 'static,
+{
+    let config = config(&rt, bytes)?;
+    tell_oddities(&rt, bytes);
+    let served = serve_with(rt, net, rt.alloc(), &config, HostClock(rt));
+    if let Err(fault) = &served {
+        tell_end(&rt, *fault);
+    }
+    Ok(served?)
+}
+
+/// Starts what writes the log, unless nothing is to be told.
+fn writer<R>(rt: R, level: LevelFilter) -> Result<Option<Writer<R>>, NodeFault>
+where
+    R: AllocGlobal + Threads + Wait + Eprint + Clock + Copy + Drop + Send + 'static,
+    ensures { IfErr result IsOfReading }
+{
+    if level == LevelFilter::Off {
+        return Ok(None);
+    }
+    match Writer::start(rt, rt.alloc()) {
+        Ok(writer) => Ok(Some(writer)),
+        Err(_) => Err(NodeFault::Script(ScriptFault::OutOfMemory)),
+    }
+}
+
+/// Keeps open what standard input, output and error are where they are closed, so that no socket takes a number of theirs,
+/// and no line is written into it.
+fn standard_files<R: Files>(rt: &R) -> [Option<R::File>; 3] {
+    let open = || File::open(rt, "/dev/null").ok();
+    [open(), open(), open()]
+}
+
 /// Serves by the configuration in a file and the system's clock, until it is to stop.
 pub fn run<R>(rt: R, name: &str) -> Result<(), NodeFault>
 where
@@ -94,15 +132,18 @@ where
         + Sync
         + 'static,
 {
+    let _standard = standard_files(&rt);
     let bytes = bytes(&rt, name)?;
+    let level = level(&rt, &bytes)?;
+    let writer = writer(rt, level)?;
+    let console = match &writer {
+        Some(writer) => writer.console(),
+        None => Console::quiet(rt),
+    };
     // The handle that logs passes on no connecting within a time, so the plain one goes where the net is used.
-    let net = rt;
-    let rt = Logged::new(rt, level(&rt, &bytes)?, Console(rt));
-    let config = config(&rt, &bytes)?;
-    tell_oddities(&rt, &bytes);
-    let served = serve_with(rt, net, rt.alloc(), &config, HostClock(rt));
-    if let Err(fault) = &served {
-        tell_end(&rt, *fault);
+    let served = serve(Logged::new(rt, level, console), rt, &bytes);
+    if let Some(writer) = writer {
+        writer.end();
     }
-    Ok(served?)
+    served
 }
