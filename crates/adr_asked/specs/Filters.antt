@@ -19,6 +19,7 @@ use Rattle.adr_asked.specs.Queries.{values_of, only_one}
 abbrev pub programs_of : Option (List ℕ) → Option (List (List ℕ))
 programs_of value = option_map (λ v. option_to_list (id_in v)) value
 
+-- `programID` of a query, at most once: the program that is asked for, and any where none is given
 unfoldable pub program_filter : List ℕ → Result (Option (List (List ℕ))) Refusal
 program_filter query = only_one (values_of (codes "programID") (raw_pairs query)) >>= λ value. Ok (programs_of value)
 
@@ -26,9 +27,11 @@ program_filter query = only_one (values_of (codes "programID") (raw_pairs query)
 abbrev pub name_in : List ℕ → Option (List ℕ)
 name_in value = result_ok (name_of value)
 
+-- the names among values, in their order
 abbrev pub names_in : List (List ℕ) → List (List ℕ)
 names_in values = filter_map name_in values
 
+-- what a type with its values asks for: the names among them, of vens or resources; another type is that of no event
 abbrev pub target_of : List ℕ → List (List ℕ) → TargetFilter
 target_of type values =
     if bytes_eq type (codes "VEN_NAME") then VenName (names_in values)
@@ -42,10 +45,11 @@ target_asked None (v ∷ vs) = Err BadShape
 target_asked (Some type) [] = Err BadShape
 target_asked (Some type) (v ∷ vs) = Ok (target_of type (v ∷ vs))
 
+-- `targetType` of a query, at most once, with its `targetValues`, or neither
 unfoldable pub target_filter : List ℕ → Result TargetFilter Refusal
 target_filter query = only_one (values_of (codes "targetType") (raw_pairs query)) >>= λ type. target_asked type (values_of (codes "targetValues") (raw_pairs query))
 
--- `programID`, and `targetType` with `targetValues`
+-- `programID`, and `targetType` with `targetValues`, which alone may be given more than once
 unfoldable pub filter_asked : List ℕ → Result EventFilter Refusal
 filter_asked query = do
   programs ← program_filter query
@@ -56,10 +60,11 @@ filter_asked query = do
 abbrev pub clients_of : Option (List ℕ) → Option (List (List ℕ))
 clients_of value = option_map (λ v. option_to_list (name_in v)) value
 
+-- `clientName` of a query, at most once: the client that is asked for, and any where none is given
 unfoldable pub client_filter : List ℕ → Result (Option (List (List ℕ))) Refusal
 client_filter query = only_one (values_of (codes "clientName") (raw_pairs query)) >>= λ value. Ok (clients_of value)
 
--- `programID` and `clientName`, of reports and of subscriptions
+-- `programID` and `clientName`, of reports and of subscriptions, each at most once
 unfoldable pub report_filter_asked : List ℕ → Result ReportFilter Refusal
 report_filter_asked query = do
   programs ← program_filter query

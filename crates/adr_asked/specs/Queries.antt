@@ -27,10 +27,11 @@ abbrev pub number_or : ℕ → ℕ → Option (List ℕ) → Result ℕ Refusal
 number_or default most None = Ok default
 number_or default most (Some v) = or_else BadShape (number_within most v)
 
+-- the number of a parameter, which is given at most once and is in range, or the default where it isn't given
 unfoldable pub number_in : List ℕ → ℕ → ℕ → List ℕ → Result ℕ Refusal
 number_in name default most query = only_one (values_of name (raw_pairs query)) >>= number_or default most
 
--- `skip` from 0 to 2147483647 and `limit` from 0 to 50; other parameters are passed over
+-- `skip` from 0 to 2147483647 and `limit` from 0 to 50, each at most once; other parameters are passed over
 unfoldable pub page_asked : List ℕ → Result Page Refusal
 page_asked query = do
   skip ← number_in (codes "skip") 0 2147483647 query

@@ -50,7 +50,7 @@ answer_text client (answer.Counts counts) = counts_text counts
 answer_text client (answer.Job job) = codes "{}"
 answer_text client (answer.Rollup event rollup) = rollup_text (record { client = client; event = event; rollup = rollup })
 
--- whether a command posts an object
+-- whether a command posts an object: a ven, a resource, a report or a subscription that is new
 abbrev pub posts : Command → Bool
 posts (VenAdd role ven) = true
 posts (ResourceAdd role ven resource) = true

@@ -20,35 +20,40 @@ use Rattle.adr_asked.specs.Filters.{filter_asked, report_filter_asked}
 use Rattle.adr_asked.specs.Queries.{page_asked}
 use Rattle.adr_routes.specs.declared.methods.Methods.{Methods}
 use Rattle.adr_routes.specs.declared.path.Path.{Path}
-use Rattle.adr_routes.specs.declared.path.Path.TheVariants as path
+use Rattle.adr_routes.specs.declared.path.Path.TheVariants.{At, Of, Under}
+use Rattle.adr_routes.specs.declared.place.Root.{Root}
+use Rattle.adr_routes.specs.declared.place.Root.TheVariants as root
+use Rattle.adr_routes.specs.declared.place.One.TheVariants as one
+use Rattle.adr_routes.specs.declared.place.Two.TheVariants as two
 use Rattle.adr_routes.specs.Places.{methods_of}
 use Rattle.adr_routes.specs.Paths.{path_of, place_of}
 use Rattle.adr_routes.specs.Words.{text_from}
 use Rattle.adr_reply.specs.declared.problem.Problem.{Problem}
 use Rattle.adr_reply.specs.declared.problem.Problem.TheVariants.{Refused, NoPath, NoMethod}
 
--- the listings of paths with no id in them
-unfoldable pub listing_asked : Role → Path → List ℕ → Result (Option Asked) Refusal
-listing_asked role path.Programs query = page_asked query >>= λ page. Ok (Some (asked.Query (Programs role page)))
-listing_asked role path.Events query = filter_asked query >>= λ wanted. page_asked query >>= λ page. Ok (Some (asked.Query (Events role wanted page)))
-listing_asked role path.Reports query = report_filter_asked query >>= λ wanted. page_asked query >>= λ page. Ok (Some (asked.Query (Reports role wanted page)))
-listing_asked role path.Subs query = report_filter_asked query >>= λ wanted. page_asked query >>= λ page. Ok (Some (asked.Query (Subs role wanted page)))
-listing_asked role path.Vens query = page_asked query >>= λ page. Ok (Some (asked.Query (Vens role page)))
-listing_asked role _ query = Ok None
+-- what is read at a path with no id
+unfoldable pub root_asked : Role → Root → List ℕ → Result (Option Asked) Refusal
+root_asked role root.Programs query = page_asked query >>= λ page. Ok (Some (asked.Query (Programs role page)))
+root_asked role root.Events query = filter_asked query >>= λ wanted. page_asked query >>= λ page. Ok (Some (asked.Query (Events role wanted page)))
+root_asked role root.Reports query = report_filter_asked query >>= λ wanted. page_asked query >>= λ page. Ok (Some (asked.Query (Reports role wanted page)))
+root_asked role root.Subs query = report_filter_asked query >>= λ wanted. page_asked query >>= λ page. Ok (Some (asked.Query (Subs role wanted page)))
+root_asked role root.Vens query = page_asked query >>= λ page. Ok (Some (asked.Query (Vens role page)))
+root_asked role root.Outbox query = Ok (Some (asked.Query (Outbox role)))
+root_asked role root.Notifications query = Ok None
 
 -- what is read at a path: only a listing has a query
 unfoldable pub asked_by_get : Role → Path → List ℕ → Result (Option Asked) Refusal
-asked_by_get role (path.Program id) query = Ok (Some (asked.Query (Program role id)))
-asked_by_get role (path.Event id) query = Ok (Some (asked.Query (Event role id)))
-asked_by_get role (path.Report id) query = Ok (Some (asked.Query (Report role id)))
-asked_by_get role (path.Rollup event) query = Ok (Some (asked.Query (Rollup role event)))
-asked_by_get role (path.Sub id) query = Ok (Some (asked.Query (Sub role id)))
-asked_by_get role (path.Ven id) query = Ok (Some (asked.Query (Ven role id)))
-asked_by_get role (path.Resources ven) query = page_asked query >>= λ page. Ok (Some (asked.Query (Resources role ven page)))
-asked_by_get role (path.Resource ven id) query = Ok (Some (asked.Query (Resource role ven id)))
-asked_by_get role (path.Shares program) query = Ok (Some (asked.Query (Shares role program)))
-asked_by_get role path.Outbox query = Ok (Some (asked.Query (Outbox role)))
-asked_by_get role path query = listing_asked role path query
+asked_by_get role (At at) query = root_asked role at query
+asked_by_get role (Of one.Program id) query = Ok (Some (asked.Query (Program role id)))
+asked_by_get role (Of one.Event id) query = Ok (Some (asked.Query (Event role id)))
+asked_by_get role (Of one.Report id) query = Ok (Some (asked.Query (Report role id)))
+asked_by_get role (Of one.Rollup event) query = Ok (Some (asked.Query (Rollup role event)))
+asked_by_get role (Of one.Sub id) query = Ok (Some (asked.Query (Sub role id)))
+asked_by_get role (Of one.Ven id) query = Ok (Some (asked.Query (Ven role id)))
+asked_by_get role (Of one.Resources ven) query = page_asked query >>= λ page. Ok (Some (asked.Query (Resources role ven page)))
+asked_by_get role (Under two.Resource ven id) query = Ok (Some (asked.Query (Resource role ven id)))
+asked_by_get role (Of one.Shares program) query = Ok (Some (asked.Query (Shares role program)))
+asked_by_get role (Under two.Share program resource) query = Ok None
 
 -- what a notification asks, if it asks anything
 abbrev pub told_asked : NoticeIn → Asked
@@ -67,32 +72,32 @@ notified role body = notice_of body >>= notice_asked role
 
 -- what is posted to a path
 unfoldable pub asked_by_post : Role → Path → List ℕ → Result (Option Asked) Refusal
-asked_by_post role path.Vens body = ven_of body >>= λ ven. Ok (Some (asked.Command (VenAdd role ven)))
-asked_by_post role path.Notifications body = notified role body
-asked_by_post role path.Reports body = report_of body >>= λ report. Ok (Some (asked.Command (ReportPost role report)))
-asked_by_post role path.Subs body = sub_of body >>= λ sub. Ok (Some (asked.Command (SubPost role sub)))
-asked_by_post role (path.Resources ven) body = resource_of body >>= λ resource. Ok (Some (asked.Command (ResourceAdd role ven resource)))
+asked_by_post role (At root.Vens) body = ven_of body >>= λ ven. Ok (Some (asked.Command (VenAdd role ven)))
+asked_by_post role (At root.Notifications) body = notified role body
+asked_by_post role (At root.Reports) body = report_of body >>= λ report. Ok (Some (asked.Command (ReportPost role report)))
+asked_by_post role (At root.Subs) body = sub_of body >>= λ sub. Ok (Some (asked.Command (SubPost role sub)))
+asked_by_post role (Of one.Resources ven) body = resource_of body >>= λ resource. Ok (Some (asked.Command (ResourceAdd role ven resource)))
 asked_by_post role _ body = Ok None
 
 -- what is put at a path
 unfoldable pub asked_by_put : Role → Path → List ℕ → Result (Option Asked) Refusal
-asked_by_put role (path.Ven id) body = ven_of body >>= λ ven. Ok (Some (asked.Command (VenPut role id ven)))
-asked_by_put role (path.Resource ven id) body = resource_of body >>= λ resource. Ok (Some (asked.Command (ResourcePut role ven id resource)))
-asked_by_put role (path.Report id) body = report_of body >>= λ report. Ok (Some (asked.Command (ReportPut role id report)))
-asked_by_put role (path.Sub id) body = sub_of body >>= λ sub. Ok (Some (asked.Command (SubPut role id sub)))
-asked_by_put role (path.Share program resource) body = share_of body >>= λ share. Ok (Some (asked.Command (ShareSet role program resource share)))
+asked_by_put role (Of one.Ven id) body = ven_of body >>= λ ven. Ok (Some (asked.Command (VenPut role id ven)))
+asked_by_put role (Under two.Resource ven id) body = resource_of body >>= λ resource. Ok (Some (asked.Command (ResourcePut role ven id resource)))
+asked_by_put role (Of one.Report id) body = report_of body >>= λ report. Ok (Some (asked.Command (ReportPut role id report)))
+asked_by_put role (Of one.Sub id) body = sub_of body >>= λ sub. Ok (Some (asked.Command (SubPut role id sub)))
+asked_by_put role (Under two.Share program resource) body = share_of body >>= λ share. Ok (Some (asked.Command (ShareSet role program resource share)))
 asked_by_put role _ body = Ok None
 
 -- what is removed at a path: a share by setting it to 0
 unfoldable pub asked_by_delete : Role → Path → Option Asked
-asked_by_delete role (path.Ven id) = Some (asked.Command (VenRemove role id))
-asked_by_delete role (path.Resource ven id) = Some (asked.Command (ResourceRemove role ven id))
-asked_by_delete role (path.Report id) = Some (asked.Command (ReportDelete role id))
-asked_by_delete role (path.Sub id) = Some (asked.Command (SubDelete role id))
-asked_by_delete role (path.Share program resource) = Some (asked.Command (ShareSet role program resource (record { share = 0 })))
+asked_by_delete role (Of one.Ven id) = Some (asked.Command (VenRemove role id))
+asked_by_delete role (Under two.Resource ven id) = Some (asked.Command (ResourceRemove role ven id))
+asked_by_delete role (Of one.Report id) = Some (asked.Command (ReportDelete role id))
+asked_by_delete role (Of one.Sub id) = Some (asked.Command (SubDelete role id))
+asked_by_delete role (Under two.Share program resource) = Some (asked.Command (ShareSet role program resource (record { share = 0 })))
 asked_by_delete role _ = None
 
--- by the method
+-- what is asked at a path by the method; nothing by another word than GET, POST, PUT and DELETE
 unfoldable pub asked_by : Role → List ℕ → Path → List ℕ → List ℕ → Result (Option Asked) Refusal
 asked_by role method path query body =
     if bytes_eq method (codes "GET") then asked_by_get role path query
@@ -111,7 +116,7 @@ asked_or methods (Err refusal) = Err (Refused refusal)
 abbrev pub asked_at : Role → List ℕ → Path → List ℕ → List ℕ → Result Asked Problem
 asked_at role method path query body = asked_or (methods_of (place_of path)) (asked_by role method path query body)
 
--- the path that the bytes are
+-- the path that the bytes are, where they are text and there is such a path
 abbrev pub path_in : List ℕ → Option Path
 path_in bytes = option_and_then path_of (text_from bytes)
 

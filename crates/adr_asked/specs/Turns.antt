@@ -20,7 +20,7 @@ asked_step settings s now (asked.Page c skipped) = step settings s now c
 asked_step settings s now (asked.Query q) = reply s q >>= λ a. Ok (a, s)
 asked_step settings s now asked.Nothing = Ok (answer.Done, s)
 
--- whether what is asked is asked of the desk
+-- whether what is asked is asked of the desk, as a command, a page or a query
 abbrev pub asks_desk : Asked → Bool
 asks_desk asked.Nothing = false
 asks_desk _ = true

@@ -5,7 +5,7 @@ ghost use Rattle.adr_text.specs.Refusals.{Gives};
 ghost use Rattle.adr_routes.specs.Paths.{place_of};
 ghost use Rattle.adr_routes.specs.Places.{methods_of};
 ghost use Rattle.adr_reply.specs.Problems.{Tells};
-ghost use Rattle.adr_asked.specs.Requests.{told_asked, notified, listing_asked, asked_by_get, asked_by_post, asked_by_put, asked_by_delete, asked_by, asked_or, asked_at, path_in, asked_of};
+ghost use Rattle.adr_asked.specs.Requests.{told_asked, notified, root_asked, asked_by_get, asked_by_post, asked_by_put, asked_by_delete, asked_by, asked_or, asked_at, path_in, asked_of};
 
 use crate::asked::Asked;
 use crate::filter::{filter_asked, report_filter_asked};
@@ -13,49 +13,44 @@ use crate::query::page_asked;
 use adr_machine::{Command, Query, Role};
 use adr_objects::ShareIn;
 use adr_reply::Problem;
-use adr_routes::{Methods, Path, Routes, methods_of, place_of, text_from};
+use adr_routes::{Methods, One, Path, Root, Routes, Two, methods_of, place_of, text_from};
 use adr_schema::{NoticeIn, read_notice, read_report, read_resource, read_share, read_ven};
 use adr_subscription::read_sub;
 use adr_text::{Refusal, Rows};
 use adr_wire::cut;
 use std::alloc::{AllocError, Global};
 
-/// The listings of paths with no id in them. The path is looked at by reference: taken apart, each kind of path would be
-/// dropped anew wherever the query is refused.
-#[tactic(auto, unfolding(crate::specs::Requests::listing_asked))]
-fn listing_asked(
-    alloc: Global,
-    role: Role,
-    path: &Path,
-    query: &[u8],
-) -> Result<Option<Asked>, Refusal>
-    ensures { Gives (λ a. a) result (listing_asked role path.now query.now) }
+/// What is read at a path with no id.
+#[tactic(auto, unfolding(crate::specs::Requests::root_asked))]
+fn root_asked(alloc: Global, role: Role, root: Root, query: &[u8]) -> Result<Option<Asked>, Refusal>
+    ensures { Gives (λ a. a) result (root_asked role root query.now) }
 {
-    let query = match path {
-        Path::Programs => {
+    let query = match root {
+        Root::Programs => {
             let page = page_asked(alloc, query)?;
             Query::Programs { role, page }
         }
-        Path::Events => {
+        Root::Events => {
             let filter = filter_asked(alloc, query)?;
             let page = page_asked(alloc, query)?;
             Query::Events { role, filter, page }
         }
-        Path::Reports => {
+        Root::Reports => {
             let filter = report_filter_asked(alloc, query)?;
             let page = page_asked(alloc, query)?;
             Query::Reports { role, filter, page }
         }
-        Path::Subs => {
+        Root::Subs => {
             let filter = report_filter_asked(alloc, query)?;
             let page = page_asked(alloc, query)?;
             Query::Subs { role, filter, page }
         }
-        Path::Vens => {
+        Root::Vens => {
             let page = page_asked(alloc, query)?;
             Query::Vens { role, page }
         }
-        _ => return Ok(None),
+        Root::Outbox => Query::Outbox { role },
+        Root::Notifications => return Ok(None),
     };
     Ok(Some(Asked::Query(query)))
 }
@@ -71,20 +66,20 @@ fn asked_by_get(
     ensures { Gives (λ a. a) result (asked_by_get role path query.now) }
 {
     let query = match path {
-        Path::Program(id) => Query::Program { role, id },
-        Path::Event(id) => Query::Event { role, id },
-        Path::Report(id) => Query::Report { role, id },
-        Path::Rollup(event) => Query::Rollup { role, event },
-        Path::Sub(id) => Query::Sub { role, id },
-        Path::Resources(ven) => {
+        Path::At(root) => return root_asked(alloc, role, root, query),
+        Path::Of(One::Program, id) => Query::Program { role, id },
+        Path::Of(One::Event, id) => Query::Event { role, id },
+        Path::Of(One::Report, id) => Query::Report { role, id },
+        Path::Of(One::Rollup, event) => Query::Rollup { role, event },
+        Path::Of(One::Sub, id) => Query::Sub { role, id },
+        Path::Of(One::Resources, ven) => {
             let page = page_asked(alloc, query)?;
             Query::Resources { role, ven, page }
         }
-        Path::Ven(id) => Query::Ven { role, id },
-        Path::Resource { ven, id } => Query::Resource { role, ven, id },
-        Path::Shares(program) => Query::Shares { role, program },
-        Path::Outbox => Query::Outbox { role },
-        listing => return listing_asked(alloc, role, &listing, query),
+        Path::Of(One::Ven, id) => Query::Ven { role, id },
+        Path::Under(Two::Resource, ven, id) => Query::Resource { role, ven, id },
+        Path::Of(One::Shares, program) => Query::Shares { role, program },
+        Path::Under(Two::Share, _, _) => return Ok(None),
     };
     Ok(Some(Asked::Query(query)))
 }
@@ -132,20 +127,20 @@ fn asked_by_post(
     ensures { Gives (λ a. a) result (asked_by_post role path body.now) }
 {
     match path {
-        Path::Vens => {
+        Path::At(Root::Vens) => {
             let ven = read_ven(alloc, body)?;
             Ok(Some(Asked::Command(Command::VenAdd { role, ven })))
         }
-        Path::Notifications => notified(alloc, &role, body),
-        Path::Reports => {
+        Path::At(Root::Notifications) => notified(alloc, &role, body),
+        Path::At(Root::Reports) => {
             let report = read_report(alloc, body)?;
             Ok(Some(Asked::Command(Command::ReportPost { role, report })))
         }
-        Path::Subs => {
+        Path::At(Root::Subs) => {
             let sub = read_sub(alloc, body)?;
             Ok(Some(Asked::Command(Command::SubPost { role, sub })))
         }
-        Path::Resources(ven) => {
+        Path::Of(One::Resources, ven) => {
             let resource = read_resource(alloc, body)?;
             Ok(Some(Asked::Command(Command::ResourceAdd {
                 role,
@@ -168,11 +163,11 @@ fn asked_by_put(
     ensures { Gives (λ a. a) result (asked_by_put role path body.now) }
 {
     let command = match path {
-        Path::Ven(id) => {
+        Path::Of(One::Ven, id) => {
             let ven = read_ven(alloc, body)?;
             Command::VenPut { role, id, ven }
         }
-        Path::Resource { ven, id } => {
+        Path::Under(Two::Resource, ven, id) => {
             let resource = read_resource(alloc, body)?;
             Command::ResourcePut {
                 role,
@@ -181,15 +176,15 @@ fn asked_by_put(
                 resource,
             }
         }
-        Path::Report(id) => {
+        Path::Of(One::Report, id) => {
             let report = read_report(alloc, body)?;
             Command::ReportPut { role, id, report }
         }
-        Path::Sub(id) => {
+        Path::Of(One::Sub, id) => {
             let sub = read_sub(alloc, body)?;
             Command::SubPut { role, id, sub }
         }
-        Path::Share { program, resource } => {
+        Path::Under(Two::Share, program, resource) => {
             let share = read_share(alloc, body)?;
             Command::ShareSet {
                 role,
@@ -209,11 +204,11 @@ fn asked_by_delete(role: Role, path: Path) -> Option<Asked>
     ensures { result ≡ asked_by_delete role path }
 {
     let command = match path {
-        Path::Ven(id) => Command::VenRemove { role, id },
-        Path::Resource { ven, id } => Command::ResourceRemove { role, ven, id },
-        Path::Report(id) => Command::ReportDelete { role, id },
-        Path::Sub(id) => Command::SubDelete { role, id },
-        Path::Share { program, resource } => Command::ShareSet {
+        Path::Of(One::Ven, id) => Command::VenRemove { role, id },
+        Path::Under(Two::Resource, ven, id) => Command::ResourceRemove { role, ven, id },
+        Path::Of(One::Report, id) => Command::ReportDelete { role, id },
+        Path::Of(One::Sub, id) => Command::SubDelete { role, id },
+        Path::Under(Two::Share, program, resource) => Command::ShareSet {
             role,
             program,
             resource,

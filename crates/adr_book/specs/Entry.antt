@@ -17,7 +17,7 @@ use Rattle.adr_weight.specs.Bases.{state_weight}
 use Rattle.adr_book.specs.Trail.{most_turns, trail_weight}
 use Rattle.adr_book.specs.Words.{base_of, trail_of, turn_of, state_of, settings_of, seen_by}
 
--- a holder that was told of this turn comes to a book of that one: it may not be ahead
+-- a holder that was told of this turn comes to a book of that one: it may not be ahead, which is 16 otherwise
 abbrev pub not_ahead : ℕ → ℕ → Result (Unit {0}) Refusal
 not_ahead seen turn = if nat_lt turn seen then Err (Stale seen) else Ok tt
 
@@ -25,7 +25,7 @@ not_ahead seen turn = if nat_lt turn seen then Err (Stale seen) else Ok tt
 abbrev pub is_full_at : ℕ → ℕ → ℕ → Bool
 is_full_at limit count turn = nat_le limit count || nat_le most_turns turn
 
--- one command more
+-- one command more: the trail has to be below its limit, and the turn below the last one, which is 5 otherwise
 abbrev pub with_room : ℕ → ℕ → ℕ → Result (Unit {0}) Refusal
 with_room limit count turn = if is_full_at limit count turn then Err TrailFull else Ok tt
 

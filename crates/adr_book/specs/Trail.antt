@@ -10,7 +10,7 @@ use Rattle.adr_machine.specs.Runs.{IsRun, step_at}
 use Rattle.adr_weight.specs.Commands.{command_weight}
 use Rattle.adr_book.specs.declared.kept.TheConstants.{PLACE}
 
--- the last turn that a book can reach
+-- the last turn that a book can reach, 9·10^15
 abbrev pub most_turns : ℕ
 most_turns = 9_000_000_000_000_000
 

@@ -53,7 +53,8 @@ module _ {L : Type 0} where
   abbrev pub taken_by : Pass L → ℕ
   taken_by pass = pass.share.amount
 
--- what a book keeps whenever nobody holds it
+-- what a book keeps whenever nobody holds it: where its desk is sound the trail leads from the base to its state; the
+-- turn counts the trail, from that of the base on, and the ledger each turn; turn and trail are within their limits
 pub record IsKept {D L : Type 0} {g : Ghosts D} (book : Book D L g) : Type 0 where
   pub leads : IsSound book → led (settings_of book) (base_of book) (trail_of book) ≡ Some (state_of book)
   pub turn : turn_of book ≡ since_of book + length (trail_of book)

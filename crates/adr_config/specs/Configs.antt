@@ -33,6 +33,7 @@ abbrev pub limits_or_largest : Option Limits → Limits
 limits_or_largest None = largest
 limits_or_largest (Some limits) = limits
 
+-- the node's name, and its limits, the largest where none are said
 unfoldable pub settings_in : Data → Result Settings Fault
 settings_in d = do
   client ← required (member_of (codes "clientName") d) name_in

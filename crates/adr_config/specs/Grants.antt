@@ -22,10 +22,12 @@ abbrev pub plain : Role → Option (List ℕ) → Result Role Fault
 plain role None = Ok role
 plain role (Some id) = Err BadShape
 
+-- the role of a ven, which has its id
 abbrev pub of_ven : Option (List ℕ) → Result Role Fault
 of_ven None = Err BadShape
 of_ven (Some id) = Ok (Ven id)
 
+-- the role of a name: `operator` or `utility`, without an id, or `ven`, with one
 abbrev pub role_named : List ℕ → Option (List ℕ) → Result Role Fault
 role_named name ven =
     if bytes_eq name (codes "operator") then plain Operator ven
@@ -42,6 +44,7 @@ token_in d = do
   role ← role_named name ven
   Ok (record { token = token; role = role })
 
+-- a token with its role, as it is granted
 abbrev pub grant_of : TokenIn → List ℕ × Role
 grant_of said = (said.token, said.role)
 
@@ -51,6 +54,7 @@ roles_in d = objects_in d >>= each token_in >>= λ said. as_fault (roles_of (map
 
 -- ---- limits
 
+-- the names of the limits
 abbrev pub limit_names : List (List ℕ)
 limit_names = codes "keys" ∷ codes "vens" ∷ codes "subs" ∷ codes "resources" ∷ codes "shares" ∷ codes "reports" ∷ codes "pending" ∷ codes "serial" ∷ codes "trail" ∷ []
 

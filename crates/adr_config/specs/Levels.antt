@@ -9,7 +9,7 @@ use Rattle.adr_text.specs.Refusals.{or_else}
 use Rattle.adr_text.specs.declared.fault.Fault.{Fault}
 use Rattle.adr_text.specs.declared.fault.Fault.TheVariants.{BadShape}
 
--- the level of a name
+-- the level of a name: `off`, `error`, `warn`, `info` or `debug`
 abbrev pub level_named : List ℕ → Option LevelFilter
 level_named name =
     if bytes_eq name (codes "off") then Some Off
@@ -43,5 +43,6 @@ abbrev pub level_read : Result Data Fault → LevelFilter
 level_read (Ok d) = level_at d
 level_read (Err e) = Off
 
+-- the level by which bytes are told of: off where they are no JSON
 abbrev pub level_of : List ℕ → LevelFilter
 level_of bytes = level_read (value_in bytes)

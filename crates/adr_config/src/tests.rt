@@ -455,6 +455,7 @@ fn is_told_of_each(
     Ok(true)
 }
 
+/// Among them row 26: a configuration with `workers` 0 is refused 14.
 #[test]
 fn what_is_refused(rt: HostRuntime) -> Result<(), Fail> {
     let alloc = rt.alloc();

@@ -40,10 +40,10 @@ pub use Rattle.adr_sql.proofs.Maps.{entry_found, fold_keys, insert_key_is, is_te
 pub use Rattle.adr_sql.proofs.Places.{seen, stores_at}
 pub use Rattle.adr_sql.proofs.Removals.{IsRemoveText}
 pub use Rattle.adr_sql.proofs.Selections.{absent_key, equalities, first_columns, first_runs, is_found, pairs_from, passes, read_runs, select_runs, selection, whole_rows}
-pub use Rattle.adr_sql.proofs.Transactions.{holds_now, holds_still, stays_itself, stays_then}
+pub use Rattle.adr_sql.proofs.Transactions.{holds_now, holds_still, lent_itself, lent_then}
 pub use Rattle.adr_sql.proofs.Upserts.{IsUpsertText, upsert_runs}
 pub use Rattle.adr_sql.proofs.Values.{AreValues}
-pub use Rattle.adr_sql.specs.Calls.{Changes, Commits, Runs, Stays}
+pub use Rattle.adr_sql.specs.Calls.{Changes, Commits, Runs, Stays, LeavesLent}
 pub use Rattle.adr_sql.specs.Contents.{Contents, Holds, StoresEach, rows_of_table, with_table}
 pub use Rattle.adr_sql.specs.Keys.{cells, has_key, key_order, with_row}
 pub use Rattle.adr_sql.specs.Schemas.{cascades_to, no_schema}

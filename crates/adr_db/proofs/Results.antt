@@ -1,7 +1,7 @@
 -- Results that are handed on, and refusals that stand in their place.
 use Rattle.std.proofs.Common.{◌≡◌, Result, Ok, Err, IfOk, IfErr, OnOk, sym, subst}
 use Rattle.std.specs.Result.{IsErrAnd}
-use Rattle.adr_db.proofs.Common.{Refusal, IsRefusalOf}
+use Rattle.adr_db.proofs.Common.{Refusal, OutOfMemory, Store, IsRefusalOf}
 
 pub ok_then : {T E : Type 0} {P Q : T → Type 0} (r : Result T E) → ((x : T) → P x → Q x) → IfOk r P → IfOk r Q
 ok_then (Ok x) f h = f x h
@@ -23,3 +23,9 @@ handed_on P (Err x) e h p = subst P (sym h) p
 -- a refusal that what is decided gives stands in its place
 pub own_refuses : {A : Type 0} (e own : Refusal) (r : Result A Refusal) → e ≡ own → r ≡ Err own → IsRefusalOf own r → IsRefusalOf e r
 own_refuses e own r is same h = subst (λ e. IsRefusalOf e r) (sym is) h
+
+-- the refusal that it is
+pub refused_so : {A : Type 0} (e : Refusal) (r : Result A Refusal) → r ≡ Err e → IsRefusalOf e r
+refused_so OutOfMemory r is = tt
+refused_so Store r is = tt
+refused_so _ r is = is

@@ -56,6 +56,7 @@ kept_beside beside base = record {
 abbrev pub beside_of : State → Beside
 beside_of state = record { numbers = meta_of state; stamps = state.stamps; remotes = state.outbox.remotes; entries = state.outbox.entries }
 
+-- what is kept of a state: its numbers, the maps of its base, its stamps, and the entries and ids of its outbox
 abbrev pub kept_of : State → Kept
 kept_of state = kept_beside (beside_of state) state.base
 

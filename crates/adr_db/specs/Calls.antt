@@ -1,5 +1,5 @@
 -- What a call makes of what the tables keep. What a call leaves of its transaction is `Stays`.
-use Rattle.std.specs.Prelude.{◌≡◌, ◌⊎◌, ℕ, List, Result, IfOk, OnOk}
+use Rattle.std.specs.Prelude.{◌≡◌, ◌⊎◌, ℕ, List, [], ◌∷◌, Result, IfOk, OnOk}
 use Rattle.sqlite.specs.Order.{Row}
 use Rattle.sqlite.specs.Store.{Ghosts}
 use Rattle.sqlite.specs.Held.{Held, state}
@@ -35,7 +35,7 @@ module _ {S : Type 0} (g : Ghosts S) (old new : Held S) where
   ChangesValues change result =
       HasCleanDisk (state g new) → OnOk result ((kept : Kept) (reports values : List Row) → Holds schema (contents_with reports values kept) (state g old) → Holds schema (contents_with reports (change values) kept) (state g new))
 
--- an error of the store as a refusal
+-- an error of the store as a refusal: want of memory where it is that, else the store's
 abbrev pub refusal_of : Error → Refusal
 refusal_of (SqliteFailure code.OutOfMemory) = OutOfMemory
 refusal_of _ = Store
@@ -43,3 +43,8 @@ refusal_of _ = Store
 -- memory ran out, or the store refused for another cause
 abbrev pub IsOfStore : Refusal → Type 0
 IsOfStore refusal = (refusal ≡ OutOfMemory) ⊎ (refusal ≡ Store)
+
+-- one of these, or want of memory or the store's
+abbrev pub IsOneOf : List Refusal → Refusal → Type 0
+IsOneOf [] refusal = IsOfStore refusal
+IsOneOf (one ∷ more) refusal = (refusal ≡ one) ⊎ IsOneOf more refusal

@@ -7,7 +7,7 @@ use Rattle.adr_state.specs.declared.state.State.{State}
 use Rattle.adr_db.specs.declared.meta.Meta.{Meta}
 use Rattle.adr_db.specs.Kept.{Kept}
 
--- the keys that were polled, where these numbers say that a scan is open
+-- the keys that were polled, where these numbers say that a scan is open; none else
 abbrev pub scan_of : Meta → Kept → Option (List MirrorKey)
 scan_of numbers kept = if numbers.scan then Some kept.polled else None
 

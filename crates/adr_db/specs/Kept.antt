@@ -60,6 +60,7 @@ contents_with reports values kept =
     ∷ map entry_row kept.entries
     ∷ []
 
+-- the rows of each table: of `report` those of the reports, and of `report_value` those of the intervals of each
 abbrev pub contents_of : Kept → Contents
 contents_of kept = contents_with (map report_row kept.portfolio.reports) (flat_map value_rows kept.portfolio.reports) kept
 
@@ -68,6 +69,7 @@ abbrev pub IsMark : Mark → Type 0
 IsMark (Live moment body) = IsBody body
 IsMark Dead = Unit {0}
 
+-- each mark of the mirror is so
 abbrev pub AreMarks : List (MirrorKey × Mark) → Type 0
 AreMarks = AllByRecursion (λ e. IsMark e.1)
 
@@ -75,6 +77,8 @@ AreMarks = AllByRecursion (λ e. IsMark e.1)
 abbrev pub AreSubs : List (ℕ × Sub) → Type 0
 AreSubs = AllByRecursion (λ e. IsSub e.1.body)
 
+-- the tables hold this: the rows of each are the corresponding map, in key order, and each version and each
+-- subscription says what the types admit
 pub record Keeps (kept : Kept) (s : State) : Type 0 where
   pub rows : Holds schema (contents_of kept) s
   pub marks : AreMarks kept.mirror
@@ -82,30 +86,39 @@ pub record Keeps (kept : Kept) (s : State) : Type 0 where
 
 -- ---- what is kept of a new node, and the changes of it
 
+-- the numbers of a new node: the serial 0, no scan open, each count 0, no entry that waits, no key of the mirror
 abbrev pub first_meta : Meta
 first_meta = record { serial = 0; scan = false; counts = no_counts; pending = 0; keys = 0 }
 
+-- what is kept of a new node: its numbers, and nothing else
 abbrev pub nothing_kept : Kept
 nothing_kept = record { meta = first_meta; mirror = []; polled = []; portfolio = nobody; stamps = []; remotes = []; entries = [] }
 
+-- what is kept with these numbers of the node
 abbrev pub with_meta : Meta → Kept → Kept
 with_meta meta kept = record kept { meta = meta }
 
+-- what is kept with a mark at an upstream key, in the place of the one that was there
 abbrev pub with_mark : MirrorKey → Mark → Kept → Kept
 with_mark key mark kept = record kept { mirror = insert_entry mirror_cmp kept.mirror key mark }
 
+-- what is kept with an upstream key among those that were polled
 abbrev pub with_polled : MirrorKey → Kept → Kept
 with_polled key kept = record kept { polled = insert_key mirror_cmp kept.polled key }
 
+-- what is kept with no polled keys
 abbrev pub with_none_polled : Kept → Kept
 with_none_polled kept = record kept { polled = [] }
 
+-- what is kept with a change of the portfolio
 abbrev pub with_portfolio : (Portfolio → Portfolio) → Kept → Kept
 with_portfolio change kept = record kept { portfolio = change kept.portfolio }
 
+-- what is kept with the stamps of a key of what is shown, in the place of those that were there
 abbrev pub with_stamps : ViewKey → Stamps → Kept → Kept
 with_stamps key stamps kept = record kept { stamps = insert_entry view_cmp kept.stamps key stamps }
 
+-- what is kept without the stamps of a key, where it had some
 abbrev pub without_stamps : ViewKey → Kept → Kept
 without_stamps key kept = record kept { stamps = remove_entry (is_at (view_cmp key)) kept.stamps }
 
@@ -115,6 +128,7 @@ without_stamps key kept = record kept { stamps = remove_entry (is_at (view_cmp k
 abbrev pub with_waiting : ℕ → Entry → Kept → Kept
 with_waiting n entry kept = record kept { entries = insert_entry nat_cmp kept.entries n entry }
 
+-- what is kept without the entry at a number, where there was one
 abbrev pub without_waiting : ℕ → Kept → Kept
 without_waiting n kept = record kept { entries = remove_entry (is_at (nat_cmp n)) kept.entries }
 
@@ -122,6 +136,7 @@ without_waiting n kept = record kept { entries = remove_entry (is_at (nat_cmp n)
 abbrev pub with_remote_id : List ℕ → List ℕ → Kept → Kept
 with_remote_id event id kept = record kept { remotes = insert_entry id_cmp kept.remotes event id }
 
+-- what is kept without the utility's id of the report on an event, where there was one
 abbrev pub without_remote_id : List ℕ → Kept → Kept
 without_remote_id event kept = record kept { remotes = remove_entry (is_at (id_cmp event)) kept.remotes }
 

@@ -40,11 +40,12 @@ use Rattle.adr_db.specs.Tables.{schema}
 use Rattle.adr_db.specs.Kept.{Kept}
 use Rattle.adr_db.specs.Images.{image_kept}
 
--- the number and the text that a value is
+-- the number that a value is, and 0 of any other value
 abbrev pub number_of : Value → ℕ
 number_of (Int (pos n)) = n
 number_of _ = 0
 
+-- the text that a value is, and no text of any other value
 abbrev pub text_of : Value → List ℕ
 text_of (Text t) = t
 text_of _ = []
@@ -87,7 +88,7 @@ meta_in row = record {
 abbrev pub key_in : Row → MirrorKey
 key_in row = record { kind = kind_of (column row 0); id = text_of (column row 1) }
 
--- a version of that moment, where its canonical text reads
+-- a version of that moment, where its canonical text reads, and else a deletion
 abbrev pub live_in : ℕ → Result Body Refusal → Mark
 live_in moment (Ok body) = Live moment body
 live_in moment (Err e) = Dead
@@ -100,12 +101,15 @@ mark_in columns = if number_of (column columns 0) == 1 then live_in (number_of (
 abbrev pub entry_in : Row → MirrorKey × Mark
 entry_in row = (key_in row, mark_in (drop 2 row))
 
+-- when it was created and when it was modified, of the first two columns
 abbrev pub stamps_in : Row → Stamps
 stamps_in columns = record { created = number_of (column columns 0); modified = number_of (column columns 1) }
 
+-- a ven of the columns behind its number: its name and its stamps
 abbrev pub ven_in : Row → Ven
 ven_in columns = record { name = text_of (column columns 0); stamps = stamps_in (drop 1 columns) }
 
+-- a resource of the columns behind its number: its ven, its name and its stamps
 abbrev pub resource_in : Row → Resource
 resource_in columns = record { ven = number_of (column columns 0); name = text_of (column columns 1); stamps = stamps_in (drop 2 columns) }
 
@@ -124,7 +128,7 @@ head_in columns = record {
 abbrev pub interval_in : Row → UsageInterval
 interval_in row = record { id = integer_of (column row 2); usage = usage_of (column row 3) }
 
--- a report behind its number: its intervals are the rows of the other table that begin with that
+-- a report behind its number: its intervals are the rows of the other table that begin with that, in their order
 abbrev pub report_in : List Row → Row → ℕ × Report
 report_in values row = (number_of (column row 0), record { revision = number_of (column row 7); body = record { head = head_in (drop 1 row); intervals = map interval_in (rows_at 1 row values) } })
 
@@ -133,11 +137,12 @@ abbrev pub owner_of : Value → Option ℕ
 owner_of (Int (pos n)) = Some n
 owner_of _ = None
 
--- the body of a subscription, where its text reads
+-- the body of a subscription, where its text reads; else one to nothing, of a client without a name
 abbrev pub body_in : Result SubIn Refusal → SubIn
 body_in (Ok body) = body
 body_in (Err e) = record { client_name = []; program = None; items = []; targets = None }
 
+-- a subscription of the columns behind its number: its body is what its text reads as
 abbrev pub sub_in : Row → Sub
 sub_in columns = record { owner = owner_of (column columns 0); body = body_in (kept_of (text_of (column columns 1))); stamps = stamps_in (drop 2 columns) }
 
@@ -177,6 +182,7 @@ abbrev pub addressee_in : Option (List ℕ) → Row → Addressee
 addressee_in (Some event) columns = Utility event
 addressee_in None columns = Subscriber (number_of (column columns 0)) (text_of (column columns 3)) (name_of (column columns 4))
 
+-- failures, leases, the end of the lease where there is one, and from when on the entry is due
 abbrev pub delivery_in : Row → Delivery
 delivery_in columns = record {
   failures = number_of (column columns 0);
@@ -185,6 +191,7 @@ delivery_in columns = record {
   due = number_of (column columns 4);
 }
 
+-- an entry of the columns behind its number: it goes to the utility where the row has an event
 abbrev pub waiting_in : Row → Entry
 waiting_in columns = record {
   addressee = addressee_in (name_of (column columns 1)) columns;

@@ -20,9 +20,11 @@ IsRefusalFor IsSo refusal = (e : Error) × (refusal ≡ refusal_of e) × IsSo e
 
 -- ---- numbers past what SQL counts
 
+-- 9,223,372,036,854,775,807: the last number that SQL counts
 abbrev pub last_number : ℕ
 last_number = 9_223_372_036_854_775_807
 
+-- the value is a number above the last one
 abbrev pub IsBeyond : Value → Type 0
 IsBeyond (Int (pos n)) = last_number < n
 IsBeyond _ = ⊥
@@ -42,13 +44,15 @@ IsMisread IsReadable value refusal = (refusal ≡ OutOfMemory) ⊎ ((refusal ≡
 abbrev pub CannotRead : {R X : Type 0} → (X → Type 0) → (R → X → Type 0) → R → Refusal → Type 0
 CannotRead Admits Reads from refusal = (refusal ≡ OutOfMemory) ⊎ ((refusal ≡ Store) × ((x : _) → Admits x → ¬ Reads from x))
 
--- so of all rows, of the first of them, and of a count
+-- memory ran out while all rows were read, or nothing that the types admit reads as them, one by one
 abbrev pub CannotReadAll : {X : Type 0} → (X → Type 0) → (Row → X → Type 0) → List Row → Refusal → Type 0
 CannotReadAll Admits Reads = CannotRead (AllByRecursion Admits) (AllZip Reads)
 
+-- memory ran out while the first row was read, or there is one and nothing that the types admit reads as it
 abbrev pub CannotReadFirst : {X : Type 0} → (X → Type 0) → (Row → X → Type 0) → List Row → Refusal → Type 0
 CannotReadFirst Admits Reads = CannotRead (AllByRecursion Admits) (λ rows. AllZip Reads (take 1 rows))
 
+-- memory ran out while a count was read, or the rows are not one row of one count below the last number
 abbrev pub CannotCount : List Row → Refusal → Type 0
 CannotCount = CannotRead (λ m. m < last_number) (λ rows m. rows ≡ (count m ∷ []) ∷ [])
 
@@ -72,10 +76,12 @@ module _ {S : Type 0} (g : Ghosts S) (old new : Held S) where
   abbrev pub IsPutRefusal : List ℕ → Row → Refusal → Type 0
   IsPutRefusal sql params refusal = ((refusal ≡ Store) × HasBeyond params) ⊎ IsRefusalFor (IsErrorOf sql params) refusal
 
+  -- a refusal of a statement into which values are put is that of its own error, or the store's of a number above the
+  -- last one
   abbrev pub RefusesToPut : {T : Type 0} → List ℕ → Row → Result T Refusal → Type 0
   RefusesToPut sql params result = HasCleanDisk (state g new) → IsTrue (state g old).in_transaction → IfErr result (IsPutRefusal sql params)
 
-  -- or memory ran out before, and nothing was done
+  -- so is that of one into which a text is put; or memory ran out before, and nothing was done
   abbrev pub RefusesToPutText : {T : Type 0} → List ℕ → Row → Result T Refusal → Type 0
   RefusesToPutText sql params result = HasCleanDisk (state g new) → IsTrue (state g old).in_transaction → IfErr result (λ refusal. ((refusal ≡ OutOfMemory) × (new ≡ old)) ⊎ IsPutRefusal sql params refusal)
 

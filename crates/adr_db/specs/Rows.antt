@@ -38,10 +38,10 @@ use Rattle.adr_objects.specs.declared.report.ReportHead.{ReportHead}
 use Rattle.adr_objects.specs.declared.report.UsageInterval.{UsageInterval}
 use Rattle.adr_db.specs.declared.meta.Meta.{Meta}
 use Rattle.adr_db.specs.declared.known.MarkColumns.{MarkColumns}
-use Rattle.adr_db.specs.declared.known.MirrorRow.{MirrorRow}
 use Rattle.adr_db.specs.declared.report_columns.ReportColumns.{ReportColumns}
 use Rattle.adr_db.specs.Tables.{version}
 
+-- a number as an integer of SQL
 abbrev pub number : ℕ → Value
 number n = Int (pos n)
 
@@ -49,11 +49,12 @@ number n = Int (pos n)
 abbrev pub flag_cell : Bool → Value
 flag_cell b = Int (if b then pos 1 else pos 0)
 
--- how many entries there were, and what became of them
+-- how many entries were made, and how many were sent, given up and dropped
 abbrev pub counts_row : EntryCounts → Row
 counts_row c = number c.made ∷ number c.sent ∷ number c.given_up ∷ number c.dropped ∷ []
 
--- the numbers of the node, behind the key 1 and the version of the tables
+-- the numbers of the node, behind the key 1 and the version of the tables: the serial, whether a scan is open, the
+-- counts made, sent, given up and dropped, how many entries wait, and how many keys the mirror has
 abbrev pub meta_row : Meta → Row
 meta_row m =
     number 1
@@ -68,7 +69,7 @@ meta_row m =
     ∷ number m.keys
     ∷ []
 
--- the numbers of the node alone
+-- the numbers of the node alone, as `meta_row` has them behind the key and the version
 abbrev pub meta_numbers : Meta → Row
 meta_numbers m =
     number m.serial
@@ -101,12 +102,15 @@ mark_row e = key_row e.0 ++ mark_columns e.1
 
 -- ---- vens, resources and shares
 
+-- a number alone, as the key of a row
 abbrev pub number_row : ℕ → Row
 number_row n = number n ∷ []
 
+-- when it was created, and when it was modified, in nanoseconds from 1970
 abbrev pub stamps_columns : Stamps → Row
 stamps_columns stamps = number stamps.created ∷ number stamps.modified ∷ []
 
+-- a ven's name and its stamps
 abbrev pub ven_columns : Ven → Row
 ven_columns ven = Text ven.name ∷ stamps_columns ven.stamps
 
@@ -114,6 +118,7 @@ ven_columns ven = Text ven.name ∷ stamps_columns ven.stamps
 abbrev pub ven_row : ℕ × Ven → Row
 ven_row e = number e.0 ∷ ven_columns e.1
 
+-- a resource's ven, its name and its stamps
 abbrev pub resource_columns : Resource → Row
 resource_columns resource = number resource.ven ∷ Text resource.name ∷ stamps_columns resource.stamps
 
@@ -131,14 +136,15 @@ share_row e = Text e.0.program ∷ number e.0.resource ∷ number e.1 ∷ []
 
 -- ---- reports
 
--- a name, where there is one
+-- a name, and NULL where there is none
 abbrev pub name_cell : Option (List ℕ) → Value
 name_cell = or_null Text
 
--- what a report is about, and its revision
+-- what a report is about, and its revision: event, resource, program, client, name or NULL, resource name, revision
 abbrev pub head_columns : ReportHead → ℕ → Row
 head_columns head revision = Text head.event ∷ number head.resource ∷ Text head.program ∷ Text head.client ∷ name_cell head.name ∷ Text head.resource_name ∷ number revision ∷ []
 
+-- what a report is about, and its revision
 abbrev pub report_columns : Report → Row
 report_columns report = head_columns report.body.head report.revision
 
@@ -146,14 +152,15 @@ report_columns report = head_columns report.body.head report.revision
 abbrev pub report_row : ℕ × Report → Row
 report_row e = number e.0 ∷ report_columns e.1
 
--- a usage, where there is one
+-- a usage, and NULL where there is none
 abbrev pub usage_cell : Option ℤ → Value
 usage_cell = or_null Int
 
+-- the id of an interval, and its usage or NULL
 abbrev pub interval_columns : UsageInterval → Row
 interval_columns interval = Int interval.id ∷ usage_cell interval.usage ∷ []
 
--- the interval at a place of the report of a number
+-- the interval at a place of the report of a number: both, its id, and its usage or NULL
 abbrev pub value_row : ℕ → ℕ → UsageInterval → Row
 value_row n place interval = number n ∷ number place ∷ interval_columns interval
 
@@ -168,11 +175,11 @@ value_rows e = value_rows_from e.0 0 e.1.body.intervals
 
 -- ---- subscriptions
 
--- the ven that one is of, where it is of one
+-- the ven that one is of, and NULL where it is of none
 abbrev pub owner_cell : Option ℕ → Value
 owner_cell = or_null number
 
--- its body as the text that is kept of it, with its tokens
+-- the ven that it is of or NULL, its body as the text that is kept of it, with its tokens, and its stamps
 abbrev pub sub_columns : Sub → Row
 sub_columns sub = owner_cell sub.owner ∷ Text (kept_text sub.body) ∷ stamps_columns sub.stamps
 
@@ -182,6 +189,7 @@ sub_row e = number e.0 ∷ sub_columns e.1
 
 -- ---- the outbox
 
+-- an upstream event, as the key of a row of `remote`
 abbrev pub event_key_row : List ℕ → Row
 event_key_row event = Text event ∷ []
 
@@ -206,9 +214,11 @@ abbrev pub lease_end : Option ℕ → ℕ
 lease_end None = 0
 lease_end (Some until) = until
 
+-- failures, leases, whether there is a lease, its end, and from when on the entry is due
 abbrev pub delivery_columns : Delivery → Row
 delivery_columns d = number d.failures ∷ number d.leases ∷ flag_cell (is_some d.lease) ∷ number (lease_end d.lease) ∷ number d.due ∷ []
 
+-- an entry: destination, event or NULL, operation, address, token or NULL, body, and its delivery
 abbrev pub entry_columns : Entry → Row
 entry_columns e =
     number (destination e.addressee)
@@ -246,6 +256,7 @@ view_number (view.Event id resource) = resource
 view_number (view.Report n) = n
 view_number (view.Rollup id) = 0
 
+-- a key of what is shown: its kind, the upstream id, and the number
 abbrev pub view_key_row : ViewKey → Row
 view_key_row key = number (view_kind key) ∷ Text (view_id key) ∷ number (view_number key) ∷ []
 
@@ -267,6 +278,7 @@ as_stored (Ok x) = Ok x
 as_stored (Err OutOfMemory) = Err OutOfMemory
 as_stored (Err e) = Err Store
 
+-- a version of that moment which says that; the store's refusal where either was not read
 abbrev pub live_from : Result ℕ Refusal → Result Body Refusal → Result Mark Refusal
 live_from (Ok moment) (Ok body) = Ok (Live moment body)
 live_from (Ok moment) (Err e) = Err Store
@@ -277,12 +289,10 @@ abbrev pub mark_from : MarkColumns → Result Mark Refusal
 mark_from columns =
     if columns.state == 1 then live_from (moment_at (pos columns.moment)) (canonical_of (string_bytes columns.body)) else (if columns.state == 2 then Ok Dead else Err Store)
 
+-- the state, the moment and the text of a mark, as the row has them
 abbrev pub columns_row : MarkColumns → Row
 columns_row columns = number columns.state ∷ number columns.moment ∷ Text (string_bytes columns.body) ∷ []
 
 -- the columns of a report, without its intervals
 abbrev pub report_columns_row : ReportColumns → Row
 report_columns_row columns = head_columns columns.head columns.revision
-
-abbrev pub mirror_row : MirrorRow → Row
-mirror_row row = key_row row.key ++ columns_row row.mark

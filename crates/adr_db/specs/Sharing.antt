@@ -5,6 +5,7 @@ use Rattle.std.specs.Ordering.{nat_cmp, is_eq}
 use Rattle.adr_state.specs.declared.keys.ShareKey.{ShareKey}
 use Rattle.adr_state.specs.declared.participants.Participant.{Participant}
 use Rattle.adr_state.specs.Keys.{id_cmp, at}
+use Rattle.adr_state.specs.Participants.{is_for}
 use Rattle.adr_db.specs.Kept.{Kept}
 
 -- whether a share is one in the program
@@ -20,3 +21,7 @@ sharer kept share =
 -- those with a share in the program, in the order of its shares
 abbrev pub sharers : List ℕ → Kept → List Participant
 sharers program kept = filter_map (sharer kept) (filter (is_in program) kept.portfolio.shares)
+
+-- those for whose names an event with these resource names, if any, is
+abbrev pub those_for : Option (List (List ℕ)) → List Participant → List Participant
+those_for names = filter (λ p. is_for names p.name)

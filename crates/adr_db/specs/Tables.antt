@@ -136,6 +136,8 @@ outbox_table =
     ∷ column (codes "due") Integer
     ∷ []) ((1 ∷ []) ∷ (2 ∷ 1 ∷ []) ∷ []) (1 ∷ []) []
 
+-- `meta`, `mirror`, `polled`, `ven`, `resource`, `share`, `stamp`, `report`, `report_value`, `sub`, `remote` and
+-- `outbox`, in this order
 abbrev pub tables : List Table
 tables =
     meta_table
@@ -152,6 +154,7 @@ tables =
     ∷ outbox_table
     ∷ []
 
+-- the schema after these tables were made, one after another, from an empty database
 abbrev pub schema : Schema
 schema = schema_of tables
 

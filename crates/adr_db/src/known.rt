@@ -3,12 +3,12 @@ ghost use Rattle.std.specs.Prelude.{OnOk, IfErr};
 ghost use Rattle.adr_text.specs.Refusals.{Gives};
 ghost use Rattle.adr_db.specs.Rows.{mark_from};
 ghost use Rattle.adr_db.specs.Calls.{IsOfStore};
-ghost use Rattle.adr_db.specs.Admitted.{AreColumns, IsMirrorRow, ReadsColumns, ReadsMirrorRow, ReadsMark};
+ghost use Rattle.adr_db.specs.Admitted.{AreColumns, ReadsColumns, ReadsMark};
 
 use crate::cells::{as_stored, column};
 use crate::reading::FromRow;
 use adr_objects::read_canonical;
-use adr_state::{Mark, MirrorKey};
+use adr_state::Mark;
 use adr_text::{Moment, Refusal};
 use sqlite::Row;
 use std::alloc::Global;
@@ -23,13 +23,6 @@ pub struct MarkColumns {
     pub body: String,
 }
 
-/// A key with its mark as it is kept.
-#[derive(Drop)]
-pub struct MirrorRow {
-    pub key: MirrorKey,
-    pub mark: MarkColumns,
-}
-
 impl FromRow for MarkColumns {
     ghost reads = { ReadsColumns };
 
@@ -40,19 +33,6 @@ impl FromRow for MarkColumns {
             state: column(row, 2)?,
             moment: column(row, 3)?,
             body: column(row, 4)?,
-        })
-    }
-}
-
-impl FromRow for MirrorRow {
-    ghost reads = { ReadsMirrorRow };
-
-    ghost admits = { IsMirrorRow };
-
-    fn from_row(alloc: Global, row: &Row) -> Result<MirrorRow, Refusal> {
-        Ok(MirrorRow {
-            key: MirrorKey::from_row(alloc, row)?,
-            mark: MarkColumns::from_row(alloc, row)?,
         })
     }
 }

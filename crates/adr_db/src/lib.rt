@@ -14,7 +14,7 @@ mod stamps;
 pub mod statement;
 mod sub;
 
-pub use known::{MarkColumns, MirrorRow};
+pub use known::MarkColumns;
 pub use meta::{Meta, put_meta, read_meta};
 pub use outbox::RemoteRow;
 pub use report_columns::ReportColumns;

@@ -4,7 +4,7 @@ ghost use Rattle.sqlite.specs.Order.{column};
 ghost use Rattle.sqlite.specs.declared.types.Value.TheVariants.{Int};
 ghost use Rattle.adr_sql.specs.Keys.{cells, with_row};
 ghost use Rattle.adr_sql.specs.Contents.{rows_of_table, with_table};
-ghost use Rattle.adr_sql.specs.Calls.{Stays, Changes};
+ghost use Rattle.adr_sql.specs.Calls.{LeavesLent, Changes};
 ghost use Rattle.adr_db.specs.Tables.{schema};
 ghost use Rattle.adr_db.specs.Rows.{meta_row, meta_numbers, counts_row, number};
 ghost use Rattle.adr_db.specs.Refusals.{RefusesToPut, RefusesToShow, IsMisread, CannotRead};
@@ -62,8 +62,7 @@ impl Meta {
 
 /// Writes the one row.
 pub(crate) fn write_meta<S: Alter>(tx: &mut Transaction<'_, S>, meta: &Meta) -> Result<(), Refusal>
-    ensures same_reference { tx.new.conn.ghost_name ≡ tx.old.conn.ghost_name }
-    ensures stays { Stays S.Store tx.old.conn.now tx.new.conn.now result }
+    ensures lent { LeavesLent S.Store tx.old.conn tx.new.conn result }
     ensures changes { Changes S.Store tx.old.conn.now tx.new.conn.now schema (λ all. with_table all 0 (with_row 1 (meta_row meta.now) (rows_of_table all 0))) result }
     ensures refused { IfErr result IsOfStore }
     ensures fails { RefusesToPut S.Store tx.old.conn.now tx.new.conn.now PUT.now (meta_numbers meta.now) result }
@@ -86,8 +85,7 @@ pub(crate) fn write_meta<S: Alter>(tx: &mut Transaction<'_, S>, meta: &Meta) -> 
 
 /// Puts the numbers of the node in the place of those that are kept.
 pub fn put_meta<S: Alter>(tx: &mut Transaction<'_, S>, meta: &Meta) -> Result<(), Refusal>
-    ensures same_reference { tx.new.conn.ghost_name ≡ tx.old.conn.ghost_name }
-    ensures stays { Stays S.Store tx.old.conn.now tx.new.conn.now result }
+    ensures lent { LeavesLent S.Store tx.old.conn tx.new.conn result }
     ensures leaves { LeavesKept S.Store tx.old.conn.now tx.new.conn.now (with_meta meta.now) result }
     ensures refused { IfErr result IsOfStore }
     ensures fails { RefusesToPut S.Store tx.old.conn.now tx.new.conn.now PUT.now (meta_numbers meta.now) result }
@@ -147,8 +145,7 @@ impl FromRow for Meta {
 
 /// The numbers of the node.
 pub fn read_meta<S: Alter>(tx: &mut Transaction<'_, S>) -> Result<Meta, Refusal>
-    ensures same_reference { tx.new.conn.ghost_name ≡ tx.old.conn.ghost_name }
-    ensures stays { Stays S.Store tx.old.conn.now tx.new.conn.now result }
+    ensures lent { LeavesLent S.Store tx.old.conn tx.new.conn result }
     ensures finds { Finds S.Store tx.old.conn.now tx.new.conn.now (λ kept meta. meta ≡ kept.meta) result }
     ensures refused { IfErr result IsOfStore }
     ensures fails { RefusesToShow S.Store tx.old.conn.now tx.new.conn.now READ.now [] (CannotRead AreNumbers (λ rows meta. AllZip ReadsMeta (take 1 rows) (meta ∷ []))) result }

@@ -4,7 +4,7 @@ ghost use Rattle.std.specs.List.{AllZip};
 ghost use Rattle.sqlite.specs.Order.{column};
 ghost use Rattle.sqlite.specs.Values.{bound};
 ghost use Rattle.sqlite_sql.specs.Aggregate.{count};
-ghost use Rattle.adr_sql.specs.Calls.{Stays};
+ghost use Rattle.adr_sql.specs.Calls.{LeavesLent};
 ghost use Rattle.adr_state.specs.Keys.{map_of};
 ghost use Rattle.adr_db.specs.Calls.{Shows, IsOfStore};
 ghost use Rattle.adr_db.specs.Refusals.{CannotRead, CannotReadAll, CannotReadFirst, CannotCount, RefusesToShow};
@@ -63,8 +63,7 @@ pub fn all_of<T: FromRow, S: Alter>(
     sql: &str,
     params: &[ValueRef<'_>],
 ) -> Result<Rows<T>, Refusal>
-    ensures same_reference { tx.new.conn.ghost_name ≡ tx.old.conn.ghost_name }
-    ensures stays { Stays S.Store tx.old.conn.now tx.new.conn.now result }
+    ensures lent { LeavesLent S.Store tx.old.conn tx.new.conn result }
     ensures shows { Shows S.Store tx.old.conn.now tx.new.conn.now sql.now (bound params.now) (AllZip T.reads) result }
     ensures refused { IfErr result IsOfStore }
     ensures fails { RefusesToShow S.Store tx.old.conn.now tx.new.conn.now sql.now (bound params.now) (CannotReadAll T.admits T.reads) result }
@@ -91,8 +90,7 @@ pub fn first_of<T: FromRow, S: Alter>(
     sql: &str,
     params: &[ValueRef<'_>],
 ) -> Result<Option<T>, Refusal>
-    ensures same_reference { tx.new.conn.ghost_name ≡ tx.old.conn.ghost_name }
-    ensures stays { Stays S.Store tx.old.conn.now tx.new.conn.now result }
+    ensures lent { LeavesLent S.Store tx.old.conn tx.new.conn result }
     ensures shows { Shows S.Store tx.old.conn.now tx.new.conn.now sql.now (bound params.now) (λ rows found. AllZip T.reads (take 1 rows) (option_to_list found)) result }
     ensures refused { IfErr result IsOfStore }
     ensures fails { RefusesToShow S.Store tx.old.conn.now tx.new.conn.now sql.now (bound params.now) (CannotReadFirst T.admits T.reads) result }
@@ -119,8 +117,7 @@ pub fn table_of<K: Ord + Drop, V: Drop>(
 /// The number that the query counts, which is all that it shows. SQL counts no further than
 /// 9,223,372,036,854,775,807: that is the store's refusal.
 pub fn count_of<S: Alter>(tx: &mut Transaction<'_, S>, sql: &str) -> Result<u64, Refusal>
-    ensures same_reference { tx.new.conn.ghost_name ≡ tx.old.conn.ghost_name }
-    ensures stays { Stays S.Store tx.old.conn.now tx.new.conn.now result }
+    ensures lent { LeavesLent S.Store tx.old.conn tx.new.conn result }
     ensures shows { Shows S.Store tx.old.conn.now tx.new.conn.now sql.now [] (λ rows n. (m : ℕ) → rows ≡ (count m ∷ []) ∷ [] → n ≡ m) result }
     ensures refused { IfErr result IsOfStore }
     ensures fails { RefusesToShow S.Store tx.old.conn.now tx.new.conn.now sql.now [] CannotCount result }

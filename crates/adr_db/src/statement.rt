@@ -1,7 +1,7 @@
 //! One statement, with the errors of the store as refusals.
 ghost use Rattle.std.specs.Prelude.{◌≡◌, IfErr};
 ghost use Rattle.sqlite.specs.Values.{bound};
-ghost use Rattle.adr_sql.specs.Calls.{Stays, Runs, Answers};
+ghost use Rattle.adr_sql.specs.Calls.{LeavesLent, Runs, Answers};
 ghost use Rattle.adr_db.specs.Calls.{IsOfStore, refusal_of};
 ghost use Rattle.adr_db.specs.Refusals.{RefusesToRun, RefusesToAnswer};
 
@@ -26,8 +26,7 @@ pub fn run<S: Alter>(
     sql: &str,
     params: &[ValueRef<'_>],
 ) -> Result<(), Refusal>
-    ensures same_reference { tx.new.conn.ghost_name ≡ tx.old.conn.ghost_name }
-    ensures stays { Stays S.Store tx.old.conn.now tx.new.conn.now result }
+    ensures lent { LeavesLent S.Store tx.old.conn tx.new.conn result }
     ensures runs { Runs S.Store tx.old.conn.now tx.new.conn.now sql.now (bound params.now) result }
     ensures refused { IfErr result IsOfStore }
     ensures fails { RefusesToRun S.Store tx.old.conn.now tx.new.conn.now sql.now (bound params.now) result }
@@ -41,8 +40,7 @@ pub fn rows_of<S: Alter>(
     sql: &str,
     params: &[ValueRef<'_>],
 ) -> Result<Vec<Row>, Refusal>
-    ensures same_reference { tx.new.conn.ghost_name ≡ tx.old.conn.ghost_name }
-    ensures stays { Stays S.Store tx.old.conn.now tx.new.conn.now result }
+    ensures lent { LeavesLent S.Store tx.old.conn tx.new.conn result }
     ensures answers { Answers S.Store tx.old.conn.now tx.new.conn.now sql.now (bound params.now) (λ rows. rows.items) result }
     ensures refused { IfErr result IsOfStore }
     ensures fails { RefusesToAnswer S.Store tx.old.conn.now tx.new.conn.now sql.now (bound params.now) result }

@@ -1,20 +1,20 @@
 //! The table `mirror`: what is known of each upstream key.
-ghost use Rattle.std.specs.Prelude.{◌≡◌, ⊤, [], map, option_map, IfOk, OnOk, IfErr};
+ghost use Rattle.std.specs.Prelude.{◌≡◌, ⊤, [], option_map, IfOk, OnOk, IfErr};
 ghost use Rattle.adr_state.specs.Keys.{mirror_cmp, at};
-ghost use Rattle.adr_sql.specs.Calls.{Stays};
-ghost use Rattle.adr_db.specs.Rows.{key_row, mark_columns, mark_row, columns_row, mirror_row};
+ghost use Rattle.adr_sql.specs.Calls.{LeavesLent};
+ghost use Rattle.adr_db.specs.Rows.{key_row, mark_columns, mark_row, columns_row};
 ghost use Rattle.adr_db.specs.Kept.{IsMark, with_mark};
 ghost use Rattle.adr_db.specs.Calls.{LeavesKept, Finds, IsOfStore};
 ghost use Rattle.adr_db.specs.Refusals.{RefusesToPut, RefusesToPutText, RefusesToShow, CannotReadFirst, CannotReadAll};
-ghost use Rattle.adr_db.specs.Admitted.{AreColumns, IsMirrorRow, IsEntry, ReadsColumns, ReadsMirrorRow, ReadsMark, ReadsEntry};
+ghost use Rattle.adr_db.specs.Admitted.{AreColumns, IsEntry, ReadsColumns, ReadsMark, ReadsEntry};
 
+use adr_db::MarkColumns;
 use adr_db::cells::{kind_number, number};
 use adr_db::reading::{all_of, first_in, first_of, table_of};
 use adr_db::statement::{rows_of, run};
-use adr_db::{MarkColumns, MirrorRow};
 use adr_objects::canonical;
 use adr_state::{Mark, MirrorKey};
-use adr_text::{Refusal, Rows, Table};
+use adr_text::{Refusal, Table};
 use sqlite::types::ToSql;
 use sqlite::{Alter, Transaction};
 use std::alloc::{AllocError, Global};
@@ -53,8 +53,7 @@ fn put_columns<S: Alter>(
 ) -> Result<(), Refusal>
     requires same { columns_row columns.now ≡ mark_columns mark.now }
     requires valid { IsMark mark.now }
-    ensures same_reference { tx.new.conn.ghost_name ≡ tx.old.conn.ghost_name }
-    ensures stays { Stays S.Store tx.old.conn.now tx.new.conn.now result }
+    ensures lent { LeavesLent S.Store tx.old.conn tx.new.conn result }
     ensures leaves { LeavesKept S.Store tx.old.conn.now tx.new.conn.now (with_mark key.now mark.now) result }
     ensures refused { IfErr result IsOfStore }
     ensures fails { RefusesToPut S.Store tx.old.conn.now tx.new.conn.now PUT.now (mark_row (key.now, mark.now)) result }
@@ -79,8 +78,7 @@ pub fn put_mark<S: Alter>(
     key: &MirrorKey,
     mark: &Mark,
 ) -> Result<(), Refusal>
-    ensures same_reference { tx.new.conn.ghost_name ≡ tx.old.conn.ghost_name }
-    ensures stays { Stays S.Store tx.old.conn.now tx.new.conn.now result }
+    ensures lent { LeavesLent S.Store tx.old.conn tx.new.conn result }
     ensures leaves { LeavesKept S.Store tx.old.conn.now tx.new.conn.now (with_mark key.now mark.now) result }
     ensures refused { IfErr result IsOfStore }
     ensures fails { RefusesToPutText S.Store tx.old.conn.now tx.new.conn.now PUT.now (mark_row (key.now, mark.now)) result }
@@ -94,8 +92,7 @@ pub fn read_mark<S: Alter>(
     tx: &mut Transaction<'_, S>,
     key: &MirrorKey,
 ) -> Result<Option<MarkColumns>, Refusal>
-    ensures same_reference { tx.new.conn.ghost_name ≡ tx.old.conn.ghost_name }
-    ensures stays { Stays S.Store tx.old.conn.now tx.new.conn.now result }
+    ensures lent { LeavesLent S.Store tx.old.conn tx.new.conn result }
     ensures finds { Finds S.Store tx.old.conn.now tx.new.conn.now (λ kept found. option_map columns_row found ≡ option_map mark_columns (at mirror_cmp key.now kept.mirror)) result }
     ensures refused { IfErr result IsOfStore }
     ensures fails { RefusesToShow S.Store tx.old.conn.now tx.new.conn.now READ_ONE.now (key_row key.now) (CannotReadFirst AreColumns ReadsColumns) result }
@@ -114,8 +111,7 @@ pub fn read_known<S: Alter>(
     tx: &mut Transaction<'_, S>,
     key: &MirrorKey,
 ) -> Result<Option<Mark>, Refusal>
-    ensures same_reference { tx.new.conn.ghost_name ≡ tx.old.conn.ghost_name }
-    ensures stays { Stays S.Store tx.old.conn.now tx.new.conn.now result }
+    ensures lent { LeavesLent S.Store tx.old.conn tx.new.conn result }
     ensures finds { Finds S.Store tx.old.conn.now tx.new.conn.now (λ kept known. known ≡ at mirror_cmp key.now kept.mirror) result }
     ensures refused { IfErr result IsOfStore }
     ensures fails { RefusesToShow S.Store tx.old.conn.now tx.new.conn.now READ_ONE.now (key_row key.now) (CannotReadFirst (λ mark. ⊤) ReadsMark) result }
@@ -128,27 +124,12 @@ pub fn read_known<S: Alter>(
     )
 }
 
-/// The mirror: programs before events, each by the bytes of its id.
-pub fn read_marks<S: Alter>(
-    alloc: Global,
-    tx: &mut Transaction<'_, S>,
-) -> Result<Rows<MirrorRow>, Refusal>
-    ensures same_reference { tx.new.conn.ghost_name ≡ tx.old.conn.ghost_name }
-    ensures stays { Stays S.Store tx.old.conn.now tx.new.conn.now result }
-    ensures finds { Finds S.Store tx.old.conn.now tx.new.conn.now (λ kept rows. map mirror_row rows ≡ map mark_row kept.mirror) result }
-    ensures refused { IfErr result IsOfStore }
-    ensures fails { RefusesToShow S.Store tx.old.conn.now tx.new.conn.now READ_ALL.now [] (CannotReadAll IsMirrorRow ReadsMirrorRow) result }
-{
-    all_of(alloc, tx, READ_ALL, &[])
-}
-
 /// The whole mirror as the map that it is.
 pub fn read_mirror<S: Alter>(
     alloc: Global,
     tx: &mut Transaction<'_, S>,
 ) -> Result<Table<MirrorKey, Mark>, Refusal>
-    ensures same_reference { tx.new.conn.ghost_name ≡ tx.old.conn.ghost_name }
-    ensures stays { Stays S.Store tx.old.conn.now tx.new.conn.now result }
+    ensures lent { LeavesLent S.Store tx.old.conn tx.new.conn result }
     ensures finds { Finds S.Store tx.old.conn.now tx.new.conn.now (λ kept mirror. mirror ≡ kept.mirror) result }
     ensures refused { IfErr result IsOfStore }
     ensures fails { RefusesToShow S.Store tx.old.conn.now tx.new.conn.now READ_ALL.now [] (CannotReadAll IsEntry ReadsEntry) result }

@@ -4,7 +4,7 @@ ghost use Rattle.std.specs.BTreeSet.{insert_key};
 ghost use Rattle.std.specs.List.{AllZip};
 ghost use Rattle.adr_text.specs.declared.refusal.Refusal.TheVariants.{OutOfMemory};
 ghost use Rattle.adr_state.specs.Keys.{mirror_cmp};
-ghost use Rattle.adr_sql.specs.Calls.{Stays};
+ghost use Rattle.adr_sql.specs.Calls.{LeavesLent};
 ghost use Rattle.adr_db.specs.Kept.{with_polled, with_none_polled};
 ghost use Rattle.adr_db.specs.Calls.{LeavesKept, Finds, Shows, IsOfStore};
 ghost use Rattle.adr_db.specs.Rows.{key_row};
@@ -29,8 +29,7 @@ const READ_ALL: &str = "SELECT kind, id FROM polled ORDER BY kind, id";
 
 /// The key joins the polled ones.
 pub fn put_polled<S: Alter>(tx: &mut Transaction<'_, S>, key: &MirrorKey) -> Result<(), Refusal>
-    ensures same_reference { tx.new.conn.ghost_name ≡ tx.old.conn.ghost_name }
-    ensures stays { Stays S.Store tx.old.conn.now tx.new.conn.now result }
+    ensures lent { LeavesLent S.Store tx.old.conn tx.new.conn result }
     ensures leaves { LeavesKept S.Store tx.old.conn.now tx.new.conn.now (with_polled key.now) result }
     ensures refused { IfErr result IsOfStore }
     ensures fails { RefusesToRun S.Store tx.old.conn.now tx.new.conn.now PUT.now (key_row key.now) result }
@@ -44,8 +43,7 @@ pub fn put_polled<S: Alter>(tx: &mut Transaction<'_, S>, key: &MirrorKey) -> Res
 
 /// No key is polled any more.
 pub fn clear_polled<S: Alter>(tx: &mut Transaction<'_, S>) -> Result<(), Refusal>
-    ensures same_reference { tx.new.conn.ghost_name ≡ tx.old.conn.ghost_name }
-    ensures stays { Stays S.Store tx.old.conn.now tx.new.conn.now result }
+    ensures lent { LeavesLent S.Store tx.old.conn tx.new.conn result }
     ensures leaves { LeavesKept S.Store tx.old.conn.now tx.new.conn.now with_none_polled result }
     ensures refused { IfErr result IsOfStore }
     ensures fails { RefusesToRun S.Store tx.old.conn.now tx.new.conn.now CLEAR.now [] result }
@@ -58,8 +56,7 @@ pub fn read_polled<S: Alter>(
     alloc: Global,
     tx: &mut Transaction<'_, S>,
 ) -> Result<Rows<MirrorKey>, Refusal>
-    ensures same_reference { tx.new.conn.ghost_name ≡ tx.old.conn.ghost_name }
-    ensures stays { Stays S.Store tx.old.conn.now tx.new.conn.now result }
+    ensures lent { LeavesLent S.Store tx.old.conn tx.new.conn result }
     ensures finds { Finds S.Store tx.old.conn.now tx.new.conn.now (λ kept keys. keys ≡ kept.polled) result }
     ensures shows { Shows S.Store tx.old.conn.now tx.new.conn.now READ_ALL.now [] (AllZip ReadsKey) result }
     ensures refused { IfErr result IsOfStore }
@@ -85,8 +82,7 @@ pub fn read_polled_set<S: Alter>(
     alloc: Global,
     tx: &mut Transaction<'_, S>,
 ) -> Result<Polled, Refusal>
-    ensures same_reference { tx.new.conn.ghost_name ≡ tx.old.conn.ghost_name }
-    ensures stays { Stays S.Store tx.old.conn.now tx.new.conn.now result }
+    ensures lent { LeavesLent S.Store tx.old.conn tx.new.conn result }
     ensures finds { Finds S.Store tx.old.conn.now tx.new.conn.now (λ kept polled. polled ≡ kept.polled) result }
     ensures refused { IfErr result IsOfStore }
     ensures fails { RefusesToShow S.Store tx.old.conn.now tx.new.conn.now READ_ALL.now [] (CannotReadAll IsKey ReadsKey) result }

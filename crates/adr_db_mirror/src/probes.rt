@@ -2,7 +2,7 @@
 ghost use Rattle.std.specs.Prelude.{◌≡◌, [], ◌∷◌, IfErr};
 ghost use Rattle.sqlite_value.specs.Value.{owned};
 ghost use Rattle.sqlite.specs.declared.types.Value.TheVariants.{Int};
-ghost use Rattle.adr_sql.specs.Calls.{Stays};
+ghost use Rattle.adr_sql.specs.Calls.{LeavesLent};
 ghost use Rattle.adr_state.specs.Scans.{probes};
 ghost use Rattle.adr_db.specs.Kept.{at_most, limit_number};
 ghost use Rattle.adr_db.specs.Calls.{Finds, IsOfStore};
@@ -36,8 +36,7 @@ pub fn read_unseen<S: Alter>(
     tx: &mut Transaction<'_, S>,
     limit: Option<u32>,
 ) -> Result<Rows<MirrorKey>, Refusal>
-    ensures same_reference { tx.new.conn.ghost_name ≡ tx.old.conn.ghost_name }
-    ensures stays { Stays S.Store tx.old.conn.now tx.new.conn.now result }
+    ensures lent { LeavesLent S.Store tx.old.conn tx.new.conn result }
     ensures finds { Finds S.Store tx.old.conn.now tx.new.conn.now (λ kept keys. keys ≡ at_most limit (probes kept.mirror kept.polled)) result }
     ensures refused { IfErr result IsOfStore }
     ensures fails { RefusesToShow S.Store tx.old.conn.now tx.new.conn.now READ_UNSEEN.now (Int (limit_number limit) ∷ []) (CannotReadAll IsKey ReadsKey) result }

@@ -1,7 +1,7 @@
 //! Which entry leaves next, from the table `outbox`.
 ghost use Rattle.std.specs.Prelude.{◌≡◌, [], ◌∷◌, IfErr};
 ghost use Rattle.adr_delivery.specs.Next.{next_entry};
-ghost use Rattle.adr_sql.specs.Calls.{Stays};
+ghost use Rattle.adr_sql.specs.Calls.{LeavesLent};
 ghost use Rattle.adr_db.specs.Rows.{number};
 ghost use Rattle.adr_db.specs.Calls.{Finds, IsOfStore};
 ghost use Rattle.adr_db.specs.Refusals.{RefusesToShow, CannotReadFirst};
@@ -25,8 +25,7 @@ pub fn read_next<S: Alter>(
     tx: &mut Transaction<'_, S>,
     now: Moment,
 ) -> Result<Option<(Number, Entry)>, Refusal>
-    ensures same_reference { tx.new.conn.ghost_name ≡ tx.old.conn.ghost_name }
-    ensures stays { Stays S.Store tx.old.conn.now tx.new.conn.now result }
+    ensures lent { LeavesLent S.Store tx.old.conn tx.new.conn result }
     ensures finds { Finds S.Store tx.old.conn.now tx.new.conn.now (λ kept next. next ≡ next_entry now kept.entries) result }
     ensures refused { IfErr result IsOfStore }
     ensures fails { RefusesToShow S.Store tx.old.conn.now tx.new.conn.now READ_NEXT.now (number now ∷ []) (CannotReadFirst IsWaitingEntry ReadsWaitingEntry) result }

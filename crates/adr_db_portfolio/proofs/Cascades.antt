@@ -193,8 +193,8 @@ module _ (kept : Kept) (s : State) (was : Keeps kept s) where
       (λ r has go. number_full (λ v. v == n) (column r 1) go) (child_same ven_columns kept.portfolio.vens 1 (map sub_row kept.portfolio.subs) subs_named n) in
       record {
         cascading = refl;
-        along = (tt, (tt, (tt, (tt, ((resources.0, tt), ((shares.0, tt), (tt, ((reports.0, tt), ((values.0, tt), ((subs.0, tt), (tt, (tt, tt))))))))))));
-        because = (tt, (tt, (tt, ((λ r has go. inl refl), (resources.1, (shares.1, (tt, (reports.1, (values.1, (subs.1, (tt, (tt, tt))))))))))));
+        along = ((resources.0, tt), ((shares.0, tt), ((reports.0, tt), ((values.0, tt), ((subs.0, tt), tt)))));
+        because = ((λ r has go. inl refl), (resources.1, (shares.1, (reports.1, (values.1, (subs.1, tt))))));
       }
 
   -- the shares of the resource and the reports on it, and the intervals of these
@@ -218,8 +218,8 @@ module _ (kept : Kept) (s : State) (was : Keeps kept s) where
       (parent_says report_columns kept.portfolio.reports 0 (flat_map value_rows kept.portfolio.reports) (named_values kept.portfolio.reports) rows_of_reports_rise (λ row. is_number (λ r. r == n) (column row 2)) (λ report. report.body.head.resource == n) (λ k v. refl)) in
       record {
         cascading = refl;
-        along = (tt, (tt, (tt, (tt, ((tt, tt), ((shares.0, tt), (tt, ((reports.0, tt), ((values.0, tt), ((tt, tt), (tt, (tt, tt))))))))))));
-        because = (tt, (tt, (tt, (tt, ((λ r has go. inl refl), (shares.1, (tt, (reports.1, (values.1, (tt, (tt, (tt, tt))))))))))));
+        along = ((shares.0, tt), ((reports.0, tt), ((values.0, tt), tt)));
+        because = ((λ r has go. inl refl), (shares.1, (reports.1, (values.1, tt))));
       }
 
   -- the intervals of the report
@@ -234,8 +234,8 @@ module _ (kept : Kept) (s : State) (was : Keeps kept s) where
       (child_same report_columns kept.portfolio.reports 0 (flat_map value_rows kept.portfolio.reports) (named_values kept.portfolio.reports) n) in
       record {
         cascading = refl;
-        along = (tt, (tt, (tt, (tt, ((tt, tt), ((tt, tt), (tt, ((tt, tt), ((values.0, tt), ((tt, tt), (tt, (tt, tt))))))))))));
-        because = (tt, (tt, (tt, (tt, (tt, (tt, (tt, ((λ r has go. inl refl), (values.1, (tt, (tt, (tt, tt))))))))))));
+        along = ((values.0, tt), tt);
+        because = ((λ r has go. inl refl), (values.1, tt));
       }
 
 -- a table with other rows, by its name

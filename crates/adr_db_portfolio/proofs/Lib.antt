@@ -7,3 +7,4 @@ pub mod ReportPuts
 pub mod ReportStatements
 pub mod Cascades
 pub mod Sharing
+pub mod Participating

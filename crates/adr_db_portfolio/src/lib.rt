@@ -1,6 +1,7 @@
 //! Vens, resources, shares, reports and subscriptions in the tables, one typed call per statement, on a lent transaction.
 #![tactic(auto)]
 
+mod participant;
 mod portfolio;
 mod report;
 mod report_value;
@@ -10,6 +11,7 @@ mod sharers;
 mod sub;
 mod ven;
 
+pub use participant::named_participants;
 pub use portfolio::read_portfolio;
 pub use report::{
     count_reports, put_report, read_report, read_reports, read_reports_of, remove_report,

@@ -5,7 +5,7 @@ ghost use Rattle.sqlite.specs.Values.{bound_value};
 ghost use Rattle.sqlite_value.specs.Value.{owned};
 ghost use Rattle.adr_sql.specs.Keys.{with_row};
 ghost use Rattle.adr_sql.specs.Contents.{rows_of_table, with_table};
-ghost use Rattle.adr_sql.specs.Calls.{Stays, Changes};
+ghost use Rattle.adr_sql.specs.Calls.{LeavesLent, Changes};
 ghost use Rattle.adr_state.specs.Keys.{at};
 ghost use Rattle.adr_state.specs.Portfolios.{with_report, without_report};
 ghost use Rattle.adr_db.specs.Tables.{schema};
@@ -58,8 +58,7 @@ fn put_row<S: Alter>(
     id: Number,
     report: &Report,
 ) -> Result<(), Refusal>
-    ensures same_reference { tx.new.conn.ghost_name ≡ tx.old.conn.ghost_name }
-    ensures stays { Stays S.Store tx.old.conn.now tx.new.conn.now result }
+    ensures lent { LeavesLent S.Store tx.old.conn tx.new.conn result }
     ensures changes { Changes S.Store tx.old.conn.now tx.new.conn.now schema (λ all. with_table all 7 (with_row 1 (report_row (id, report.now)) (rows_of_table all 7))) result }
     ensures refused { IfErr result IsOfStore }
     ensures fails { RefusesToPut S.Store tx.old.conn.now tx.new.conn.now PUT.now (report_row (id, report.now)) result }
@@ -87,8 +86,7 @@ pub fn put_report<S: Alter>(
     id: Number,
     report: &Report,
 ) -> Result<(), Refusal>
-    ensures same_reference { tx.new.conn.ghost_name ≡ tx.old.conn.ghost_name }
-    ensures stays { Stays S.Store tx.old.conn.now tx.new.conn.now result }
+    ensures lent { LeavesLent S.Store tx.old.conn tx.new.conn result }
     ensures leaves { LeavesKept S.Store tx.old.conn.now tx.new.conn.now (with_portfolio (with_report id report.now)) result }
     ensures refused { IfErr result IsOfStore }
 {
@@ -99,8 +97,7 @@ pub fn put_report<S: Alter>(
 
 /// The report of a number goes, and with it its intervals.
 pub fn remove_report<S: Alter>(tx: &mut Transaction<'_, S>, id: Number) -> Result<(), Refusal>
-    ensures same_reference { tx.new.conn.ghost_name ≡ tx.old.conn.ghost_name }
-    ensures stays { Stays S.Store tx.old.conn.now tx.new.conn.now result }
+    ensures lent { LeavesLent S.Store tx.old.conn tx.new.conn result }
     ensures leaves { LeavesKept S.Store tx.old.conn.now tx.new.conn.now (with_portfolio (without_report id)) result }
     ensures refused { IfErr result IsOfStore }
     ensures fails { RefusesToPut S.Store tx.old.conn.now tx.new.conn.now REMOVE.now (number_row id) result }
@@ -127,8 +124,7 @@ pub fn read_report<S: Alter>(
     tx: &mut Transaction<'_, S>,
     id: Number,
 ) -> Result<Option<Report>, Refusal>
-    ensures same_reference { tx.new.conn.ghost_name ≡ tx.old.conn.ghost_name }
-    ensures stays { Stays S.Store tx.old.conn.now tx.new.conn.now result }
+    ensures lent { LeavesLent S.Store tx.old.conn tx.new.conn result }
     ensures finds { Finds S.Store tx.old.conn.now tx.new.conn.now (λ kept found. found ≡ at nat_cmp id kept.portfolio.reports) result }
     ensures refused { IfErr result IsOfStore }
 {
@@ -148,8 +144,7 @@ fn with_values<S: Alter>(
     tx: &mut Transaction<'_, S>,
     rows: Rows<(Number, ReportColumns)>,
 ) -> Result<Rows<(Number, Report)>, Refusal>
-    ensures same_reference { tx.new.conn.ghost_name ≡ tx.old.conn.ghost_name }
-    ensures stays { Stays S.Store tx.old.conn.now tx.new.conn.now result }
+    ensures lent { LeavesLent S.Store tx.old.conn tx.new.conn result }
     ensures finds { Finds S.Store tx.old.conn.now tx.new.conn.now (λ kept reports. reports ≡ map (report_of kept) rows) result }
     ensures refused { IfErr result IsOfStore }
 {
@@ -166,8 +161,7 @@ pub fn read_reports<S: Alter>(
     alloc: Global,
     tx: &mut Transaction<'_, S>,
 ) -> Result<Table<Number, Report>, Refusal>
-    ensures same_reference { tx.new.conn.ghost_name ≡ tx.old.conn.ghost_name }
-    ensures stays { Stays S.Store tx.old.conn.now tx.new.conn.now result }
+    ensures lent { LeavesLent S.Store tx.old.conn tx.new.conn result }
     ensures finds { Finds S.Store tx.old.conn.now tx.new.conn.now (λ kept reports. reports ≡ kept.portfolio.reports) result }
     ensures refused { IfErr result IsOfStore }
 {
@@ -182,8 +176,7 @@ pub fn read_reports_of<S: Alter>(
     tx: &mut Transaction<'_, S>,
     event: &ObjectId,
 ) -> Result<Rows<(Number, Report)>, Refusal>
-    ensures same_reference { tx.new.conn.ghost_name ≡ tx.old.conn.ghost_name }
-    ensures stays { Stays S.Store tx.old.conn.now tx.new.conn.now result }
+    ensures lent { LeavesLent S.Store tx.old.conn tx.new.conn result }
     ensures finds { Finds S.Store tx.old.conn.now tx.new.conn.now (λ kept reports. reports ≡ filter (λ r. bytes_eq r.1.body.head.event event.now) kept.portfolio.reports) result }
     ensures refused { IfErr result IsOfStore }
 {
@@ -193,8 +186,7 @@ pub fn read_reports_of<S: Alter>(
 
 /// How many reports there are.
 pub fn count_reports<S: Alter>(tx: &mut Transaction<'_, S>) -> Result<u64, Refusal>
-    ensures same_reference { tx.new.conn.ghost_name ≡ tx.old.conn.ghost_name }
-    ensures stays { Stays S.Store tx.old.conn.now tx.new.conn.now result }
+    ensures lent { LeavesLent S.Store tx.old.conn tx.new.conn result }
     ensures finds { Finds S.Store tx.old.conn.now tx.new.conn.now (λ kept count. count ≡ length kept.portfolio.reports) result }
     ensures refused { IfErr result IsOfStore }
     ensures fails { RefusesToShow S.Store tx.old.conn.now tx.new.conn.now COUNT.now [] CannotCount result }

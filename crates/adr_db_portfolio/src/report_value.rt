@@ -4,7 +4,7 @@ ghost use Rattle.sqlite.specs.Values.{bound_value};
 ghost use Rattle.sqlite.specs.declared.types.Value.TheVariants.{Int};
 ghost use Rattle.sqlite_value.specs.Value.{owned};
 ghost use Rattle.adr_sql.specs.Keys.{with_row, rows_without};
-ghost use Rattle.adr_sql.specs.Calls.{Stays};
+ghost use Rattle.adr_sql.specs.Calls.{LeavesLent};
 ghost use Rattle.adr_db.specs.Kept.{intervals_of, with_value_rows};
 ghost use Rattle.adr_db.specs.Rows.{usage_cell, number_row, value_row, value_rows_from};
 ghost use Rattle.adr_db.specs.Refusals.{CannotReadAll, RefusesToPut, RefusesToShow};
@@ -52,8 +52,7 @@ fn put_value<S: Alter>(
     place: u64,
     interval: &UsageInterval,
 ) -> Result<(), Refusal>
-    ensures same_reference { tx.new.conn.ghost_name ≡ tx.old.conn.ghost_name }
-    ensures stays { Stays S.Store tx.old.conn.now tx.new.conn.now result }
+    ensures lent { LeavesLent S.Store tx.old.conn tx.new.conn result }
     ensures changes { ChangesValues S.Store tx.old.conn.now tx.new.conn.now (with_row 2 (value_row report place interval.now)) result }
     ensures refused { IfErr result IsOfStore }
     ensures fails { RefusesToPut S.Store tx.old.conn.now tx.new.conn.now PUT.now (value_row report place interval.now) result }
@@ -76,8 +75,7 @@ pub(crate) fn put_values<S: Alter>(
     report: Number,
     intervals: &[UsageInterval],
 ) -> Result<(), Refusal>
-    ensures same_reference { tx.new.conn.ghost_name ≡ tx.old.conn.ghost_name }
-    ensures stays { Stays S.Store tx.old.conn.now tx.new.conn.now result }
+    ensures lent { LeavesLent S.Store tx.old.conn tx.new.conn result }
     ensures changes { ChangesValues S.Store tx.old.conn.now tx.new.conn.now (with_value_rows (value_rows_from report 0 intervals.now)) result }
     ensures refused { IfErr result IsOfStore }
 {
@@ -92,8 +90,7 @@ pub(crate) fn clear_values<S: Alter>(
     tx: &mut Transaction<'_, S>,
     report: Number,
 ) -> Result<(), Refusal>
-    ensures same_reference { tx.new.conn.ghost_name ≡ tx.old.conn.ghost_name }
-    ensures stays { Stays S.Store tx.old.conn.now tx.new.conn.now result }
+    ensures lent { LeavesLent S.Store tx.old.conn tx.new.conn result }
     ensures changes { ChangesValues S.Store tx.old.conn.now tx.new.conn.now (rows_without 1 (number_row report)) result }
     ensures refused { IfErr result IsOfStore }
     ensures fails { RefusesToPut S.Store tx.old.conn.now tx.new.conn.now CLEAR.now (number_row report) result }
@@ -107,8 +104,7 @@ pub(crate) fn read_values<S: Alter>(
     tx: &mut Transaction<'_, S>,
     report: Number,
 ) -> Result<Rows<UsageInterval>, Refusal>
-    ensures same_reference { tx.new.conn.ghost_name ≡ tx.old.conn.ghost_name }
-    ensures stays { Stays S.Store tx.old.conn.now tx.new.conn.now result }
+    ensures lent { LeavesLent S.Store tx.old.conn tx.new.conn result }
     ensures finds { Finds S.Store tx.old.conn.now tx.new.conn.now (λ kept intervals. intervals ≡ intervals_of report kept) result }
     ensures refused { IfErr result IsOfStore }
     ensures fails { RefusesToShow S.Store tx.old.conn.now tx.new.conn.now READ.now (number_row report) (CannotReadAll IsUsageInterval ReadsUsageInterval) result }

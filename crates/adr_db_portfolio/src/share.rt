@@ -1,7 +1,7 @@
 //! The table `share`: the shares of resources in programs.
 ghost use Rattle.std.specs.Prelude.{◌≡◌, [], length, IfErr};
 ghost use Rattle.adr_state.specs.Keys.{share_cmp, at};
-ghost use Rattle.adr_sql.specs.Calls.{Stays};
+ghost use Rattle.adr_sql.specs.Calls.{LeavesLent};
 ghost use Rattle.adr_state.specs.Portfolios.{with_share, without_share};
 ghost use Rattle.adr_db.specs.Kept.{with_portfolio};
 ghost use Rattle.adr_db.specs.Rows.{share_key_row, share_row};
@@ -36,8 +36,7 @@ pub fn put_share<S: Alter>(
     key: &ShareKey,
     weight: Weight,
 ) -> Result<(), Refusal>
-    ensures same_reference { tx.new.conn.ghost_name ≡ tx.old.conn.ghost_name }
-    ensures stays { Stays S.Store tx.old.conn.now tx.new.conn.now result }
+    ensures lent { LeavesLent S.Store tx.old.conn tx.new.conn result }
     ensures leaves { LeavesKept S.Store tx.old.conn.now tx.new.conn.now (with_portfolio (with_share key.now weight)) result }
     ensures refused { IfErr result IsOfStore }
     ensures fails { RefusesToPut S.Store tx.old.conn.now tx.new.conn.now PUT.now (share_row (key.now, weight)) result }
@@ -55,8 +54,7 @@ pub fn put_share<S: Alter>(
 
 /// The share goes.
 pub fn remove_share<S: Alter>(tx: &mut Transaction<'_, S>, key: &ShareKey) -> Result<(), Refusal>
-    ensures same_reference { tx.new.conn.ghost_name ≡ tx.old.conn.ghost_name }
-    ensures stays { Stays S.Store tx.old.conn.now tx.new.conn.now result }
+    ensures lent { LeavesLent S.Store tx.old.conn tx.new.conn result }
     ensures leaves { LeavesKept S.Store tx.old.conn.now tx.new.conn.now (with_portfolio (without_share key.now)) result }
     ensures refused { IfErr result IsOfStore }
     ensures fails { RefusesToPut S.Store tx.old.conn.now tx.new.conn.now REMOVE.now (share_key_row key.now) result }
@@ -70,8 +68,7 @@ pub fn read_share<S: Alter>(
     tx: &mut Transaction<'_, S>,
     key: &ShareKey,
 ) -> Result<Option<Weight>, Refusal>
-    ensures same_reference { tx.new.conn.ghost_name ≡ tx.old.conn.ghost_name }
-    ensures stays { Stays S.Store tx.old.conn.now tx.new.conn.now result }
+    ensures lent { LeavesLent S.Store tx.old.conn tx.new.conn result }
     ensures finds { Finds S.Store tx.old.conn.now tx.new.conn.now (λ kept found. found ≡ at share_cmp key.now kept.portfolio.shares) result }
     ensures refused { IfErr result IsOfStore }
     ensures fails { RefusesToShow S.Store tx.old.conn.now tx.new.conn.now READ_ONE.now (share_key_row key.now) (CannotReadFirst IsShareWeight ReadsShareWeight) result }
@@ -86,8 +83,7 @@ pub fn read_shares<S: Alter>(
     alloc: Global,
     tx: &mut Transaction<'_, S>,
 ) -> Result<Table<ShareKey, Weight>, Refusal>
-    ensures same_reference { tx.new.conn.ghost_name ≡ tx.old.conn.ghost_name }
-    ensures stays { Stays S.Store tx.old.conn.now tx.new.conn.now result }
+    ensures lent { LeavesLent S.Store tx.old.conn tx.new.conn result }
     ensures finds { Finds S.Store tx.old.conn.now tx.new.conn.now (λ kept shares. shares ≡ kept.portfolio.shares) result }
     ensures refused { IfErr result IsOfStore }
     ensures fails { RefusesToShow S.Store tx.old.conn.now tx.new.conn.now READ_ALL.now [] (CannotReadAll IsShare ReadsShare) result }
@@ -98,8 +94,7 @@ pub fn read_shares<S: Alter>(
 
 /// How many shares there are.
 pub fn count_shares<S: Alter>(tx: &mut Transaction<'_, S>) -> Result<u64, Refusal>
-    ensures same_reference { tx.new.conn.ghost_name ≡ tx.old.conn.ghost_name }
-    ensures stays { Stays S.Store tx.old.conn.now tx.new.conn.now result }
+    ensures lent { LeavesLent S.Store tx.old.conn tx.new.conn result }
     ensures finds { Finds S.Store tx.old.conn.now tx.new.conn.now (λ kept count. count ≡ length kept.portfolio.shares) result }
     ensures refused { IfErr result IsOfStore }
     ensures fails { RefusesToShow S.Store tx.old.conn.now tx.new.conn.now COUNT.now [] CannotCount result }

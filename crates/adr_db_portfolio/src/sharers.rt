@@ -1,6 +1,6 @@
 //! Who shares in a program, from the tables `share`, `resource` and `ven`.
 ghost use Rattle.std.specs.Prelude.{◌≡◌, [], ◌∷◌, IfErr};
-ghost use Rattle.adr_sql.specs.Calls.{Stays};
+ghost use Rattle.adr_sql.specs.Calls.{LeavesLent};
 ghost use Rattle.adr_db.specs.Sharing.{sharers};
 ghost use Rattle.adr_db.specs.Calls.{Finds, IsOfStore};
 ghost use Rattle.adr_db.specs.Admitted.{IsParticipant, ReadsParticipant};
@@ -24,8 +24,7 @@ pub fn read_sharers<S: Alter>(
     tx: &mut Transaction<'_, S>,
     program: &ObjectId,
 ) -> Result<Rows<Participant>, Refusal>
-    ensures same_reference { tx.new.conn.ghost_name ≡ tx.old.conn.ghost_name }
-    ensures stays { Stays S.Store tx.old.conn.now tx.new.conn.now result }
+    ensures lent { LeavesLent S.Store tx.old.conn tx.new.conn result }
     ensures finds { Finds S.Store tx.old.conn.now tx.new.conn.now (λ kept all. all ≡ sharers program.now kept) result }
     ensures refused { IfErr result IsOfStore }
     ensures fails { RefusesToShow S.Store tx.old.conn.now tx.new.conn.now READ_SHARERS.now (Text program.now ∷ []) (CannotReadAll IsParticipant ReadsParticipant) result }

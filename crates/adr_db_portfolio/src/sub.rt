@@ -8,7 +8,7 @@ ghost use Rattle.adr_subscription.specs.Types.{IsSub};
 ghost use Rattle.adr_subscription.specs.Kept.{kept_text};
 ghost use Rattle.adr_state.specs.Keys.{at};
 ghost use Rattle.adr_state.specs.Portfolios.{with_sub, without_sub};
-ghost use Rattle.adr_sql.specs.Calls.{Stays};
+ghost use Rattle.adr_sql.specs.Calls.{LeavesLent};
 ghost use Rattle.adr_db.specs.Kept.{with_portfolio};
 ghost use Rattle.adr_db.specs.Rows.{owner_cell, number_row, sub_row};
 ghost use Rattle.adr_db.specs.Refusals.{IsBeyond, RefusesToPut, RefusesToPutText, RefusesToShow, CannotReadAll, CannotReadFirst, CannotCount};
@@ -56,8 +56,7 @@ fn put_text<S: Alter>(
 ) -> Result<(), Refusal>
     requires same { string_bytes text.now ≡ kept_text sub.now.body }
     requires valid { IsSub sub.now.body }
-    ensures same_reference { tx.new.conn.ghost_name ≡ tx.old.conn.ghost_name }
-    ensures stays { Stays S.Store tx.old.conn.now tx.new.conn.now result }
+    ensures lent { LeavesLent S.Store tx.old.conn tx.new.conn result }
     ensures leaves { LeavesKept S.Store tx.old.conn.now tx.new.conn.now (with_portfolio (with_sub id sub.now)) result }
     ensures refused { IfErr result IsOfStore }
     ensures fails { RefusesToPut S.Store tx.old.conn.now tx.new.conn.now PUT.now (sub_row (id, sub.now)) result }
@@ -82,8 +81,7 @@ pub fn put_sub<S: Alter>(
     id: Number,
     sub: &Sub,
 ) -> Result<(), Refusal>
-    ensures same_reference { tx.new.conn.ghost_name ≡ tx.old.conn.ghost_name }
-    ensures stays { Stays S.Store tx.old.conn.now tx.new.conn.now result }
+    ensures lent { LeavesLent S.Store tx.old.conn tx.new.conn result }
     ensures leaves { LeavesKept S.Store tx.old.conn.now tx.new.conn.now (with_portfolio (with_sub id sub.now)) result }
     ensures refused { IfErr result IsOfStore }
     ensures fails { RefusesToPutText S.Store tx.old.conn.now tx.new.conn.now PUT.now (sub_row (id, sub.now)) result }
@@ -94,8 +92,7 @@ pub fn put_sub<S: Alter>(
 
 /// The subscription of a number goes.
 pub fn remove_sub<S: Alter>(tx: &mut Transaction<'_, S>, id: Number) -> Result<(), Refusal>
-    ensures same_reference { tx.new.conn.ghost_name ≡ tx.old.conn.ghost_name }
-    ensures stays { Stays S.Store tx.old.conn.now tx.new.conn.now result }
+    ensures lent { LeavesLent S.Store tx.old.conn tx.new.conn result }
     ensures leaves { LeavesKept S.Store tx.old.conn.now tx.new.conn.now (with_portfolio (without_sub id)) result }
     ensures refused { IfErr result IsOfStore }
     ensures fails { RefusesToPut S.Store tx.old.conn.now tx.new.conn.now REMOVE.now (number_row id) result }
@@ -109,8 +106,7 @@ pub fn read_sub<S: Alter>(
     tx: &mut Transaction<'_, S>,
     id: Number,
 ) -> Result<Option<Sub>, Refusal>
-    ensures same_reference { tx.new.conn.ghost_name ≡ tx.old.conn.ghost_name }
-    ensures stays { Stays S.Store tx.old.conn.now tx.new.conn.now result }
+    ensures lent { LeavesLent S.Store tx.old.conn tx.new.conn result }
     ensures finds { Finds S.Store tx.old.conn.now tx.new.conn.now (λ kept found. found ≡ at nat_cmp id kept.portfolio.subs) result }
     ensures refused { IfErr result IsOfStore }
     ensures fails { RefusesToShow S.Store tx.old.conn.now tx.new.conn.now READ_ONE.now (number_row id) (CannotReadFirst IsKeptSub ReadsSub) result }
@@ -123,8 +119,7 @@ pub fn read_subs<S: Alter>(
     alloc: Global,
     tx: &mut Transaction<'_, S>,
 ) -> Result<Table<Number, Sub>, Refusal>
-    ensures same_reference { tx.new.conn.ghost_name ≡ tx.old.conn.ghost_name }
-    ensures stays { Stays S.Store tx.old.conn.now tx.new.conn.now result }
+    ensures lent { LeavesLent S.Store tx.old.conn tx.new.conn result }
     ensures finds { Finds S.Store tx.old.conn.now tx.new.conn.now (λ kept subs. subs ≡ kept.portfolio.subs) result }
     ensures refused { IfErr result IsOfStore }
     ensures fails { RefusesToShow S.Store tx.old.conn.now tx.new.conn.now READ_ALL.now [] (CannotReadAll IsSubEntry ReadsSubEntry) result }
@@ -135,8 +130,7 @@ pub fn read_subs<S: Alter>(
 
 /// How many subscriptions there are.
 pub fn count_subs<S: Alter>(tx: &mut Transaction<'_, S>) -> Result<u64, Refusal>
-    ensures same_reference { tx.new.conn.ghost_name ≡ tx.old.conn.ghost_name }
-    ensures stays { Stays S.Store tx.old.conn.now tx.new.conn.now result }
+    ensures lent { LeavesLent S.Store tx.old.conn tx.new.conn result }
     ensures finds { Finds S.Store tx.old.conn.now tx.new.conn.now (λ kept count. count ≡ length kept.portfolio.subs) result }
     ensures refused { IfErr result IsOfStore }
     ensures fails { RefusesToShow S.Store tx.old.conn.now tx.new.conn.now COUNT.now [] CannotCount result }

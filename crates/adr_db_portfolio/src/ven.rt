@@ -3,7 +3,7 @@ ghost use Rattle.std.specs.Prelude.{◌≡◌, [], ◌∷◌, length, IfErr};
 ghost use Rattle.std.specs.Ordering.{nat_cmp};
 ghost use Rattle.adr_state.specs.Names.{ven_name};
 ghost use Rattle.adr_state.specs.Keys.{at};
-ghost use Rattle.adr_sql.specs.Calls.{Stays};
+ghost use Rattle.adr_sql.specs.Calls.{LeavesLent};
 ghost use Rattle.adr_state.specs.Portfolios.{with_ven, without_ven};
 ghost use Rattle.adr_db.specs.Kept.{numbers_named, with_portfolio};
 ghost use Rattle.adr_db.specs.Rows.{ven_row, number_row};
@@ -37,8 +37,7 @@ const COUNT: &str = "SELECT count(*) FROM ven";
 
 /// Puts the ven of a number, new or in the place of the one that has it.
 pub fn put_ven<S: Alter>(tx: &mut Transaction<'_, S>, id: Number, ven: &Ven) -> Result<(), Refusal>
-    ensures same_reference { tx.new.conn.ghost_name ≡ tx.old.conn.ghost_name }
-    ensures stays { Stays S.Store tx.old.conn.now tx.new.conn.now result }
+    ensures lent { LeavesLent S.Store tx.old.conn tx.new.conn result }
     ensures leaves { LeavesKept S.Store tx.old.conn.now tx.new.conn.now (with_portfolio (with_ven id ven.now)) result }
     ensures refused { IfErr result IsOfStore }
     ensures fails { RefusesToPut S.Store tx.old.conn.now tx.new.conn.now PUT.now (ven_row (id, ven.now)) result }
@@ -58,8 +57,7 @@ pub fn put_ven<S: Alter>(tx: &mut Transaction<'_, S>, id: Number, ven: &Ven) -> 
 /// The ven of a number goes, and with it its resources, their shares and the reports on them, and its
 /// subscriptions.
 pub fn remove_ven<S: Alter>(tx: &mut Transaction<'_, S>, id: Number) -> Result<(), Refusal>
-    ensures same_reference { tx.new.conn.ghost_name ≡ tx.old.conn.ghost_name }
-    ensures stays { Stays S.Store tx.old.conn.now tx.new.conn.now result }
+    ensures lent { LeavesLent S.Store tx.old.conn tx.new.conn result }
     ensures leaves { LeavesKept S.Store tx.old.conn.now tx.new.conn.now (with_portfolio (without_ven id)) result }
     ensures refused { IfErr result IsOfStore }
     ensures fails { RefusesToPut S.Store tx.old.conn.now tx.new.conn.now REMOVE.now (number_row id) result }
@@ -73,8 +71,7 @@ pub fn read_ven<S: Alter>(
     tx: &mut Transaction<'_, S>,
     id: Number,
 ) -> Result<Option<Ven>, Refusal>
-    ensures same_reference { tx.new.conn.ghost_name ≡ tx.old.conn.ghost_name }
-    ensures stays { Stays S.Store tx.old.conn.now tx.new.conn.now result }
+    ensures lent { LeavesLent S.Store tx.old.conn tx.new.conn result }
     ensures finds { Finds S.Store tx.old.conn.now tx.new.conn.now (λ kept found. found ≡ at nat_cmp id kept.portfolio.vens) result }
     ensures refused { IfErr result IsOfStore }
     ensures fails { RefusesToShow S.Store tx.old.conn.now tx.new.conn.now READ_ONE.now (number_row id) (CannotReadFirst IsVen ReadsVen) result }
@@ -87,8 +84,7 @@ pub fn read_vens<S: Alter>(
     alloc: Global,
     tx: &mut Transaction<'_, S>,
 ) -> Result<Table<Number, Ven>, Refusal>
-    ensures same_reference { tx.new.conn.ghost_name ≡ tx.old.conn.ghost_name }
-    ensures stays { Stays S.Store tx.old.conn.now tx.new.conn.now result }
+    ensures lent { LeavesLent S.Store tx.old.conn tx.new.conn result }
     ensures finds { Finds S.Store tx.old.conn.now tx.new.conn.now (λ kept vens. vens ≡ kept.portfolio.vens) result }
     ensures refused { IfErr result IsOfStore }
     ensures fails { RefusesToShow S.Store tx.old.conn.now tx.new.conn.now READ_ALL.now [] (CannotReadAll IsVenEntry ReadsVenEntry) result }
@@ -103,8 +99,7 @@ pub fn read_vens_named<S: Alter>(
     tx: &mut Transaction<'_, S>,
     name: &Name,
 ) -> Result<Rows<Number>, Refusal>
-    ensures same_reference { tx.new.conn.ghost_name ≡ tx.old.conn.ghost_name }
-    ensures stays { Stays S.Store tx.old.conn.now tx.new.conn.now result }
+    ensures lent { LeavesLent S.Store tx.old.conn tx.new.conn result }
     ensures finds { Finds S.Store tx.old.conn.now tx.new.conn.now (λ kept numbers. numbers ≡ numbers_named ven_name name.now kept.portfolio.vens) result }
     ensures refused { IfErr result IsOfStore }
     ensures fails { RefusesToShow S.Store tx.old.conn.now tx.new.conn.now READ_NAMED.now (Text name.now ∷ []) (CannotReadAll IsNumber ReadsNumber) result }
@@ -114,8 +109,7 @@ pub fn read_vens_named<S: Alter>(
 
 /// How many vens there are.
 pub fn count_vens<S: Alter>(tx: &mut Transaction<'_, S>) -> Result<u64, Refusal>
-    ensures same_reference { tx.new.conn.ghost_name ≡ tx.old.conn.ghost_name }
-    ensures stays { Stays S.Store tx.old.conn.now tx.new.conn.now result }
+    ensures lent { LeavesLent S.Store tx.old.conn tx.new.conn result }
     ensures finds { Finds S.Store tx.old.conn.now tx.new.conn.now (λ kept count. count ≡ length kept.portfolio.vens) result }
     ensures refused { IfErr result IsOfStore }
     ensures fails { RefusesToShow S.Store tx.old.conn.now tx.new.conn.now COUNT.now [] CannotCount result }

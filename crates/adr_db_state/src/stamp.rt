@@ -1,7 +1,7 @@
 //! The table `stamp`: the stamps of what is shown.
 ghost use Rattle.std.specs.Prelude.{◌≡◌, [], IfErr};
 ghost use Rattle.adr_state.specs.Keys.{view_cmp, at};
-ghost use Rattle.adr_sql.specs.Calls.{Stays};
+ghost use Rattle.adr_sql.specs.Calls.{LeavesLent};
 ghost use Rattle.adr_db.specs.Kept.{with_stamps, without_stamps};
 ghost use Rattle.adr_db.specs.Rows.{view_kind, view_id, view_number, view_key_row, stamp_row};
 ghost use Rattle.adr_db.specs.Refusals.{RefusesToPut, RefusesToShow, CannotReadAll, CannotReadFirst};
@@ -70,8 +70,7 @@ pub fn put_stamps<S: Alter>(
     key: &ViewKey,
     stamps: Stamps,
 ) -> Result<(), Refusal>
-    ensures same_reference { tx.new.conn.ghost_name ≡ tx.old.conn.ghost_name }
-    ensures stays { Stays S.Store tx.old.conn.now tx.new.conn.now result }
+    ensures lent { LeavesLent S.Store tx.old.conn tx.new.conn result }
     ensures leaves { LeavesKept S.Store tx.old.conn.now tx.new.conn.now (with_stamps key.now stamps) result }
     ensures refused { IfErr result IsOfStore }
     ensures fails { RefusesToPut S.Store tx.old.conn.now tx.new.conn.now PUT.now (stamp_row (key.now, stamps)) result }
@@ -91,8 +90,7 @@ pub fn put_stamps<S: Alter>(
 
 /// The stamps of a key go.
 pub fn remove_stamps<S: Alter>(tx: &mut Transaction<'_, S>, key: &ViewKey) -> Result<(), Refusal>
-    ensures same_reference { tx.new.conn.ghost_name ≡ tx.old.conn.ghost_name }
-    ensures stays { Stays S.Store tx.old.conn.now tx.new.conn.now result }
+    ensures lent { LeavesLent S.Store tx.old.conn tx.new.conn result }
     ensures leaves { LeavesKept S.Store tx.old.conn.now tx.new.conn.now (without_stamps key.now) result }
     ensures refused { IfErr result IsOfStore }
     ensures fails { RefusesToPut S.Store tx.old.conn.now tx.new.conn.now REMOVE.now (view_key_row key.now) result }
@@ -110,8 +108,7 @@ pub fn read_stamps_of<S: Alter>(
     tx: &mut Transaction<'_, S>,
     key: &ViewKey,
 ) -> Result<Option<Stamps>, Refusal>
-    ensures same_reference { tx.new.conn.ghost_name ≡ tx.old.conn.ghost_name }
-    ensures stays { Stays S.Store tx.old.conn.now tx.new.conn.now result }
+    ensures lent { LeavesLent S.Store tx.old.conn tx.new.conn result }
     ensures finds { Finds S.Store tx.old.conn.now tx.new.conn.now (λ kept found. found ≡ at view_cmp key.now kept.stamps) result }
     ensures refused { IfErr result IsOfStore }
     ensures fails { RefusesToShow S.Store tx.old.conn.now tx.new.conn.now READ_ONE.now (view_key_row key.now) (CannotReadFirst AreStamps ReadsStamps) result }
@@ -131,8 +128,7 @@ pub fn read_stamps<S: Alter>(
     alloc: Global,
     tx: &mut Transaction<'_, S>,
 ) -> Result<Table<ViewKey, Stamps>, Refusal>
-    ensures same_reference { tx.new.conn.ghost_name ≡ tx.old.conn.ghost_name }
-    ensures stays { Stays S.Store tx.old.conn.now tx.new.conn.now result }
+    ensures lent { LeavesLent S.Store tx.old.conn tx.new.conn result }
     ensures finds { Finds S.Store tx.old.conn.now tx.new.conn.now (λ kept stamps. stamps ≡ kept.stamps) result }
     ensures refused { IfErr result IsOfStore }
     ensures fails { RefusesToShow S.Store tx.old.conn.now tx.new.conn.now READ_ALL.now [] (CannotReadAll IsStamped ReadsStamped) result }

@@ -1,6 +1,6 @@
 //! The whole state, as the tables hold it.
 ghost use Rattle.std.specs.Prelude.{◌≡◌, Some, None, if◌then◌else◌, IfErr};
-ghost use Rattle.adr_sql.specs.Calls.{Stays};
+ghost use Rattle.adr_sql.specs.Calls.{LeavesLent};
 ghost use Rattle.adr_db.specs.Calls.{Finds, IsOfStore};
 ghost use Rattle.adr_db.specs.Images.{base_of, outbox_of, image_kept};
 
@@ -28,8 +28,7 @@ pub fn read_base<S: Alter>(
     tx: &mut Transaction<'_, S>,
     meta: &Meta,
 ) -> Result<Base, Refusal>
-    ensures same_reference { tx.new.conn.ghost_name ≡ tx.old.conn.ghost_name }
-    ensures stays { Stays S.Store tx.old.conn.now tx.new.conn.now result }
+    ensures lent { LeavesLent S.Store tx.old.conn tx.new.conn result }
     ensures finds { Finds S.Store tx.old.conn.now tx.new.conn.now (λ kept base. base ≡ base_of meta.now kept) result }
     ensures refused { IfErr result IsOfStore }
 {
@@ -50,8 +49,7 @@ pub fn read_outbox<S: Alter>(
     tx: &mut Transaction<'_, S>,
     meta: &Meta,
 ) -> Result<Outbox, Refusal>
-    ensures same_reference { tx.new.conn.ghost_name ≡ tx.old.conn.ghost_name }
-    ensures stays { Stays S.Store tx.old.conn.now tx.new.conn.now result }
+    ensures lent { LeavesLent S.Store tx.old.conn tx.new.conn result }
     ensures finds { Finds S.Store tx.old.conn.now tx.new.conn.now (λ kept outbox. outbox ≡ outbox_of meta.now kept) result }
     ensures refused { IfErr result IsOfStore }
 {
@@ -64,8 +62,7 @@ pub fn read_outbox<S: Alter>(
 
 /// All that is kept, as a state.
 pub fn read_state<S: Alter>(alloc: Global, tx: &mut Transaction<'_, S>) -> Result<State, Refusal>
-    ensures same_reference { tx.new.conn.ghost_name ≡ tx.old.conn.ghost_name }
-    ensures stays { Stays S.Store tx.old.conn.now tx.new.conn.now result }
+    ensures lent { LeavesLent S.Store tx.old.conn tx.new.conn result }
     ensures finds { Finds S.Store tx.old.conn.now tx.new.conn.now (λ kept state. state ≡ image_kept kept) result }
     ensures refused { IfErr result IsOfStore }
 {

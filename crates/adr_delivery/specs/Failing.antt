@@ -5,9 +5,11 @@ use Rattle.std.specs.Prelude.{ℕ, ◌+◌, ◌^◌, min, nat_lt, Option, Some, 
 abbrev pub most_failures : ℕ
 most_failures = 7
 
+-- how often a waiting entry failed, where that is at most seven times
 abbrev pub failures_of : ℕ → Option ℕ
 failures_of n = if nat_lt most_failures n then None else Some n
 
+-- one failure more, unless it is the eighth
 abbrev pub one_more : ℕ → Option ℕ
 one_more failures = failures_of (failures + 1)
 

@@ -15,14 +15,17 @@ abbrev pub report_target : Option (List ℕ) → List ℕ
 report_target None = codes "/reports"
 report_target (Some remote) = codes "/reports/" ++ remote
 
+-- the path of a report at the utility, or the address of the subscription
 abbrev pub target_for : Option (List ℕ) → Addressee → List ℕ
 target_for remote (Utility event) = report_target remote
 target_for remote (Subscriber subscription address token) = address
 
+-- the token for the address of the subscription, where it has one, and none for the utility
 abbrev pub token_for : Addressee → Option (List ℕ)
 token_for (Utility event) = None
 token_for (Subscriber subscription address token) = token
 
+-- PUT where the utility gave the report an id, else POST
 abbrev pub method_for : Option (List ℕ) → JobMethod
 method_for None = Post
 method_for (Some remote) = Put
@@ -39,6 +42,7 @@ job_for remote e = record {
   body = e.1.body;
 }
 
--- so with the id that the utility has of the same event, where it has one
+-- what is to be sent of an entry that was leased, with the id that the utility has of the same event, where it has
+-- one
 abbrev pub job_of : Outbox → ℕ × Entry → Job
 job_of o e = job_for (remote_for e.1.addressee o) e

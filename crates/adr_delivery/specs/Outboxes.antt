@@ -20,6 +20,7 @@ use Rattle.adr_delivery.specs.Next.{next_entry}
 use Rattle.adr_delivery.specs.Tallies.{plus}
 use Rattle.adr_delivery.specs.declared.outbox.Outbox.{Outbox}
 
+-- at first: no entry waits, no id of the utility's is known, and each count is 0
 abbrev pub no_entries : Outbox
 no_entries = record { entries = []; remotes = []; counts = no_counts }
 
@@ -48,7 +49,7 @@ with_entry n e o = record o { entries = insert_entry nat_cmp o.entries n e }
 abbrev pub leased_at : ℕ → ℕ → Outbox → ℕ × Entry → Result (Option (ℕ × Entry) × Outbox) Refusal
 leased_at most now o e = leased most now e.1.delivery >>= λ d. Ok (Some (e.0, with_delivery d e.1), with_entry e.0 (with_delivery d e.1) o)
 
--- so has the next one, if there is one
+-- the next entry that may leave has a lease more, and is told with it, if there is one
 abbrev pub lease_next : ℕ → ℕ → Outbox → Result (Option (ℕ × Entry) × Outbox) Refusal
 lease_next most now o = lease_of (next_entry now o.entries)
   where
@@ -83,6 +84,8 @@ sent_at n e remote o = record {
   counts = record o.counts { sent = plus o.counts.sent 1 };
 }
 
+-- the entry of a number, where it has the lease of a number, leaves and counts as sent, and the utility's id of its
+-- report is noted where one came, else 13
 abbrev pub sent : ℕ → ℕ → Option (List ℕ) → Outbox → Result Outbox Refusal
 sent n lease remote o = entry_leased n lease o.entries >>= λ e. Ok (sent_at n e remote o)
 
@@ -90,6 +93,8 @@ sent n lease remote o = entry_leased n lease o.entries >>= λ e. Ok (sent_at n e
 abbrev pub failed_at : ℕ → ℕ → Entry → Outbox → Outbox
 failed_at now n e o = option_map_or (λ d. with_entry n (with_delivery d e) o) (after_failure now e.delivery) (record o { entries = without_entry n o; counts = record o.counts { given_up = plus o.counts.given_up 1 } })
 
+-- the entry of a number, where it has the lease of a number, waits for its next time or is given up, and the
+-- utility's id of its report is forgotten where that is asked for, else 13
 abbrev pub failed : ℕ → ℕ → ℕ → Bool → Outbox → Result Outbox Refusal
 failed now n lease forget o = entry_leased n lease o.entries >>= λ e. Ok (record (failed_at now n e o) { remotes = without_remote e.addressee forget o.remotes })
 
@@ -99,7 +104,7 @@ failed now n lease forget o = entry_leased n lease o.entries >>= λ e. Ok (recor
 abbrev pub has_addressee : {S : Type 0} → List (ℕ × S) → ℕ × Entry → Bool
 has_addressee subscriptions e = destination e.1.addressee == 0 || is_some (lookup (is_at (nat_cmp (destination e.1.addressee))) subscriptions)
 
--- the entries of other subscriptions are dropped
+-- the entries of subscriptions that are not there are dropped, and count as that
 abbrev pub kept_for : {S : Type 0} → List (ℕ × S) → Outbox → Outbox
 kept_for subscriptions o = record o {
   entries = filter (has_addressee subscriptions) o.entries;
@@ -119,5 +124,6 @@ check_room most pending last waiting further =
     else (if nat_lt pending (waiting + further) then Err OutboxFull
     else Ok tt))
 
+-- further entries are put at their numbers, and count as made
 abbrev pub appended : List (ℕ × Entry) → Outbox → Outbox
 appended further o = record o { entries = with_entries further o.entries; counts = record o.counts { made = plus o.counts.made (length further) } }

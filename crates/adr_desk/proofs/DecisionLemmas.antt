@@ -16,7 +16,7 @@ use Rattle.adr_db.specs.Calls.{IsOfStore}
 use Rattle.adr_machine.specs.declared.outcome.Outcome.{Outcome}
 use Rattle.adr_machine.specs.declared.outcome.Outcome.TheVariants as outcome
 use Rattle.adr_mirror.specs.Missed.{closing}
-use Rattle.adr_portfolio.proofs.Decisions.{refused_so}
+use Rattle.adr_db.proofs.Results.{refused_so}
 use Rattle.sqlite.specs.State.{HasCleanDisk}
 use Rattle.adr_db.specs.Images.{image_kept}
 use Rattle.adr_reports.specs.Decided.{Decides}

@@ -1,16 +1,20 @@
 -- What the layers below refuse by is listed for the command or the query.
-use Rattle.std.proofs.Common.{◌≡◌, ◌⊎◌, inl, inr, List, [], ◌∷◌, Contains, Result, Ok, Err, IfErr, sym, subst}
+use Rattle.std.proofs.Common.{◌≡◌, ◌⊎◌, inl, inr, List, [], ◌∷◌, Contains, Result, Ok, Err, IfErr, refl, sym, subst, arith}
 use Rattle.std.specs.List.{AllByRecursion}
 use Rattle.adr_text.specs.declared.refusal.Refusal.{Refusal}
 use Rattle.adr_text.specs.declared.refusal.Refusal.TheVariants.{OutOfMemory, Store, Exhausted, OutboxFull, BadShape}
+use Rattle.std.proofs.lemmas.List.Elements.{Contains-append_right}
 use Rattle.std.proofs.lemmas.Result.{IfErr-at_err}
 use Rattle.adr_text.specs.Refusals.{Fails}
 use Rattle.adr_subscription.specs.declared.subscription.SubIn.{SubIn}
 use Rattle.adr_subscription.specs.Callbacks.{settled}
 use Rattle.adr_subscription.proofs.Unsettled.{settled_refused}
-use Rattle.adr_db.specs.Calls.{IsOfStore}
-use Rattle.adr_portfolio.specs.Refusals.{IsOneOf}
+use Rattle.adr_db.specs.Calls.{IsOfStore, IsOneOf}
+use Rattle.adr_machine.specs.declared.command.Command.{Command}
+use Rattle.adr_machine.specs.Commands.{traits_of}
 use Rattle.adr_machine.specs.Edits.{told_by}
+use Rattle.adr_machine.specs.Listed.{listed}
+use Rattle.adr_machine.proofs.Listed.{own_listed}
 use Rattle.adr_queries.specs.Listed.{IsListed}
 
 module _ (these : List Refusal) where
@@ -54,6 +58,10 @@ module _ (these : List Refusal) where
   one_of_listed (one ∷ ones) all e (inl is) = subst Listed (sym is) (contained_listed one all.0)
   one_of_listed (one ∷ ones) all e (inr h) = one_of_listed ones all.1 e h
 
+  all_within : (ones : List Refusal) → ((e : Refusal) → Contains ones e → Contains these e) → AllByRecursion (Contains these) ones
+  all_within [] within = tt
+  all_within (one ∷ ones) within = (within one (0, omega arith, refl), all_within ones (λ e has. within e (Contains-append_right (one ∷ []) ones e has)))
+
   -- whatever is told of what went well
   module _ {A B : Type 0} (told : A → B) where
     by_result : (P : Refusal → Type 0) → ((e : Refusal) → P e → Listed e) → (r : Result A Refusal) → IfErr r P → IfErr (told_by told r) Listed
@@ -75,3 +83,7 @@ module _ (these : List Refusal) where
   storeless_listed (Err OutOfMemory) h = tt
   storeless_listed (Err Store) h = tt
   storeless_listed (Err e) h = h
+
+-- what a call refuses by is the command's own
+pub told_own : {A B : Type 0} (c : Command) (told : A → B) (r : Result A Refusal) → IfErr r (IsOneOf (traits_of c).own) → IfErr (told_by told r) (Listed (listed c))
+told_own c told = let own = (traits_of c).own in told_one_of (listed c) told own (all_within (listed c) own (own_listed (traits_of c)))

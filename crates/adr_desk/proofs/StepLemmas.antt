@@ -23,7 +23,7 @@ use Rattle.adr_machine.specs.declared.command.Command.{Command}
 use Rattle.adr_machine.specs.declared.outcome.Outcome.{Outcome}
 use Rattle.adr_machine.specs.Edits.{is_quiet}
 use Rattle.adr_machine.specs.Steps.{side_before, side_after, answered_by, changed, entries_then, outbox_then, committed}
-use Rattle.adr_portfolio.proofs.Decisions.{refused_so}
+use Rattle.adr_db.proofs.Results.{refused_so}
 use Rattle.adr_desk.specs.declared.seen.Seen.{Seen}
 use Rattle.adr_desk.specs.declared.stamps.Turned.{Turned}
 use Rattle.adr_desk.specs.Stamps.{with_restamped, turned_by}

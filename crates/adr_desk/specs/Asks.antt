@@ -20,12 +20,12 @@ asks_portfolio (Subs role filter page) = true
 asks_portfolio (Sub role id) = true
 asks_portfolio _ = false
 
--- whether it is that of the outbox
+-- whether the reply is that of the outbox
 abbrev pub asks_outbox : Query → Bool
 asks_outbox (Outbox role) = true
 asks_outbox _ = false
 
--- a state of which the outbox is not known
+-- what is kept, as a state of which the outbox is not known
 abbrev pub shown_alone : Kept → State
 shown_alone kept = record (image_kept kept) { outbox = no_entries }
 

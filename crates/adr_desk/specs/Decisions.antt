@@ -41,15 +41,16 @@ module _ {S : Type 0} (g : Ghosts S) (old new : Held S) where
   Decides decide before after result =
       HasCleanDisk (state g new) → IfOk result (λ said. (beside : Beside) (base : Base) → HoldsBeside beside base (state g old) → before ≡ with_base before base → IsDecided decide beside base before after said (state g new))
 
-  -- so it is, and a refusal is that of the decision
+  -- so it is, and a refusal is that of the decision, or want of memory or the store's in its place
   pub record CarriesOut (decide : Base → Result Decision Refusal) (before after : Meta) (result : Result Outcome Refusal) : Type 0 where
     pub decides : Decides decide before after result
     pub refuses : RefusesOn g old new decide before result
 
--- what is decided of a subscription each of whose addresses may be called, by what the role sees: of a new one, and of one that is put again
+-- what is decided of a new subscription each of whose addresses may be called, by what the role sees
 abbrev pub sub_made : Limits → ℕ → ℕ → Role → SubIn → Base → Result Decision Refusal
 sub_made limits now n role body base = sight_of base role >>= λ sight. of_portfolio sub_outcome (sub_post limits now n (owner_in sight) body base.portfolio)
 
+-- the same of a subscription that is put again, by its id
 abbrev pub sub_put_again : ℕ → Role → List ℕ → SubIn → Base → Result Decision Refusal
 sub_put_again now role id body base = sight_of base role >>= λ sight. of_portfolio sub_outcome (sub_put sight now id body base.portfolio)
 

@@ -17,6 +17,6 @@ LeftIsHeld s = IsTrue s.is_open → (held : State) → AreLeftWith held s.now.tr
 abbrev pub LeavesLastCommit : sql.State → Type 0
 LeavesLastCommit s = IsTrue s.is_open → (trees : Trees) → s.may_leave trees → trees ≡ s.committed.trees
 
--- each is sound
+-- each desk in memory is sound
 abbrev pub MemoryIsSound : Type 0
 MemoryIsSound = (desk : SqlDesk MemStore over_memory) → IsSound over_memory desk

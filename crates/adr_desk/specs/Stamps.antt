@@ -18,6 +18,7 @@ left_at after stamps key = if is_some (at view_cmp key after) then stamps else r
 abbrev pub left_of : List (ViewKey × Stamps) → List (ViewKey × Stamps) → List (ViewKey × Stamps) → List (ViewKey × Stamps)
 left_of after stamps rows = fold (λ stamps e. left_at after stamps e.0) stamps rows
 
+-- there were stamps, and both moments are those of these
 abbrev pub are_those : Option Stamps → Stamps → Bool
 are_those None stamps = false
 are_those (Some old) stamps = (old.created == stamps.created) && (old.modified == stamps.modified)
@@ -38,6 +39,6 @@ stamped change kept = record kept { stamps = change kept.stamps }
 abbrev pub with_restamped : List (ViewKey × Content) → List (ViewKey × Content) → ℕ → Kept → Kept
 with_restamped before after now = stamped (λ stamps. restamped stamps before after now)
 
--- the stamps before and after it, and what changes
+-- the stamps before a change from one view to another and after it, and what changes
 abbrev pub turned_by : List (ViewKey × Stamps) → List (ViewKey × Content) → List (ViewKey × Content) → ℕ → Turned
 turned_by stamps before after now = record { before = stamps; changes = changes before after; after = restamped stamps before after now }

@@ -72,10 +72,11 @@ pub record IsStepped (step : State → Result (Answer × State) Refusal) (held :
 abbrev pub StepsTables : (State → Result (Answer × State) Refusal) → sql.State → sql.State → Result Answer Refusal → Type 0
 StepsTables step old new result = HasCleanDisk new → IfOk result (λ answer. (held : State) → HoldsState held old → IsStepped step held answer new)
 
--- tables that hold the state which a step makes, and trees that a crash left so
+-- tables hold the state which a step makes
 abbrev pub HoldsStepped : (State → Result (Answer × State) Refusal) → State → sql.State → Type 0
 HoldsStepped step held s = (answer : Answer) × (after : State) × (step held ≡ Ok (answer, after)) × HoldsState after s
 
+-- trees that a crash left hold the state which a step makes
 abbrev pub LeftStepped : (State → Result (Answer × State) Refusal) → State → Trees → Type 0
 LeftStepped step held trees = (answer : Answer) × (after : State) × (step held ≡ Ok (answer, after)) × AreLeftWith after trees
 

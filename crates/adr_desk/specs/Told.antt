@@ -41,7 +41,7 @@ side seen stamps = record { base = seen.base; view = seen.view; stamps = stamps 
 abbrev pub entries_told : List ℕ → Seen → Seen → Turned → List Entry
 entries_told client before after turned = entries_made client after.base.portfolio.subs (side before turned.before) (side after turned.after) turned.changes
 
--- nothing is told of a command that leaves all that is shown
+-- the entries that tell of a command: none where it leaves all that is shown
 abbrev pub entries_for : List ℕ → Command → Seen → Seen → Turned → List Entry
 entries_for client command before after turned = if is_quiet command then [] else entries_told client before after turned
 

@@ -1,7 +1,7 @@
 //! A query on the tables, in a transaction that is dropped.
 ghost use Rattle.std.specs.Prelude.{◌≡◌, false, IfOk, IfErr};
 ghost use Rattle.sqlite.specs.Held.{state};
-ghost use Rattle.adr_sql.specs.Calls.{Stays};
+ghost use Rattle.adr_sql.specs.Calls.{LeavesLent};
 ghost use Rattle.adr_db.specs.Calls.{Finds, IsOfStore};
 ghost use Rattle.adr_queries.specs.declared.query.Query.TheVariants as query;
 ghost use Rattle.adr_queries.specs.Listed.{listed_for, IsListed};
@@ -50,8 +50,7 @@ fn asks_outbox(query: &Query) -> bool
 
 /// What is kept of the state but the outbox, which is not read.
 fn shown_alone<S: Alter>(alloc: Global, tx: &mut Transaction<'_, S>) -> Result<State, Refusal>
-    ensures same_reference { tx.new.conn.ghost_name ≡ tx.old.conn.ghost_name }
-    ensures stays { Stays S.Store tx.old.conn.now tx.new.conn.now result }
+    ensures lent { LeavesLent S.Store tx.old.conn tx.new.conn result }
     ensures finds { Finds S.Store tx.old.conn.now tx.new.conn.now (λ kept found. found ≡ shown_alone kept) result }
     ensures refused { IfErr result IsOfStore }
 {
@@ -71,8 +70,7 @@ fn state_for<S: Alter>(
     tx: &mut Transaction<'_, S>,
     query: &Query,
 ) -> Result<State, Refusal>
-    ensures same_reference { tx.new.conn.ghost_name ≡ tx.old.conn.ghost_name }
-    ensures stays { Stays S.Store tx.old.conn.now tx.new.conn.now result }
+    ensures lent { LeavesLent S.Store tx.old.conn tx.new.conn result }
     ensures finds { Finds S.Store tx.old.conn.now tx.new.conn.now (λ kept found. found ≡ state_for query.now kept) result }
     ensures refused { IfErr result IsOfStore }
 {
@@ -93,8 +91,7 @@ fn replied<S: Alter>(
     tx: &mut Transaction<'_, S>,
     query: &Query,
 ) -> Result<Answer, Refusal>
-    ensures same_reference { tx.new.conn.ghost_name ≡ tx.old.conn.ghost_name }
-    ensures stays { Stays S.Store tx.old.conn.now tx.new.conn.now result }
+    ensures lent { LeavesLent S.Store tx.old.conn tx.new.conn result }
     ensures tells { TellsTables (λ held. reply held query.now) (state S.Store tx.old.conn.now) (state S.Store tx.new.conn.now) result }
     ensures refuses { RefusesAs (λ held. reply held query.now) (state S.Store tx.old.conn.now) (state S.Store tx.new.conn.now) result }
     ensures listed { IfErr result (IsListed (Unit {0}) (listed_for query.now)) }
@@ -111,8 +108,7 @@ fn events<S: Alter>(
     filter: &EventFilter,
     part: Page,
 ) -> Result<Answer, Refusal>
-    ensures same_reference { tx.new.conn.ghost_name ≡ tx.old.conn.ghost_name }
-    ensures stays { Stays S.Store tx.old.conn.now tx.new.conn.now result }
+    ensures lent { LeavesLent S.Store tx.old.conn tx.new.conn result }
     ensures tells { TellsTables (λ held. reply held (query.Events role.now filter.now part)) (state S.Store tx.old.conn.now) (state S.Store tx.new.conn.now) result }
     ensures refuses { RefusesAs (λ held. reply held (query.Events role.now filter.now part)) (state S.Store tx.old.conn.now) (state S.Store tx.new.conn.now) result }
     ensures listed { IfErr result (IsListed (Unit {0}) (listed_for (query.Events role.now filter.now part))) }
@@ -126,8 +122,7 @@ fn missed<S: Alter>(
     tx: &mut Transaction<'_, S>,
     limit: u32,
 ) -> Result<Answer, Refusal>
-    ensures same_reference { tx.new.conn.ghost_name ≡ tx.old.conn.ghost_name }
-    ensures stays { Stays S.Store tx.old.conn.now tx.new.conn.now result }
+    ensures lent { LeavesLent S.Store tx.old.conn tx.new.conn result }
     ensures tells { TellsTables (λ held. reply held (query.Probes limit)) (state S.Store tx.old.conn.now) (state S.Store tx.new.conn.now) result }
     ensures refuses { RefusesAs (λ held. reply held (query.Probes limit)) (state S.Store tx.old.conn.now) (state S.Store tx.new.conn.now) result }
     ensures listed { IfErr result (IsListed (Unit {0}) (listed_for (query.Probes limit))) }
@@ -151,8 +146,7 @@ fn rolled_up<S: Alter>(
     role: &Role,
     event: &ObjectId,
 ) -> Result<Answer, Refusal>
-    ensures same_reference { tx.new.conn.ghost_name ≡ tx.old.conn.ghost_name }
-    ensures stays { Stays S.Store tx.old.conn.now tx.new.conn.now result }
+    ensures lent { LeavesLent S.Store tx.old.conn tx.new.conn result }
     ensures tells { TellsTables (λ held. reply held (query.Rollup role.now event.now)) (state S.Store tx.old.conn.now) (state S.Store tx.new.conn.now) result }
     ensures refuses { RefusesAs (λ held. reply held (query.Rollup role.now event.now)) (state S.Store tx.old.conn.now) (state S.Store tx.new.conn.now) result }
     ensures listed { IfErr result (IsListed (Unit {0}) (listed_for (query.Rollup role.now event.now))) }
@@ -170,8 +164,7 @@ fn asked<S: Alter>(
     tx: &mut Transaction<'_, S>,
     query: &Query,
 ) -> Result<Answer, Refusal>
-    ensures same_reference { tx.new.conn.ghost_name ≡ tx.old.conn.ghost_name }
-    ensures stays { Stays S.Store tx.old.conn.now tx.new.conn.now result }
+    ensures lent { LeavesLent S.Store tx.old.conn tx.new.conn result }
     ensures tells { TellsTables (λ held. reply held query.now) (state S.Store tx.old.conn.now) (state S.Store tx.new.conn.now) result }
     ensures refuses { RefusesAs (λ held. reply held query.now) (state S.Store tx.old.conn.now) (state S.Store tx.new.conn.now) result }
     ensures listed { IfErr result (IsListed (Unit {0}) (listed_for query.now)) }

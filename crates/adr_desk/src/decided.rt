@@ -1,6 +1,6 @@
 //! What a command decides, carried out on the tables, on a lent transaction.
-ghost use Rattle.std.specs.Prelude.{◌≡◌, IfOk, IfErr};
-ghost use Rattle.adr_sql.specs.Calls.{Stays};
+ghost use Rattle.std.specs.Prelude.{IfOk, IfErr};
+ghost use Rattle.adr_sql.specs.Calls.{LeavesLent};
 ghost use Rattle.adr_machine.specs.Edits.{decided};
 ghost use Rattle.adr_queries.specs.Listed.{IsListed};
 ghost use Rattle.adr_machine.specs.Listed.{listed};
@@ -32,8 +32,7 @@ pub(crate) fn carry_out<S: Alter>(
     meta: &mut Meta,
     command: &Command,
 ) -> Result<Outcome, Refusal>
-    ensures same_reference { tx.new.conn.ghost_name ≡ tx.old.conn.ghost_name }
-    ensures stays { Stays S.Store tx.old.conn.now tx.new.conn.now result }
+    ensures lent { LeavesLent S.Store tx.old.conn tx.new.conn result }
     ensures carries { CarriesOut S.Store tx.old.conn.now tx.new.conn.now (λ base. decided limits.now now number base command.now) meta.old meta.new result }
     ensures answered { IfOk result (IsAnswered command.now) }
     ensures listed { IfErr result (IsListed (Unit {0}) (listed command.now)) }

@@ -1,7 +1,7 @@
 //! Entries of the outbox that are leased, sent and failed, on the tables.
-ghost use Rattle.std.specs.Prelude.{◌≡◌, IfErr};
+ghost use Rattle.std.specs.Prelude.{IfErr};
 ghost use Rattle.std.specs.Option.{option_copied};
-ghost use Rattle.adr_sql.specs.Calls.{Stays};
+ghost use Rattle.adr_sql.specs.Calls.{LeavesLent};
 ghost use Rattle.adr_queries.specs.declared.answer.Answer.TheVariants as answer;
 ghost use Rattle.adr_queries.specs.Listed.{IsListed};
 ghost use Rattle.adr_machine.specs.declared.command.Command.TheVariants as command;
@@ -28,8 +28,7 @@ fn leased<S: Alter>(
     now: Moment,
     meta: &Meta,
 ) -> Result<Answer, Refusal>
-    ensures same_reference { tx.new.conn.ghost_name ≡ tx.old.conn.ghost_name }
-    ensures stays { Stays S.Store tx.old.conn.now tx.new.conn.now result }
+    ensures lent { LeavesLent S.Store tx.old.conn tx.new.conn result }
     ensures turns { TurnsOutbox S.Store tx.old.conn.now tx.new.conn.now (λ o. delivered limits.now now o command.Lease) meta.now meta.now result }
     ensures refuses { RefusesOutbox S.Store tx.old.conn.now tx.new.conn.now (λ o. delivered limits.now now o command.Lease) meta.now result }
     ensures listed { IfErr result (IsListed (Unit {0}) (listed command.Lease)) }
@@ -49,8 +48,7 @@ fn was_sent<S: Alter>(
     lease: u64,
     remote: Option<&ObjectId>,
 ) -> Result<Answer, Refusal>
-    ensures same_reference { tx.new.conn.ghost_name ≡ tx.old.conn.ghost_name }
-    ensures stays { Stays S.Store tx.old.conn.now tx.new.conn.now result }
+    ensures lent { LeavesLent S.Store tx.old.conn tx.new.conn result }
     ensures turns { TurnsOutbox S.Store tx.old.conn.now tx.new.conn.now (λ o. delivered limits.now now o (command.Sent entry lease (option_copied remote.entry))) meta.old meta.new result }
     ensures refuses { RefusesOutbox S.Store tx.old.conn.now tx.new.conn.now (λ o. delivered limits.now now o (command.Sent entry lease (option_copied remote.entry))) meta.old result }
     ensures listed { IfErr result (IsListed (Unit {0}) (listed (command.Sent entry lease (option_copied remote.entry)))) }
@@ -69,8 +67,7 @@ fn has_failed<S: Alter>(
     lease: u64,
     forget: bool,
 ) -> Result<Answer, Refusal>
-    ensures same_reference { tx.new.conn.ghost_name ≡ tx.old.conn.ghost_name }
-    ensures stays { Stays S.Store tx.old.conn.now tx.new.conn.now result }
+    ensures lent { LeavesLent S.Store tx.old.conn tx.new.conn result }
     ensures turns { TurnsOutbox S.Store tx.old.conn.now tx.new.conn.now (λ o. delivered limits.now now o (command.Failed entry lease forget)) meta.old meta.new result }
     ensures refuses { RefusesOutbox S.Store tx.old.conn.now tx.new.conn.now (λ o. delivered limits.now now o (command.Failed entry lease forget)) meta.old result }
     ensures listed { IfErr result (IsListed (Unit {0}) (listed (command.Failed entry lease forget))) }
@@ -91,8 +88,7 @@ pub(crate) fn delivered<S: Alter>(
     meta: &mut Meta,
     command: &Command,
 ) -> Result<Answer, Refusal>
-    ensures same_reference { tx.new.conn.ghost_name ≡ tx.old.conn.ghost_name }
-    ensures stays { Stays S.Store tx.old.conn.now tx.new.conn.now result }
+    ensures lent { LeavesLent S.Store tx.old.conn tx.new.conn result }
     ensures turns { TurnsOutbox S.Store tx.old.conn.now tx.new.conn.now (λ o. delivered limits.now now o command.now) meta.old meta.new result }
     ensures refuses { RefusesOutbox S.Store tx.old.conn.now tx.new.conn.now (λ o. delivered limits.now now o command.now) meta.old result }
     ensures listed { IfErr result (IsListed (Unit {0}) (listed command.now)) }

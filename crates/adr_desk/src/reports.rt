@@ -1,6 +1,6 @@
 //! Reports on the tables, by who gives the command.
-ghost use Rattle.std.specs.Prelude.{◌≡◌, IfOk, IfErr};
-ghost use Rattle.adr_sql.specs.Calls.{Stays};
+ghost use Rattle.std.specs.Prelude.{IfOk, IfErr};
+ghost use Rattle.adr_sql.specs.Calls.{LeavesLent};
 ghost use Rattle.adr_db.specs.declared.meta.Meta.{Meta as MetaOf};
 ghost use Rattle.adr_machine.specs.declared.command.Command.TheVariants as command;
 ghost use Rattle.adr_machine.specs.Edits.{post_decided, put_decided, delete_decided};
@@ -27,8 +27,7 @@ pub(crate) fn report_post<S: Alter>(
     role: &Role,
     report: &ReportIn,
 ) -> Result<Outcome, Refusal>
-    ensures same_reference { tx.new.conn.ghost_name ≡ tx.old.conn.ghost_name }
-    ensures stays { Stays S.Store tx.old.conn.now tx.new.conn.now result }
+    ensures lent { LeavesLent S.Store tx.old.conn tx.new.conn result }
     ensures carries { (meta : MetaOf) → CarriesOut S.Store tx.old.conn.now tx.new.conn.now (λ base. post_decided limits.now number role.now report.now base) meta meta result }
     ensures answered { IfOk result (IsAnswered (command.ReportPost role.now report.now)) }
     ensures listed { IfErr result (IsListed (Unit {0}) (listed (command.ReportPost role.now report.now))) }
@@ -46,8 +45,7 @@ pub(crate) fn report_put<S: Alter>(
     id: &ObjectId,
     report: &ReportIn,
 ) -> Result<Outcome, Refusal>
-    ensures same_reference { tx.new.conn.ghost_name ≡ tx.old.conn.ghost_name }
-    ensures stays { Stays S.Store tx.old.conn.now tx.new.conn.now result }
+    ensures lent { LeavesLent S.Store tx.old.conn tx.new.conn result }
     ensures carries { (meta : MetaOf) → CarriesOut S.Store tx.old.conn.now tx.new.conn.now (λ base. put_decided revision role.now id.now report.now base) meta meta result }
     ensures answered { IfOk result (IsAnswered (command.ReportPut role.now id.now report.now)) }
     ensures listed { IfErr result (IsListed (Unit {0}) (listed (command.ReportPut role.now id.now report.now))) }
@@ -63,8 +61,7 @@ pub(crate) fn report_delete<S: Alter>(
     role: &Role,
     id: &ObjectId,
 ) -> Result<Outcome, Refusal>
-    ensures same_reference { tx.new.conn.ghost_name ≡ tx.old.conn.ghost_name }
-    ensures stays { Stays S.Store tx.old.conn.now tx.new.conn.now result }
+    ensures lent { LeavesLent S.Store tx.old.conn tx.new.conn result }
     ensures carries { (meta : MetaOf) → CarriesOut S.Store tx.old.conn.now tx.new.conn.now (λ base. delete_decided role.now id.now base) meta meta result }
     ensures answered { IfOk result (IsAnswered (command.ReportDelete role.now id.now)) }
     ensures listed { IfErr result (IsListed (Unit {0}) (listed (command.ReportDelete role.now id.now))) }

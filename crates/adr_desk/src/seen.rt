@@ -1,6 +1,6 @@
 //! What the tables hold and show, before or after an edit.
-ghost use Rattle.std.specs.Prelude.{◌≡◌, IfErr};
-ghost use Rattle.adr_sql.specs.Calls.{Stays};
+ghost use Rattle.std.specs.Prelude.{IfErr};
+ghost use Rattle.adr_sql.specs.Calls.{LeavesLent};
 ghost use Rattle.adr_db.specs.Calls.{IsOfStore};
 ghost use Rattle.adr_desk.specs.Told.{SeesBase};
 
@@ -30,8 +30,7 @@ pub(crate) fn see<S: Alter>(
     tx: &mut Transaction<'_, S>,
     meta: &Meta,
 ) -> Result<Seen, Refusal>
-    ensures same_reference { tx.new.conn.ghost_name ≡ tx.old.conn.ghost_name }
-    ensures stays { Stays S.Store tx.old.conn.now tx.new.conn.now result }
+    ensures lent { LeavesLent S.Store tx.old.conn tx.new.conn result }
     ensures sees { SeesBase S.Store tx.old.conn.now tx.new.conn.now meta.now result }
     ensures refused { IfErr result IsOfStore }
 {

@@ -2,11 +2,10 @@
 ghost use Rattle.std.specs.Prelude.{◌≡◌, [], ◌∷◌, IfErr};
 ghost use Rattle.adr_text.specs.declared.refusal.Refusal.TheVariants.{Forbidden};
 ghost use Rattle.adr_state.specs.Vens.{ven_at};
-ghost use Rattle.adr_sql.specs.Calls.{Stays};
-ghost use Rattle.adr_db.specs.Calls.{Finds, IsOfStore};
+ghost use Rattle.adr_sql.specs.Calls.{LeavesLent};
+ghost use Rattle.adr_db.specs.Calls.{Finds, IsOfStore, IsOneOf};
 ghost use Rattle.adr_db.specs.BaseCalls.{Refuses};
 ghost use Rattle.adr_db.specs.Images.{image_kept};
-ghost use Rattle.adr_portfolio.specs.Refusals.{IsOneOf};
 ghost use Rattle.adr_reports.specs.Decided.{FindsOr};
 ghost use Rattle.adr_queries.specs.Roles.{sight_by, sight_of};
 
@@ -24,8 +23,7 @@ fn ven_at<S: Alter>(
     tx: &mut Transaction<'_, S>,
     id: &ObjectId,
 ) -> Result<Option<Number>, Refusal>
-    ensures same_reference { tx.new.conn.ghost_name ≡ tx.old.conn.ghost_name }
-    ensures stays { Stays S.Store tx.old.conn.now tx.new.conn.now result }
+    ensures lent { LeavesLent S.Store tx.old.conn tx.new.conn result }
     ensures finds { Finds S.Store tx.old.conn.now tx.new.conn.now (λ kept ven. ven ≡ ven_at id.now kept.portfolio) result }
     ensures refused { IfErr result IsOfStore }
 {
@@ -52,8 +50,7 @@ pub(crate) fn sight_in<S: Alter>(
     tx: &mut Transaction<'_, S>,
     role: &Role,
 ) -> Result<Sight, Refusal>
-    ensures same_reference { tx.new.conn.ghost_name ≡ tx.old.conn.ghost_name }
-    ensures stays { Stays S.Store tx.old.conn.now tx.new.conn.now result }
+    ensures lent { LeavesLent S.Store tx.old.conn tx.new.conn result }
     ensures finds { FindsOr S.Store tx.old.conn.now tx.new.conn.now (λ kept. sight_of (image_kept kept).base role.now) result }
     ensures refuses { Refuses S.Store tx.old.conn.now tx.new.conn.now (λ kept. sight_of (image_kept kept).base role.now) result }
     ensures refused { IfErr result (IsOneOf (Forbidden ∷ [])) }

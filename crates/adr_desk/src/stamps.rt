@@ -6,7 +6,7 @@ ghost use Rattle.std.specs.Option.{option_copied};
 ghost use Rattle.sqlite.specs.Held.{state};
 ghost use Rattle.sqlite.specs.State.{HasCleanDisk};
 ghost use Rattle.adr_state.specs.Keys.{view_cmp};
-ghost use Rattle.adr_sql.specs.Calls.{Stays};
+ghost use Rattle.adr_sql.specs.Calls.{LeavesLent};
 ghost use Rattle.adr_db.specs.Kept.{Kept, Keeps};
 ghost use Rattle.adr_db.specs.Calls.{LeavesKept, Turns, IsOfStore};
 ghost use Rattle.adr_desk.specs.Stamps.{left_at, left_of, are_those, put_at, put_all, stamped, with_restamped, turned_by};
@@ -25,8 +25,7 @@ fn leave<S: Alter>(
     after: &Table<ViewKey, Stamps>,
     key: &ViewKey,
 ) -> Result<(), Refusal>
-    ensures same_reference { tx.new.conn.ghost_name ≡ tx.old.conn.ghost_name }
-    ensures stays { Stays S.Store tx.old.conn.now tx.new.conn.now result }
+    ensures lent { LeavesLent S.Store tx.old.conn tx.new.conn result }
     ensures leaves { LeavesKept S.Store tx.old.conn.now tx.new.conn.now (stamped (λ stamps. left_at after.now stamps key.now)) result }
     ensures refused { IfErr result IsOfStore }
 {
@@ -42,8 +41,7 @@ fn leave_each<S: Alter>(
     before: &Table<ViewKey, Stamps>,
     after: &Table<ViewKey, Stamps>,
 ) -> Result<(), Refusal>
-    ensures same_reference { tx.new.conn.ghost_name ≡ tx.old.conn.ghost_name }
-    ensures stays { Stays S.Store tx.old.conn.now tx.new.conn.now result }
+    ensures lent { LeavesLent S.Store tx.old.conn tx.new.conn result }
     ensures leaves { LeavesKept S.Store tx.old.conn.now tx.new.conn.now (stamped (λ stamps. left_of after.now stamps before.now)) result }
     ensures in_order { OnOk result (IsStrictlySortedBy view_cmp (keys_of before.now)) }
     ensures refused { IfErr result IsOfStore }
@@ -71,8 +69,7 @@ fn put<S: Alter>(
     key: &ViewKey,
     stamps: &Stamps,
 ) -> Result<(), Refusal>
-    ensures same_reference { tx.new.conn.ghost_name ≡ tx.old.conn.ghost_name }
-    ensures stays { Stays S.Store tx.old.conn.now tx.new.conn.now result }
+    ensures lent { LeavesLent S.Store tx.old.conn tx.new.conn result }
     ensures leaves { LeavesKept S.Store tx.old.conn.now tx.new.conn.now (stamped (λ all. put_at before.now all (key.now, stamps.now))) result }
     ensures refused { IfErr result IsOfStore }
 {
@@ -88,8 +85,7 @@ fn put_each<S: Alter>(
     before: &Table<ViewKey, Stamps>,
     after: &Table<ViewKey, Stamps>,
 ) -> Result<(), Refusal>
-    ensures same_reference { tx.new.conn.ghost_name ≡ tx.old.conn.ghost_name }
-    ensures stays { Stays S.Store tx.old.conn.now tx.new.conn.now result }
+    ensures lent { LeavesLent S.Store tx.old.conn tx.new.conn result }
     ensures leaves { LeavesKept S.Store tx.old.conn.now tx.new.conn.now (stamped (λ stamps. put_all before.now stamps after.now)) result }
     ensures in_order { OnOk result (IsStrictlySortedBy view_cmp (keys_of after.now)) }
     ensures refused { IfErr result IsOfStore }
@@ -106,8 +102,7 @@ fn turn<S: Alter>(
     before: &Table<ViewKey, Stamps>,
     after: &Table<ViewKey, Stamps>,
 ) -> Result<(), Refusal>
-    ensures same_reference { tx.new.conn.ghost_name ≡ tx.old.conn.ghost_name }
-    ensures stays { Stays S.Store tx.old.conn.now tx.new.conn.now result }
+    ensures lent { LeavesLent S.Store tx.old.conn tx.new.conn result }
     ensures leaves { HasCleanDisk (state S.Store tx.new.conn.now) → OnOk result ((kept : Kept) → Keeps kept (state S.Store tx.old.conn.now) → kept.stamps ≡ before.now → Keeps (record kept { stamps = after.now }) (state S.Store tx.new.conn.now)) }
     ensures refused { IfErr result IsOfStore }
 {
@@ -141,8 +136,7 @@ pub(crate) fn restamp<S: Alter>(
     before: &View,
     after: &View,
 ) -> Result<Turned, Refusal>
-    ensures same_reference { tx.new.conn.ghost_name ≡ tx.old.conn.ghost_name }
-    ensures stays { Stays S.Store tx.old.conn.now tx.new.conn.now result }
+    ensures lent { LeavesLent S.Store tx.old.conn tx.new.conn result }
     ensures turns { Turns S.Store tx.old.conn.now tx.new.conn.now (with_restamped before.now after.now now) (λ kept turned. turned ≡ turned_by kept.stamps before.now after.now now) result }
     ensures refused { IfErr result IsOfStore }
 {

@@ -3,7 +3,7 @@ ghost use Rattle.std.specs.Prelude.{◌≡◌, false, IsTrue, IfOk, IfErr, OnOk,
 ghost use Rattle.sqlite.specs.Held.{state};
 ghost use Rattle.sqlite.specs.State.{HasCleanDisk};
 ghost use Rattle.adr_state.specs.declared.state.State.{State};
-ghost use Rattle.adr_sql.specs.Calls.{Stays, Commits};
+ghost use Rattle.adr_sql.specs.Calls.{LeavesLent, Commits};
 ghost use Rattle.adr_db.specs.Kept.{Kept, Keeps, with_meta};
 ghost use Rattle.adr_db.specs.Bases.{HoldsState};
 ghost use Rattle.adr_db.specs.BaseCalls.{RefusesOn};
@@ -34,8 +34,7 @@ fn put_changed<S: Alter>(
     before: &Meta,
     after: &Meta,
 ) -> Result<(), Refusal>
-    ensures same_reference { tx.new.conn.ghost_name ≡ tx.old.conn.ghost_name }
-    ensures stays { Stays S.Store tx.old.conn.now tx.new.conn.now result }
+    ensures lent { LeavesLent S.Store tx.old.conn tx.new.conn result }
     ensures leaves { HasCleanDisk (state S.Store tx.new.conn.now) → OnOk result ((kept : Kept) → Keeps kept (state S.Store tx.old.conn.now) → kept.meta ≡ before.now → Keeps (with_meta after.now kept) (state S.Store tx.new.conn.now)) }
     ensures refused { IfErr result IsOfStore }
 {
@@ -55,8 +54,7 @@ fn numbered<S: Alter>(
     meta: &mut Meta,
     command: &Command,
 ) -> Result<Outcome, Refusal>
-    ensures same_reference { tx.new.conn.ghost_name ≡ tx.old.conn.ghost_name }
-    ensures stays { Stays S.Store tx.old.conn.now tx.new.conn.now result }
+    ensures lent { LeavesLent S.Store tx.old.conn tx.new.conn result }
     ensures makes { EditsTables (λ base. edit_of limits.now now base command.now) meta.old meta.new (state S.Store tx.old.conn.now) (state S.Store tx.new.conn.now) result }
     ensures refuses { RefusesOn S.Store tx.old.conn.now tx.new.conn.now (λ base. edit_of limits.now now base command.now) meta.old result }
     ensures answered { IfOk result (IsAnswered command.now) }
@@ -79,8 +77,7 @@ fn committed<S: Alter>(
     meta: &mut Meta,
     command: &Command,
 ) -> Result<Answer, Refusal>
-    ensures same_reference { tx.new.conn.ghost_name ≡ tx.old.conn.ghost_name }
-    ensures stays { Stays S.Store tx.old.conn.now tx.new.conn.now result }
+    ensures lent { LeavesLent S.Store tx.old.conn tx.new.conn result }
     ensures makes { CommitsTables (step_of settings.now (λ base. edit_of settings.now.limits now base command.now) now) meta.old meta.new (state S.Store tx.old.conn.now) (state S.Store tx.new.conn.now) result }
     ensures refuses { RefusesToCommit (step_of settings.now (λ base. edit_of settings.now.limits now base command.now) now) meta.old (state S.Store tx.old.conn.now) (state S.Store tx.new.conn.now) result }
     ensures listed { IfErr result (IsListed (Unit {0}) (listed command.now)) }
@@ -102,8 +99,7 @@ fn acted<S: Alter>(
     meta: &mut Meta,
     command: &Command,
 ) -> Result<Answer, Refusal>
-    ensures same_reference { tx.new.conn.ghost_name ≡ tx.old.conn.ghost_name }
-    ensures stays { Stays S.Store tx.old.conn.now tx.new.conn.now result }
+    ensures lent { LeavesLent S.Store tx.old.conn tx.new.conn result }
     ensures makes { CommitsTables (step_by settings.now now command.now) meta.old meta.new (state S.Store tx.old.conn.now) (state S.Store tx.new.conn.now) result }
     ensures refuses { RefusesToCommit (step_by settings.now now command.now) meta.old (state S.Store tx.old.conn.now) (state S.Store tx.new.conn.now) result }
     ensures listed { IfErr result (IsListed (Unit {0}) (listed command.now)) }
@@ -125,8 +121,7 @@ fn stepped<S: Alter>(
     now: Moment,
     command: &Command,
 ) -> Result<Answer, Refusal>
-    ensures same_reference { tx.new.conn.ghost_name ≡ tx.old.conn.ghost_name }
-    ensures stays { Stays S.Store tx.old.conn.now tx.new.conn.now result }
+    ensures lent { LeavesLent S.Store tx.old.conn tx.new.conn result }
     ensures makes { StepsTables (step_by settings.now now command.now) (state S.Store tx.old.conn.now) (state S.Store tx.new.conn.now) result }
     ensures refuses { RefusesAs (step_by settings.now now command.now) (state S.Store tx.old.conn.now) (state S.Store tx.new.conn.now) result }
     ensures listed { IfErr result (IsListed (Unit {0}) (listed command.now)) }

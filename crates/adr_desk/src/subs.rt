@@ -1,6 +1,6 @@
 //! Subscriptions on the tables, by who gives the command.
-ghost use Rattle.std.specs.Prelude.{◌≡◌, IfOk, IfErr};
-ghost use Rattle.adr_sql.specs.Calls.{Stays};
+ghost use Rattle.std.specs.Prelude.{IfOk, IfErr};
+ghost use Rattle.adr_sql.specs.Calls.{LeavesLent};
 ghost use Rattle.adr_db.specs.declared.meta.Meta.{Meta as MetaOf};
 ghost use Rattle.adr_machine.specs.declared.command.Command.TheVariants as command;
 ghost use Rattle.adr_machine.specs.Edits.{sub_post_decided, sub_put_decided, sub_delete_decided};
@@ -30,8 +30,7 @@ fn made<S: Alter>(
     role: &Role,
     body: SubIn,
 ) -> Result<Outcome, Refusal>
-    ensures same_reference { tx.new.conn.ghost_name ≡ tx.old.conn.ghost_name }
-    ensures stays { Stays S.Store tx.old.conn.now tx.new.conn.now result }
+    ensures lent { LeavesLent S.Store tx.old.conn tx.new.conn result }
     ensures carries { (meta : MetaOf) → CarriesOut S.Store tx.old.conn.now tx.new.conn.now (sub_made limits.now now number role.now body) meta meta result }
     ensures answered { IfOk result (IsAnswered (command.SubPost role.now body)) }
     ensures listed { IfErr result (IsListed (Unit {0}) (listed (command.SubPost role.now body))) }
@@ -50,8 +49,7 @@ pub(crate) fn sub_post<S: Alter>(
     role: &Role,
     sub: &SubIn,
 ) -> Result<Outcome, Refusal>
-    ensures same_reference { tx.new.conn.ghost_name ≡ tx.old.conn.ghost_name }
-    ensures stays { Stays S.Store tx.old.conn.now tx.new.conn.now result }
+    ensures lent { LeavesLent S.Store tx.old.conn tx.new.conn result }
     ensures carries { (meta : MetaOf) → CarriesOut S.Store tx.old.conn.now tx.new.conn.now (λ base. sub_post_decided limits.now now number role.now sub.now base) meta meta result }
     ensures answered { IfOk result (IsAnswered (command.SubPost role.now sub.now)) }
     ensures listed { IfErr result (IsListed (Unit {0}) (listed (command.SubPost role.now sub.now))) }
@@ -69,8 +67,7 @@ fn replaced<S: Alter>(
     id: &ObjectId,
     body: SubIn,
 ) -> Result<Outcome, Refusal>
-    ensures same_reference { tx.new.conn.ghost_name ≡ tx.old.conn.ghost_name }
-    ensures stays { Stays S.Store tx.old.conn.now tx.new.conn.now result }
+    ensures lent { LeavesLent S.Store tx.old.conn tx.new.conn result }
     ensures carries { (meta : MetaOf) → CarriesOut S.Store tx.old.conn.now tx.new.conn.now (sub_put_again now role.now id.now body) meta meta result }
     ensures answered { IfOk result (IsAnswered (command.SubPut role.now id.now body)) }
     ensures listed { IfErr result (IsListed (Unit {0}) (listed (command.SubPut role.now id.now body))) }
@@ -88,8 +85,7 @@ pub(crate) fn sub_put<S: Alter>(
     id: &ObjectId,
     sub: &SubIn,
 ) -> Result<Outcome, Refusal>
-    ensures same_reference { tx.new.conn.ghost_name ≡ tx.old.conn.ghost_name }
-    ensures stays { Stays S.Store tx.old.conn.now tx.new.conn.now result }
+    ensures lent { LeavesLent S.Store tx.old.conn tx.new.conn result }
     ensures carries { (meta : MetaOf) → CarriesOut S.Store tx.old.conn.now tx.new.conn.now (λ base. sub_put_decided now role.now id.now sub.now base) meta meta result }
     ensures answered { IfOk result (IsAnswered (command.SubPut role.now id.now sub.now)) }
     ensures listed { IfErr result (IsListed (Unit {0}) (listed (command.SubPut role.now id.now sub.now))) }
@@ -105,8 +101,7 @@ pub(crate) fn sub_delete<S: Alter>(
     role: &Role,
     id: &ObjectId,
 ) -> Result<Outcome, Refusal>
-    ensures same_reference { tx.new.conn.ghost_name ≡ tx.old.conn.ghost_name }
-    ensures stays { Stays S.Store tx.old.conn.now tx.new.conn.now result }
+    ensures lent { LeavesLent S.Store tx.old.conn tx.new.conn result }
     ensures carries { (meta : MetaOf) → CarriesOut S.Store tx.old.conn.now tx.new.conn.now (λ base. sub_delete_decided role.now id.now base) meta meta result }
     ensures answered { IfOk result (IsAnswered (command.SubDelete role.now id.now)) }
     ensures listed { IfErr result (IsListed (Unit {0}) (listed (command.SubDelete role.now id.now))) }

@@ -1,7 +1,7 @@
 //! What is told of a command: entries of the outbox, to the subscriptions that match and to the utility.
 ghost use Rattle.std.specs.Prelude.{◌≡◌, ◌⊎◌, [], IfOk, IfErr};
 ghost use Rattle.adr_text.specs.declared.refusal.Refusal.TheVariants.{Exhausted, OutboxFull};
-ghost use Rattle.adr_sql.specs.Calls.{Stays};
+ghost use Rattle.adr_sql.specs.Calls.{LeavesLent};
 ghost use Rattle.adr_db.specs.Calls.{IsOfStore};
 ghost use Rattle.adr_queries.specs.Listed.{IsListed};
 ghost use Rattle.adr_machine.specs.Listed.{listed};
@@ -46,8 +46,7 @@ fn keep_untold<S: Alter>(
     limits: &Limits,
     meta: &mut Meta,
 ) -> Result<(), Refusal>
-    ensures same_reference { tx.new.conn.ghost_name ≡ tx.old.conn.ghost_name }
-    ensures stays { Stays S.Store tx.old.conn.now tx.new.conn.now result }
+    ensures lent { LeavesLent S.Store tx.old.conn tx.new.conn result }
     ensures keeps { KeepsTold S.Store tx.old.conn.now tx.new.conn.now limits.now [] meta.old meta.new result }
     ensures refused { IfErr result IsOfStore }
 {
@@ -66,8 +65,7 @@ fn keep_told<S: Alter>(
     meta: &mut Meta,
     entries: &[Entry],
 ) -> Result<(), Refusal>
-    ensures same_reference { tx.new.conn.ghost_name ≡ tx.old.conn.ghost_name }
-    ensures stays { Stays S.Store tx.old.conn.now tx.new.conn.now result }
+    ensures lent { LeavesLent S.Store tx.old.conn tx.new.conn result }
     ensures keeps { KeepsTold S.Store tx.old.conn.now tx.new.conn.now limits.now entries.now meta.old meta.new result }
     ensures refuses { RefusesTold S.Store tx.old.conn.now tx.new.conn.now limits.now entries.now meta.old result }
     ensures refused { IfErr result (λ refusal. IsOfStore refusal ⊎ ((refusal ≡ Exhausted) ⊎ (refusal ≡ OutboxFull))) }
@@ -89,8 +87,7 @@ pub(crate) fn tell<S: Alter>(
     after: &Seen,
     turned: &Turned,
 ) -> Result<(), Refusal>
-    ensures same_reference { tx.new.conn.ghost_name ≡ tx.old.conn.ghost_name }
-    ensures stays { Stays S.Store tx.old.conn.now tx.new.conn.now result }
+    ensures lent { LeavesLent S.Store tx.old.conn tx.new.conn result }
     ensures keeps { KeepsTold S.Store tx.old.conn.now tx.new.conn.now settings.now.limits (entries_for settings.now.client command.now before.now after.now turned.now) meta.old meta.new result }
     ensures refuses { RefusesTold S.Store tx.old.conn.now tx.new.conn.now settings.now.limits (entries_for settings.now.client command.now before.now after.now turned.now) meta.old result }
     ensures listed { IfErr result (IsListed (Unit {0}) (listed command.now)) }

@@ -1,6 +1,6 @@
 //! All that is shown.
 ghost use Rattle.std.specs.Prelude.{◌≡◌, IfOk, IfErr};
-ghost use Rattle.adr_sql.specs.Calls.{Stays};
+ghost use Rattle.adr_sql.specs.Calls.{LeavesLent};
 ghost use Rattle.adr_state.specs.declared.base.Base.{Base as BaseOf};
 ghost use Rattle.adr_view.specs.Views.{view};
 ghost use Rattle.adr_db.specs.Calls.{IsOfStore};
@@ -35,8 +35,7 @@ fn view_by(
 /// shown of each live event; each report; and the roll-up of each event of which usage was reported. The mirror
 /// and the portfolio, with all reports, are read once.
 pub fn view<S: Alter>(alloc: Global, tx: &mut Transaction<'_, S>) -> Result<View, Refusal>
-    ensures same_reference { tx.new.conn.ghost_name ≡ tx.old.conn.ghost_name }
-    ensures stays { Stays S.Store tx.old.conn.now tx.new.conn.now result }
+    ensures lent { LeavesLent S.Store tx.old.conn tx.new.conn result }
     ensures finds { FindsOn S.Store tx.old.conn.now tx.new.conn.now (λ base all. all ≡ view base) result }
     ensures refused { IfErr result IsOfStore }
 {

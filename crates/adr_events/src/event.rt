@@ -1,6 +1,6 @@
 //! What is shown of one upstream event.
 ghost use Rattle.std.specs.Prelude.{◌≡◌, IfOk, IfErr};
-ghost use Rattle.adr_sql.specs.Calls.{Stays};
+ghost use Rattle.adr_sql.specs.Calls.{LeavesLent};
 ghost use Rattle.adr_view.specs.Views.{rows_for, event_rows};
 ghost use Rattle.adr_db.specs.Calls.{IsOfStore};
 ghost use Rattle.adr_db.specs.BaseCalls.{FindsOn};
@@ -8,8 +8,8 @@ ghost use Rattle.adr_events.specs.Shown.{IsShown};
 
 use crate::mark::rows_known;
 use adr_db_mirror::read_known;
+use adr_db_portfolio::named_participants;
 use adr_objects::EventBody;
-use adr_portfolio::named_participants;
 use adr_state::{Participant, ViewKey};
 use adr_text::{ObjectId, Refusal, Rows};
 use adr_view::{Content, carries, event_key, rows_for};
@@ -39,8 +39,7 @@ pub(crate) fn event_rows<S: Alter>(
     id: &ObjectId,
     event: &EventBody,
 ) -> Result<Rows<(ViewKey, Content)>, Refusal>
-    ensures same_reference { tx.new.conn.ghost_name ≡ tx.old.conn.ghost_name }
-    ensures stays { Stays S.Store tx.old.conn.now tx.new.conn.now result }
+    ensures lent { LeavesLent S.Store tx.old.conn tx.new.conn result }
     ensures finds { FindsOn S.Store tx.old.conn.now tx.new.conn.now (λ base rows. rows ≡ event_rows base id.now event.now) result }
     ensures refused { IfErr result IsOfStore }
 {
@@ -60,8 +59,7 @@ pub fn shown<S: Alter>(
     tx: &mut Transaction<'_, S>,
     event: &ObjectId,
 ) -> Result<Rows<(ViewKey, Content)>, Refusal>
-    ensures same_reference { tx.new.conn.ghost_name ≡ tx.old.conn.ghost_name }
-    ensures stays { Stays S.Store tx.old.conn.now tx.new.conn.now result }
+    ensures lent { LeavesLent S.Store tx.old.conn tx.new.conn result }
     ensures finds { FindsOn S.Store tx.old.conn.now tx.new.conn.now (IsShown event.now) result }
     ensures refused { IfErr result IsOfStore }
 {

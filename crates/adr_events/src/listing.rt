@@ -2,7 +2,7 @@
 ghost use Rattle.std.specs.Prelude.{◌≡◌, [], ◌∷◌, Ok, IfOk, IfErr};
 ghost use Rattle.adr_text.specs.declared.refusal.Refusal.TheVariants.{Forbidden};
 ghost use Rattle.adr_objects.specs.declared.kind.Kind.TheVariants as kind;
-ghost use Rattle.adr_sql.specs.Calls.{Stays};
+ghost use Rattle.adr_sql.specs.Calls.{LeavesLent};
 ghost use Rattle.adr_view.specs.Views.{view};
 ghost use Rattle.adr_db.specs.Images.{image_kept};
 ghost use Rattle.adr_db.specs.Calls.{Finds, IsOfStore};
@@ -26,8 +26,7 @@ use std::alloc::{AllocError, Global};
 
 /// A base with the portfolio alone, of which no more is looked at where it is told what a role sees.
 fn read_base<S: Alter>(alloc: Global, tx: &mut Transaction<'_, S>) -> Result<Base, Refusal>
-    ensures same_reference { tx.new.conn.ghost_name ≡ tx.old.conn.ghost_name }
-    ensures stays { Stays S.Store tx.old.conn.now tx.new.conn.now result }
+    ensures lent { LeavesLent S.Store tx.old.conn tx.new.conn result }
     ensures finds { Finds S.Store tx.old.conn.now tx.new.conn.now (λ kept base. base.portfolio ≡ kept.portfolio) result }
     ensures refused { IfErr result IsOfStore }
 {
@@ -47,8 +46,7 @@ fn events_seen<S: Alter>(
     base: &Base,
     sight: Sight,
 ) -> Result<Vec<Object>, Refusal>
-    ensures same_reference { tx.new.conn.ghost_name ≡ tx.old.conn.ghost_name }
-    ensures stays { Stays S.Store tx.old.conn.now tx.new.conn.now result }
+    ensures lent { LeavesLent S.Store tx.old.conn tx.new.conn result }
     ensures finds { Finds S.Store tx.old.conn.now tx.new.conn.now (λ kept events. events.items ≡ objects_seen base.now (view (image_kept kept).base) kept.stamps kind.Event sight) result }
     ensures refused { IfErr result IsOfStore }
 {
@@ -80,8 +78,7 @@ pub fn page<S: Alter>(
     filter: &EventFilter,
     page: Page,
 ) -> Result<Rows<Object>, Refusal>
-    ensures same_reference { tx.new.conn.ghost_name ≡ tx.old.conn.ghost_name }
-    ensures stays { Stays S.Store tx.old.conn.now tx.new.conn.now result }
+    ensures lent { LeavesLent S.Store tx.old.conn tx.new.conn result }
     ensures finds { Finds S.Store tx.old.conn.now tx.new.conn.now (λ kept rows. events_reply (image_kept kept) role.now filter.now page ≡ Ok (answer.List rows)) result }
     ensures refuses { Refuses S.Store tx.old.conn.now tx.new.conn.now (λ kept. events_reply (image_kept kept) role.now filter.now page) result }
     ensures listed { IfErr result (IsListed (Unit {0}) (Forbidden ∷ [])) }

@@ -1,6 +1,6 @@
 //! What is shown of an upstream key.
 ghost use Rattle.std.specs.Prelude.{◌≡◌, IfOk, IfErr};
-ghost use Rattle.adr_sql.specs.Calls.{Stays};
+ghost use Rattle.adr_sql.specs.Calls.{LeavesLent};
 ghost use Rattle.adr_view.specs.Views.{program_rows, mark_rows, rows_known};
 ghost use Rattle.adr_db.specs.Calls.{IsOfStore};
 ghost use Rattle.adr_db.specs.BaseCalls.{FindsOn};
@@ -37,8 +37,7 @@ pub(crate) fn mark_rows<S: Alter>(
     key: &MirrorKey,
     mark: &Mark,
 ) -> Result<Rows<(ViewKey, Content)>, Refusal>
-    ensures same_reference { tx.new.conn.ghost_name ≡ tx.old.conn.ghost_name }
-    ensures stays { Stays S.Store tx.old.conn.now tx.new.conn.now result }
+    ensures lent { LeavesLent S.Store tx.old.conn tx.new.conn result }
     ensures finds { FindsOn S.Store tx.old.conn.now tx.new.conn.now (λ base rows. rows ≡ mark_rows base (key.now, mark.now)) result }
     ensures refused { IfErr result IsOfStore }
 {
@@ -56,8 +55,7 @@ pub(crate) fn rows_known<S: Alter>(
     key: &MirrorKey,
     known: &Option<Mark>,
 ) -> Result<Rows<(ViewKey, Content)>, Refusal>
-    ensures same_reference { tx.new.conn.ghost_name ≡ tx.old.conn.ghost_name }
-    ensures stays { Stays S.Store tx.old.conn.now tx.new.conn.now result }
+    ensures lent { LeavesLent S.Store tx.old.conn tx.new.conn result }
     ensures finds { FindsOn S.Store tx.old.conn.now tx.new.conn.now (λ base rows. rows ≡ rows_known base key.now known.now) result }
     ensures refused { IfErr result IsOfStore }
 {

@@ -50,7 +50,7 @@ pub record ReadsAs (bytes : List ℕ) (r : RequestText) : Type 0 where
   pub at : HeadAt bytes head (body_text r.body)
   pub host : values (codes "host") (map name_and_value head.fields) ≡ r.host ∷ []
 
--- each request that the client writes is read by the server as what it is
+-- each request that the client writes and that fits a head is read by the server as what it is
 abbrev pub RequestsReadBack : Type 0
 RequestsReadBack = (r : RequestText) → FitsHead r → ReadsAs (request_bytes r) r
 

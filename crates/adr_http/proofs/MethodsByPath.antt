@@ -11,13 +11,16 @@ use Rattle.adr_subscription.specs.Subscriptions.{sub_of}
 use Rattle.adr_queries.specs.declared.role.Role.{Role}
 use Rattle.adr_queries.specs.declared.role.Role.TheVariants.{Operator, Ven, Utility}
 use Rattle.adr_routes.specs.declared.path.Path.{Path}
-use Rattle.adr_routes.specs.declared.path.Path.TheVariants as path
+use Rattle.adr_routes.specs.declared.path.Path.TheVariants.{At, Of, Under}
+use Rattle.adr_routes.specs.declared.place.Root.TheVariants as root
+use Rattle.adr_routes.specs.declared.place.One.TheVariants as one
+use Rattle.adr_routes.specs.declared.place.Two.TheVariants as two
 use Rattle.adr_routes.specs.Places.{methods_of}
 use Rattle.adr_routes.specs.Paths.{place_of}
 use Rattle.adr_asked.specs.declared.asked.Asked.{Asked}
 use Rattle.adr_asked.specs.Filters.{filter_asked, report_filter_asked}
 use Rattle.adr_asked.specs.Queries.{page_asked}
-use Rattle.adr_asked.specs.Requests.{asked_by_get, listing_asked, asked_by_post, notice_asked, asked_by_put, asked_by_delete, asked_by}
+use Rattle.adr_asked.specs.Requests.{asked_by_get, root_asked, asked_by_post, notice_asked, asked_by_put, asked_by_delete, asked_by}
 use Rattle.adr_http.specs.Laws.{MethodsAreServed}
 
 -- what was read is asked, or refused: it is never nothing
@@ -35,169 +38,52 @@ notified_some Operator (Ok n) e = absurd cc
 notified_some (Ven id) (Ok n) e = absurd cc
 notified_some role (Err r) e = absurd cc
 
-get_some : (role : Role) (p : Path) (query : List ℕ) → (methods_of (place_of p)).get ≡ true → asked_by_get role p query ≢ Ok None
-unfolding asked_by_get listing_asked
-get_some role path.Programs query is = some (page_asked query) _
-get_some role (path.Program id) query is = λ e. absurd cc
-get_some role path.Events query is = some_two (filter_asked query) (page_asked query) _
-get_some role (path.Event id) query is = λ e. absurd cc
-get_some role path.Reports query is = some_two (report_filter_asked query) (page_asked query) _
-get_some role (path.Report id) query is = λ e. absurd cc
-get_some role (path.Rollup event) query is = λ e. absurd cc
-get_some role path.Subs query is = some_two (report_filter_asked query) (page_asked query) _
-get_some role (path.Sub id) query is = λ e. absurd cc
-get_some role path.Notifications query is = absurd cc
-get_some role path.Outbox query is = λ e. absurd cc
-get_some role path.Vens query is = some (page_asked query) _
-get_some role (path.Ven ven) query is = λ e. absurd cc
-get_some role (path.Resources ven) query is = some (page_asked query) _
-get_some role (path.Resource ven id) query is = λ e. absurd cc
-get_some role (path.Shares program) query is = λ e. absurd cc
-get_some role (path.Share program resource) query is = absurd cc
+-- what the table of places says of a method is what is asked by it
+abbrev Answers : Bool → Result (Option Asked) Refusal → Type 0
+Answers true asked = asked ≢ Ok None
+Answers false asked = asked ≡ Ok None
 
-get_none : (role : Role) (p : Path) (query : List ℕ) → (methods_of (place_of p)).get ≡ false → asked_by_get role p query ≡ Ok None
-unfolding asked_by_get listing_asked
-get_none role path.Programs query is = absurd cc
-get_none role (path.Program id) query is = absurd cc
-get_none role path.Events query is = absurd cc
-get_none role (path.Event id) query is = absurd cc
-get_none role path.Reports query is = absurd cc
-get_none role (path.Report id) query is = absurd cc
-get_none role (path.Rollup event) query is = absurd cc
-get_none role path.Subs query is = absurd cc
-get_none role (path.Sub id) query is = absurd cc
-get_none role path.Notifications query is = refl
-get_none role path.Outbox query is = absurd cc
-get_none role path.Vens query is = absurd cc
-get_none role (path.Ven ven) query is = absurd cc
-get_none role (path.Resources ven) query is = absurd cc
-get_none role (path.Resource ven id) query is = absurd cc
-get_none role (path.Shares program) query is = absurd cc
-get_none role (path.Share program resource) query is = refl
+get_answers : (role : Role) (p : Path) (query : List ℕ) → Answers (methods_of (place_of p)).get (asked_by_get role p query)
+unfolding asked_by_get root_asked
+get_answers role (At root.Programs) query = some (page_asked query) _
+get_answers role (At root.Events) query = some_two (filter_asked query) (page_asked query) _
+get_answers role (At root.Reports) query = some_two (report_filter_asked query) (page_asked query) _
+get_answers role (At root.Subs) query = some_two (report_filter_asked query) (page_asked query) _
+get_answers role (At root.Vens) query = some (page_asked query) _
+get_answers role (Of one.Resources ven) query = some (page_asked query) _
+get_answers role (At root.Notifications) query = refl
+get_answers role (Under two.Share program resource) query = refl
+get_answers role _ query = λ e. cc
 
-post_some : (role : Role) (p : Path) (body : List ℕ) → (methods_of (place_of p)).post ≡ true → asked_by_post role p body ≢ Ok None
+post_answers : (role : Role) (p : Path) (body : List ℕ) → Answers (methods_of (place_of p)).post (asked_by_post role p body)
 unfolding asked_by_post
-post_some role path.Programs body is = absurd cc
-post_some role (path.Program id) body is = absurd cc
-post_some role path.Events body is = absurd cc
-post_some role (path.Event id) body is = absurd cc
-post_some role path.Reports body is = some (report_of body) _
-post_some role (path.Report id) body is = absurd cc
-post_some role (path.Rollup event) body is = absurd cc
-post_some role path.Subs body is = some (sub_of body) _
-post_some role (path.Sub id) body is = absurd cc
-post_some role path.Notifications body is = notified_some role (notice_of body)
-post_some role path.Outbox body is = absurd cc
-post_some role path.Vens body is = some (ven_of body) _
-post_some role (path.Ven ven) body is = absurd cc
-post_some role (path.Resources ven) body is = some (resource_of body) _
-post_some role (path.Resource ven id) body is = absurd cc
-post_some role (path.Shares program) body is = absurd cc
-post_some role (path.Share program resource) body is = absurd cc
+post_answers role (At root.Vens) body = some (ven_of body) _
+post_answers role (At root.Notifications) body = notified_some role (notice_of body)
+post_answers role (At root.Reports) body = some (report_of body) _
+post_answers role (At root.Subs) body = some (sub_of body) _
+post_answers role (Of one.Resources ven) body = some (resource_of body) _
+post_answers role (Under two.Share program resource) body = refl
+post_answers role _ body = refl
 
-post_none : (role : Role) (p : Path) (body : List ℕ) → (methods_of (place_of p)).post ≡ false → asked_by_post role p body ≡ Ok None
-unfolding asked_by_post
-post_none role path.Programs body is = refl
-post_none role (path.Program id) body is = refl
-post_none role path.Events body is = refl
-post_none role (path.Event id) body is = refl
-post_none role path.Reports body is = absurd cc
-post_none role (path.Report id) body is = refl
-post_none role (path.Rollup event) body is = refl
-post_none role path.Subs body is = absurd cc
-post_none role (path.Sub id) body is = refl
-post_none role path.Notifications body is = absurd cc
-post_none role path.Outbox body is = refl
-post_none role path.Vens body is = absurd cc
-post_none role (path.Ven ven) body is = refl
-post_none role (path.Resources ven) body is = absurd cc
-post_none role (path.Resource ven id) body is = refl
-post_none role (path.Shares program) body is = refl
-post_none role (path.Share program resource) body is = refl
-
-put_some : (role : Role) (p : Path) (body : List ℕ) → (methods_of (place_of p)).put ≡ true → asked_by_put role p body ≢ Ok None
+put_answers : (role : Role) (p : Path) (body : List ℕ) → Answers (methods_of (place_of p)).put (asked_by_put role p body)
 unfolding asked_by_put
-put_some role path.Programs body is = absurd cc
-put_some role (path.Program id) body is = absurd cc
-put_some role path.Events body is = absurd cc
-put_some role (path.Event id) body is = absurd cc
-put_some role path.Reports body is = absurd cc
-put_some role (path.Report id) body is = some (report_of body) _
-put_some role (path.Rollup event) body is = absurd cc
-put_some role path.Subs body is = absurd cc
-put_some role (path.Sub id) body is = some (sub_of body) _
-put_some role path.Notifications body is = absurd cc
-put_some role path.Outbox body is = absurd cc
-put_some role path.Vens body is = absurd cc
-put_some role (path.Ven ven) body is = some (ven_of body) _
-put_some role (path.Resources ven) body is = absurd cc
-put_some role (path.Resource ven id) body is = some (resource_of body) _
-put_some role (path.Shares program) body is = absurd cc
-put_some role (path.Share program resource) body is = some (share_of body) _
+put_answers role (At root.Programs) body = refl
+put_answers role (Of one.Ven id) body = some (ven_of body) _
+put_answers role (Under two.Resource ven id) body = some (resource_of body) _
+put_answers role (Of one.Report id) body = some (report_of body) _
+put_answers role (Of one.Sub id) body = some (sub_of body) _
+put_answers role (Under two.Share program resource) body = some (share_of body) _
+put_answers role _ body = refl
 
-put_none : (role : Role) (p : Path) (body : List ℕ) → (methods_of (place_of p)).put ≡ false → asked_by_put role p body ≡ Ok None
-unfolding asked_by_put
-put_none role path.Programs body is = refl
-put_none role (path.Program id) body is = refl
-put_none role path.Events body is = refl
-put_none role (path.Event id) body is = refl
-put_none role path.Reports body is = refl
-put_none role (path.Report id) body is = absurd cc
-put_none role (path.Rollup event) body is = refl
-put_none role path.Subs body is = refl
-put_none role (path.Sub id) body is = absurd cc
-put_none role path.Notifications body is = refl
-put_none role path.Outbox body is = refl
-put_none role path.Vens body is = refl
-put_none role (path.Ven ven) body is = absurd cc
-put_none role (path.Resources ven) body is = refl
-put_none role (path.Resource ven id) body is = absurd cc
-put_none role (path.Shares program) body is = refl
-put_none role (path.Share program resource) body is = absurd cc
-
-delete_some : (role : Role) (p : Path) → (methods_of (place_of p)).delete ≡ true → asked_by_delete role p ≢ None
+delete_answers : (role : Role) (p : Path) → Answers (methods_of (place_of p)).delete (Ok (asked_by_delete role p))
 unfolding asked_by_delete
-delete_some role path.Programs is = absurd cc
-delete_some role (path.Program id) is = absurd cc
-delete_some role path.Events is = absurd cc
-delete_some role (path.Event id) is = absurd cc
-delete_some role path.Reports is = absurd cc
-delete_some role (path.Report id) is = λ e. absurd cc
-delete_some role (path.Rollup event) is = absurd cc
-delete_some role path.Subs is = absurd cc
-delete_some role (path.Sub id) is = λ e. absurd cc
-delete_some role path.Notifications is = absurd cc
-delete_some role path.Outbox is = absurd cc
-delete_some role path.Vens is = absurd cc
-delete_some role (path.Ven ven) is = λ e. absurd cc
-delete_some role (path.Resources ven) is = absurd cc
-delete_some role (path.Resource ven id) is = λ e. absurd cc
-delete_some role (path.Shares program) is = absurd cc
-delete_some role (path.Share program resource) is = λ e. absurd cc
-
-delete_none : (role : Role) (p : Path) → (methods_of (place_of p)).delete ≡ false → asked_by_delete role p ≡ None
-unfolding asked_by_delete
-delete_none role path.Programs is = refl
-delete_none role (path.Program id) is = refl
-delete_none role path.Events is = refl
-delete_none role (path.Event id) is = refl
-delete_none role path.Reports is = refl
-delete_none role (path.Report id) is = absurd cc
-delete_none role (path.Rollup event) is = refl
-delete_none role path.Subs is = refl
-delete_none role (path.Sub id) is = absurd cc
-delete_none role path.Notifications is = refl
-delete_none role path.Outbox is = refl
-delete_none role path.Vens is = refl
-delete_none role (path.Ven ven) is = absurd cc
-delete_none role (path.Resources ven) is = refl
-delete_none role (path.Resource ven id) is = absurd cc
-delete_none role (path.Shares program) is = refl
-delete_none role (path.Share program resource) is = absurd cc
-
-removed : (x : Option Asked) → x ≢ None → ◌≢◌ {A = Result (Option Asked) Refusal} (Ok x) (Ok None)
-removed None some e = some refl
-removed (Some a) some e = absurd cc
+delete_answers role (Of one.Ven id) = λ e. cc
+delete_answers role (Under two.Resource ven id) = λ e. cc
+delete_answers role (Of one.Report id) = λ e. cc
+delete_answers role (Of one.Sub id) = λ e. cc
+delete_answers role (Under two.Share program resource) = λ e. cc
+delete_answers role (At root.Programs) = refl
+delete_answers role _ = refl
 
 -- by the tests of the four words
 module _ (role : Role) (p : Path) (query body : List ℕ) where
@@ -207,13 +93,17 @@ module _ (role : Role) (p : Path) (query body : List ℕ) where
   abbrev asked : Bool → Bool → Bool → Bool → Result (Option Asked) Refusal
   asked g o u d = cond g (asked_by_get role p query) (cond o (asked_by_post role p body) (cond u (asked_by_put role p body) (cond d (Ok (asked_by_delete role p)) (Ok None))))
 
-  by_words : (g o u d : Bool) → (had g o u d ≡ true → asked g o u d ≢ Ok None) × (had g o u d ≡ false → asked g o u d ≡ Ok None)
-  by_words true o u d = (get_some role p query, get_none role p query)
-  by_words false true u d = (post_some role p body, post_none role p body)
-  by_words false false true d = (put_some role p body, put_none role p body)
-  by_words false false false true = (λ is. removed (asked_by_delete role p) (delete_some role p is), λ is. ap (λ x. Ok x) (delete_none role p is))
-  by_words false false false false = (λ is. absurd cc, λ is. refl)
+  by_words : (g o u d : Bool) → Answers (had g o u d) (asked g o u d)
+  by_words true o u d = get_answers role p query
+  by_words false true u d = post_answers role p body
+  by_words false false true d = put_answers role p body
+  by_words false false false true = delete_answers role p
+  by_words false false false false = refl
+
+told : (v : Bool) (asked : Result (Option Asked) Refusal) → Answers v asked → (v ≡ true → asked ≢ Ok None) × (v ≡ false → asked ≡ Ok None)
+told true asked h = (λ is. h, λ is. absurd cc)
+told false asked h = (λ is. absurd cc, λ is. h)
 
 pub methods_are_served : MethodsAreServed
 unfolding asked_by
-methods_are_served role method p query body = by_words role p query body (bytes_eq method (codes "GET")) (bytes_eq method (codes "POST")) (bytes_eq method (codes "PUT")) (bytes_eq method (codes "DELETE"))
+methods_are_served role method p query body = told _ _ (by_words role p query body (bytes_eq method (codes "GET")) (bytes_eq method (codes "POST")) (bytes_eq method (codes "PUT")) (bytes_eq method (codes "DELETE")))

@@ -17,6 +17,6 @@ abbrev pub plan_by : Option Role → RequestParts → Result Asked Problem
 plan_by None r = Err Unauthorized
 plan_by (Some role) r = asked_of role r.method r.target r.body
 
--- what a request asks, or why it asks nothing
+-- what a request asks by the role of its token, or why it asks nothing: that isn't known, or what `asked_of` says
 abbrev pub plan_of : List (List ℕ × Role) → RequestParts → Result Asked Problem
 plan_of roles r = plan_by (role_shown roles r.token) r

@@ -19,6 +19,6 @@ abbrev pub has_twice : List (List ℕ × Role) → Bool
 has_twice [] = false
 has_twice (g ∷ grants) = is_some (role_of grants g.0) || has_twice grants
 
--- the roles of these tokens, none of which stands twice
+-- the roles of these tokens, none of which stands twice; else the refusal 14
 abbrev pub roles_of : List (List ℕ × Role) → Result (List (List ℕ × Role)) Refusal
 roles_of grants = if has_twice grants then Err BadShape else Ok grants

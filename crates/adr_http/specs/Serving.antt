@@ -54,7 +54,7 @@ pub data IsBuilt (may_refuse : Type 0) (s : State) (turn : Turn) (out : List ℕ
   -- the store's refusal in its place, where the desk is asked and its store may refuse, and no step
   of_store : may_refuse → turn.asks ≡ true → out ≡ want_bytes Store → t ≡ s → IsBuilt may_refuse s turn out t
 
--- the problem of bytes that are no request
+-- the problem of bytes that are no request: malformed, too large, or of a coding that isn't known
 abbrev pub fault_problem : MessageFault → Problem
 fault_problem fault.Malformed = problem.BadRequest
 fault_problem fault.TooLarge = problem.TooLarge
@@ -88,7 +88,7 @@ pub record Serves (may_refuse : Type 0) (settings : Settings) (roles : List (Lis
   pub served : IsServed may_refuse settings roles s now bytes out t
   pub written : Appends old new out
 
--- a part of the reply is written
+-- a part of the reply is written, from its front
 pub record ServesPart (may_refuse : Type 0) (settings : Settings) (roles : List (List ℕ × Role)) (s : State) (now : ℕ) (bytes : List ℕ) (t : State) (old new : Option (List ℕ)) : Type 0 where
   pub out : List ℕ
   pub served : IsServed may_refuse settings roles s now bytes out t
@@ -96,6 +96,7 @@ pub record ServesPart (may_refuse : Type 0) (settings : Settings) (roles : List 
 
 -- ---- as the code keeps it
 
+-- the bytes that are to be written: those that were built, or those that tell want of memory
 abbrev pub outgoing_bytes : Outgoing → List ℕ
 outgoing_bytes (Bytes v) = v.items
 outgoing_bytes Memory = want_bytes OutOfMemory

@@ -62,7 +62,7 @@ module _ {T : Type 0} (takes : T → Asked → Result Answer Refusal → T → T
     pub served : IsServedBy client roles before bytes out after
     pub written : Appends old new out
 
-  -- a part of the reply is written
+  -- a part of the reply is written, from its front
   pub record ServesPartBy (client : List ℕ) (roles : List (List ℕ × Role)) (before : T) (bytes : List ℕ) (after : T) (old new : Option (List ℕ)) : Type 0 where
     pub out : List ℕ
     pub served : IsServedBy client roles before bytes out after

@@ -33,7 +33,7 @@ pub record AreCounted (s : State) : Type 0 where
   pub add_up : AddUp (counts_of s.outbox)
   pub each_has_a_number : s.outbox.counts.made ≤ s.base.serial
 
--- after any run from an empty start of a node with these limits
+-- after any run from an empty start of a node with these limits, entries are so counted
 abbrev pub EntriesAreCounted : Limits → Type 0
 EntriesAreCounted limits = (client : List ℕ) (cs : List (ℕ × Command)) → AreCounted (reached (record { client = client; limits = limits }) cs)
 
@@ -50,7 +50,7 @@ pub record HaveDrawnNumbers (s : State) : Type 0 where
   pub they_rise : IsStrictlySortedBy nat_cmp (numbers_waiting s)
   pub of_nothing_else : All (λ m. All (λ n. m ≢ n) (numbers_of s.base)) (numbers_waiting s)
 
--- after any run from an empty start
+-- after any run from an empty start, the entries that wait have such numbers
 abbrev pub EntriesHaveNumbers : Type 0
 EntriesHaveNumbers = (settings : Settings) (cs : List (ℕ × Command)) → HaveDrawnNumbers (reached settings cs)
 

@@ -164,7 +164,7 @@ pub record HaveOwnRevisions (base : Base) : Type 0 where
   pub up_to_the_serial : All (λ r. r.1.revision ≤ base.serial) base.portfolio.reports
   pub no_two_are_one : NamesDiffer (λ report. report.revision) base.portfolio.reports
 
--- so it is after any run from an empty start
+-- after any run from an empty start, the revisions of reports are so
 abbrev pub RevisionsAreOwn : Type 0
 RevisionsAreOwn = (settings : Settings) (cs : List (ℕ × Command)) → HaveOwnRevisions (state_of (step_at settings) empty cs).base
 
@@ -219,6 +219,7 @@ pub record IsOfTheStepsThatStand {A C S : Type 0} (step : S → C → Result (A 
   pub answers : filter stands rs ≡ answers_of step s (standing cs rs)
   pub state : t ≡ state_of step s (standing cs rs)
 
--- whatever a desk answers on a run
+-- of whatever a run over a desk answers, the answers that stand are the machine's over the commands that stand, and
+-- the state is where these lead
 abbrev pub RunsAreOfTheStepsThatStand : Type 0
 RunsAreOfTheStepsThatStand = (settings : Settings) (s t : State) (cs : List (ℕ × Command)) (rs : List (Result Answer Refusal)) → IsRun (step_at settings) s cs rs t → IsOfTheStepsThatStand (step_at settings) s cs rs t

@@ -4,11 +4,12 @@ use Rattle.std.specs.List.{zip}
 use Rattle.adr_text.specs.declared.refusal.Refusal.{Refusal}
 use Rattle.adr_machine.specs.Runs.{told, state_after, stands}
 
--- each step in turn: the answers, and the state in the end
+-- each step in turn: the answers
 abbrev pub answers_of : {A C S : Type 0} → (S → C → Result (A × S) Refusal) → S → List C → List (Result A Refusal)
 answers_of step s [] = []
 answers_of step s (c ∷ cs) = told (step s c) ∷ answers_of step (state_after s (step s c)) cs
 
+-- each step in turn: the state in the end
 abbrev pub state_of : {A C S : Type 0} → (S → C → Result (A × S) Refusal) → S → List C → S
 state_of step s [] = s
 state_of step s (c ∷ cs) = state_of step (state_after s (step s c)) cs

@@ -8,11 +8,11 @@ abbrev pub port_text : Option ℕ → List ℕ
 port_text None = []
 port_text (Some port) = if port == 80 then [] else codes ":" ++ decimal port
 
--- the host as the URL is written, and the port
+-- the host as the URL is written, and the port, where it names one that isn't 80
 abbrev pub host_field : Parts → List ℕ
 host_field url = host_text (host_or_empty url) ++ port_text url.port
 
--- where a connection is made: the host as the URL is written, and the port
+-- where a connection is made: the host as the URL is written, a colon and the port, 80 where none is named
 abbrev pub endpoint : Parts → List ℕ
 endpoint url = host_text (host_or_empty url) ++ (codes ":" ++ decimal (unwrap_or url.port 80))
 
@@ -24,6 +24,7 @@ without_slash path = if bytes_eq (drop (length path - 1) path) (codes "/") then 
 abbrev pub target_below : Parts → List ℕ → List ℕ
 target_below url below = without_slash url.path ++ below
 
+-- a query behind `?`, where there is one
 abbrev pub query_text : Option (List ℕ) → List ℕ
 query_text None = []
 query_text (Some query) = codes "?" ++ query

@@ -11,15 +11,16 @@ use Rattle.adr_link.specs.declared.found.Asked.TheVariants as asked
 use Rattle.adr_link.specs.declared.found.Finding.{Finding}
 use Rattle.adr_link.specs.declared.found.Finding.TheVariants.{Page, Version, Gone, Failure}
 
--- a page, where there is one: its versions, and how many of its elements are none
+-- a page, where there is one: its versions, and how many of its elements are none; else a failure
 abbrev pub page_found : Result (List Found × ℕ) Refusal → Finding
 page_found (Ok page) = Page page.0 page.1
 page_found (Err e) = Failure
 
--- a version, where it has the id that was asked for
+-- a version, where it has the id that was asked for; else a failure
 abbrev pub version_asked : List ℕ → Found → Finding
 version_asked id version = if bytes_eq version.id id then Version version else Failure
 
+-- the same of a version that was read, and a failure where none was
 abbrev pub version_found : List ℕ → Result Found Refusal → Finding
 version_found id (Ok version) = version_asked id version
 version_found id (Err e) = Failure
@@ -34,6 +35,7 @@ probe_told kind id reply =
     if reply.status == 200 then version_found id (version_of kind reply.body)
     else (if reply.status == 404 then Gone else Failure)
 
+-- what a reply tells of what was asked: of a page, or of the object of an id
 abbrev pub told_by : Asked → HttpReply → Finding
 told_by (asked.Page kind) reply = page_told kind reply
 told_by (asked.Probe kind id) reply = probe_told kind id reply

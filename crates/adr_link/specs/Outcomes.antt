@@ -14,6 +14,7 @@ use Rattle.adr_link.specs.declared.outcome.Outcome.{Outcome}
 use Rattle.adr_link.specs.declared.outcome.Outcome.TheVariants.{Sent, Failed}
 use Rattle.adr_link.specs.Targets.{is_for_utility}
 
+-- the method is POST, and not PUT
 abbrev pub is_post : JobMethod → Bool
 is_post Post = true
 is_post Put = false

@@ -18,7 +18,7 @@ use Rattle.adr_link.specs.ReplyHeads.{is_bodiless, IsHead, IsRefusedHead}
 abbrev pub most_reads : ℕ
 most_reads = 134_217_728
 
--- all of them, up to the most
+-- all of them, up to 8 MiB; too large where there are more
 abbrev pub body_to_end : List ℕ → Result (List ℕ) MessageFault
 body_to_end bytes = if nat_le (length bytes) 8388608 then Ok bytes else Err TooLarge
 
@@ -40,12 +40,13 @@ link_fault Malformed = link.BadReply
 link_fault TooLarge = link.TooLarge
 link_fault NoCoding = link.BadReply
 
--- that of the end of a reading
+-- the link's fault of the end of a reading
 abbrev pub link_end : ReadEnd → LinkFault
 link_end (Bytes f) = link_fault f
 link_end Reader = link.Read
 link_end OutOfMemory = link.Memory
 
+-- a reply, or the link's fault of bytes which are none
 abbrev pub linked : Result HttpReply MessageFault → Result HttpReply LinkFault
 linked (Ok r) = Ok r
 linked (Err f) = Err (link_fault f)
@@ -66,7 +67,7 @@ abbrev pub reply_with : ReplyHead → Result (List ℕ) MessageFault → Result 
 reply_with head (Ok body) = Ok (record { status = head.status; body = body })
 reply_with head (Err f) = Err f
 
--- A head goes first, with its faults, and then the body.
+-- what bytes are as a reply: a head goes first, with its faults, and then the body, with its own
 pub data IsReply (bytes : List ℕ) : Result HttpReply LinkFault → Type 0 where
   -- there is no head, or it is refused
   refused : (f : MessageFault) → IsRefusedHead bytes f → IsReply bytes (linked (Err f))

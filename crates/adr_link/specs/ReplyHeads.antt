@@ -17,7 +17,7 @@ pub record HeadAt (bytes : List ℕ) (h : ResponseHead) (rest : List ℕ) : Type
   pub within : length (print_response h) ≤ 16384
   pub few : length h.fields ≤ 64
 
--- they begin with no such head
+-- the bytes begin with no head of a reply of at most 16 KiB and 64 fields
 abbrev pub HasNoHead : List ℕ → Type 0
 HasNoHead bytes = (h : ResponseHead) (rest : List ℕ) → ¬ (HeadAt bytes h rest)
 
@@ -27,7 +27,7 @@ pub record HeadFound (bytes : List ℕ) (headers : List HeaderSpan) (spans : Res
   pub within : IsResponseWithin bytes headers spans
   pub is_head : IsResponseOf bytes headers spans
 
--- No Content and Not Modified have no body
+-- 204, No Content, and 304, Not Modified, have no body
 unfoldable pub is_bodiless : ℕ → Bool
 is_bodiless status = status == 204 || status == 304
 
@@ -42,7 +42,8 @@ of_any_size (Err NoCoding) = Err NoCoding
 abbrev pub final_extent : Bool → Result Extent MessageFault → Result Extent MessageFault
 final_extent is_bodiless extent = if is_bodiless then of_any_size extent else extent
 
--- a status below 200 is refused
+-- where the body ends, of at most 8 MiB where its length is said and the status has a body; a status below 200 is
+-- malformed
 unfoldable pub reply_extent : ℕ → List (List ℕ × List ℕ) → Result Extent MessageFault
 reply_extent status fields = if nat_lt status 200 then Err Malformed else final_extent (is_bodiless status) (extent_in 8388608 fields)
 
@@ -51,6 +52,7 @@ abbrev pub head_with : ResponseHead → Result Extent MessageFault → Result Re
 head_with h (Ok extent) = Ok (record { status = status_code h; extent = extent })
 head_with h (Err f) = Err f
 
+-- the status that a head has and where the body ends, or its fault
 abbrev pub head_in : ResponseHead → Result ReplyHead MessageFault
 head_in h = head_with h (reply_extent (status_code h) (map name_and_value h.fields))
 

@@ -10,9 +10,11 @@ pub record RequestText : Type 0 where
   pub token : Option (List ℕ)
   pub body : Option (List ℕ)
 
+-- the method, the target and `HTTP/1.1`, parted by spaces, and the end of the line
 abbrev pub request_line : List ℕ → List ℕ → List ℕ
 request_line method target = method ++ (codes " " ++ (target ++ (codes " HTTP/1.1" ++ crlf)))
 
+-- the field `Host` with the host, as a line
 abbrev pub host_line : List ℕ → List ℕ
 host_line host = line (codes "Host", host)
 
@@ -26,6 +28,7 @@ abbrev pub body_lines : Option (List ℕ) → List ℕ
 body_lines None = []
 body_lines (Some body) = line (codes "Content-Type", codes "application/json") ++ line (codes "Content-Length", decimal (length body))
 
+-- the body, and no bytes where there is none
 abbrev pub body_text : Option (List ℕ) → List ℕ
 body_text body = unwrap_or body []
 

@@ -28,6 +28,7 @@ collection Event = codes "/events"
 abbrev pub page_target : Kind → ℕ → List ℕ
 page_target kind skip = collection kind ++ (codes "?skip=" ++ (decimal skip ++ codes "&limit=50"))
 
+-- a GET of up to 50 objects of a kind, behind so many, below the utility's address, with its token
 abbrev pub page_request : UpstreamParts → Kind → ℕ → RequestText
 page_request u kind skip = get_request u (page_target kind skip)
 
@@ -35,6 +36,7 @@ page_request u kind skip = get_request u (page_target kind skip)
 abbrev pub probe_target : Kind → List ℕ → List ℕ
 probe_target kind id = collection kind ++ (codes "/" ++ id)
 
+-- a GET of the object of an id, below the utility's address, with its token
 abbrev pub probe_request : UpstreamParts → Kind → List ℕ → RequestText
 probe_request u kind id = get_request u (probe_target kind id)
 
@@ -44,6 +46,7 @@ probe_request u kind id = get_request u (probe_target kind id)
 abbrev pub is_for_utility : Job → Bool
 is_for_utility job = job.destination == 0
 
+-- `POST` or `PUT`
 abbrev pub method_word : JobMethod → List ℕ
 method_word Post = codes "POST"
 method_word Put = codes "PUT"
@@ -60,10 +63,11 @@ notice_request url token body = record { method = codes "POST"; target = own_tar
 abbrev pub notice_bytes : List ℕ → Option (List ℕ) → List ℕ → Result (List ℕ) Refusal
 notice_bytes address token body = callable_address address >>= λ url. Ok (request_bytes (notice_request url token body))
 
--- where a connection for a job is made: to the utility for a report, else to the address that is notified
+-- where a connection for a job is made: to the utility for a report, else to the address that is notified, or the
+-- refusal 14 where that may not be called
 abbrev pub job_endpoint : UpstreamParts → Job → Result (List ℕ) Refusal
 job_endpoint u job = if is_for_utility job then Ok (endpoint u.url) else callable_address job.target >>= λ url. Ok (endpoint url)
 
--- the bytes that a job is sent by
+-- the bytes that a job is sent by, or the refusal 14 where it is for an address that may not be called
 abbrev pub job_bytes : UpstreamParts → Job → Result (List ℕ) Refusal
 job_bytes u job = if is_for_utility job then Ok (request_bytes (report_request u job)) else notice_bytes job.target job.token job.body

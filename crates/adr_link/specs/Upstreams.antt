@@ -17,7 +17,8 @@ abbrev pub token_shown : Option (List ℕ) → Result (Option (List ℕ)) Refusa
 token_shown None = Ok None
 token_shown (Some text) = as_bad_shape (token_of text) >>= λ token. Ok (Some token)
 
--- the utility at an address, which has to be one that a notification may be sent to, with a token
+-- the utility at an address, which has to be one that a notification may be sent to, with a token, where there is
+-- one, which has to be a bearer token; else the refusal 14
 abbrev pub upstream_of : List ℕ → Option (List ℕ) → Result UpstreamParts Refusal
 upstream_of address token = do
   url ← callback_address address

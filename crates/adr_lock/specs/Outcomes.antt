@@ -71,11 +71,11 @@ module _ {D L : Type 0} {g : Ghosts D} where
   abbrev pub StepsInOffice : Office D L g → (ℕ → Type 0) → ℕ → Pass L → Command → Result Answer Refusal → Pass L → Type 0
   StepsInOffice office tells most before command outcome after = (old : Book D L g) × (new : Book D L g) × (now : ℕ) × tells now × StepsIn most old before now command outcome new after
 
-  -- of a query
+  -- of a query, by some book over a desk like the office's
   abbrev pub LooksInOffice : Office D L g → Pass L → Query → Result Answer Refusal → Pass L → Type 0
   LooksInOffice office before query outcome after = (old : Book D L g) × (new : Book D L g) × IsLook old before query outcome new after
 
-  -- of a call
+  -- of a call, be it a command or a query
   abbrev pub InOffice : Office D L g → (ℕ → Type 0) → ℕ → Pass L → Call → Result Answer Refusal → Pass L → Type 0
   InOffice office tells most before (call.Step command) outcome after = StepsInOffice office tells most before command.now outcome after
   InOffice office tells most before (call.Look query) outcome after = LooksInOffice office before query.now outcome after

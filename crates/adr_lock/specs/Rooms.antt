@@ -10,7 +10,8 @@ use Rattle.adr_book.specs.Entry.{needs_room}
 use Rattle.adr_book.specs.Same.{IsSame}
 use Rattle.adr_book.specs.Words.{base_of, since_of, trail_of, turn_of, state_of, settings_of, IsSound}
 
--- about how many bytes of memory the trail may take before its commands give way to a new base, where the base takes less
+-- about how many bytes of memory the trail may take before its commands give way to a new base, where the base takes
+-- less: 16 MiB
 abbrev pub most_weight : ℕ
 most_weight = 16_777_216
 
@@ -30,6 +31,7 @@ module _ {D L : Type 0} {g : Ghosts D} where
     pub refuses : IsSound new → IsRefusalOf refusal (image_of (state_of old))
     pub same : IsSame old new
 
+  -- a book that has room for one command more, or starts anew, or stays where a new base was refused
   pub data Room (most : ℕ) (old new : Book D L g) : Type 0 where
     -- there is room: the book stays
     there : needs_room most old ≡ false → IsSame old new → Room most old new

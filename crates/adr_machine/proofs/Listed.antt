@@ -1,8 +1,10 @@
 -- That the machine refuses a command only as is listed.
 use Rattle.std.proofs.Common.{◌≡◌, ℕ, ◌+◌, ◌&&◌, Bool, true, false, cond, List, [], ◌∷◌, ◌++◌, Contains, Option, Some, None, Result, Ok, Err, IfErr, IfOk, refl, sym, subst, arith}
 use Rattle.std.specs.List.{list_all}
+use Rattle.std.specs.Option.{option_map_or}
 use Rattle.std.proofs.lemmas.Bool.{cond_both}
 use Rattle.std.proofs.lemmas.Result.{IfErr-weaker}
+use Rattle.std.proofs.lemmas.List.Elements.{Contains-append_left, Contains-append_right}
 use Rattle.adr_text.specs.Refusals.{◌>>=◌}
 use Rattle.adr_text.specs.declared.refusal.Refusal.{Refusal}
 use Rattle.adr_text.specs.declared.refusal.Refusal.TheVariants.{OutboxFull, Exhausted, NotFound, Conflict, Forbidden, BadShare, LimitReached, ResourceNotOfEvent, NoScan, BadShape}
@@ -35,10 +37,11 @@ use Rattle.adr_machine.specs.declared.command.Command.TheVariants.{Evidence, Gon
 use Rattle.adr_machine.specs.declared.outcome.Outcome.{Outcome}
 use Rattle.adr_machine.specs.declared.outcome.Outcome.TheVariants as outcome
 use Rattle.adr_queries.specs.declared.role.Role.{Role}
-use Rattle.adr_queries.specs.Roles.{sight_of}
+use Rattle.adr_queries.specs.Roles.{is_operator, sight_of}
 use Rattle.adr_machine.specs.Edits.{Decision, is_allowed, draws_number, counted, answered, of_portfolio, ven_outcome, resource_outcome, share_outcome, sub_outcome, post_decided, put_decided, delete_decided, sub_post_decided, sub_put_decided, sub_delete_decided, is_delivery, is_quiet, decided, edit_of, edit}
 use Rattle.adr_queries.specs.Listed.{is_of_machine, IsListed}
-use Rattle.adr_machine.specs.Listed.{listed}
+use Rattle.adr_machine.specs.Commands.{Traits, traits_of}
+use Rattle.adr_machine.specs.Listed.{gate, wants, refusals, listed}
 use Rattle.adr_queries.specs.Shown.{object_at, told}
 use Rattle.adr_view.specs.declared.view.Content.TheVariants as content
 use Rattle.adr_view.specs.Reports.{reported, fits, report_on, report_with_id, may_report, may_change, report_post, report_put, report_delete}
@@ -48,6 +51,7 @@ use Rattle.adr_machine.specs.Deliveries.{delivered}
 use Rattle.adr_machine.proofs.Delivered.{delivered_listed}
 use Rattle.adr_machine.proofs.Quiet.{IsQuiet, scan_is_quiet, put_is_quiet, drop_is_quiet, room_so, quiet_so}
 use Rattle.adr_view.specs.Views.{view}
+use Rattle.adr_subscription.specs.declared.object.SubObject.{SubObject}
 use Rattle.adr_subscription.specs.declared.subscription.SubIn.{SubIn}
 use Rattle.adr_subscription.specs.Callbacks.{settled}
 use Rattle.adr_subscription.proofs.Unsettled.{settled_refused}
@@ -56,6 +60,32 @@ use Rattle.adr_view.specs.declared.sight.Sight.{Sight}
 use Rattle.adr_view.specs.Sights.{sees_owner, owner_in}
 use Rattle.adr_view.specs.Subs.{sub_in_sight, sub_put, sub_delete}
 use Rattle.adr_queries.proofs.Refuses.{Refuses, never, either, tested, first_then, found_then, sight_so}
+
+-- ---- what is listed
+
+module _ (t : Traits) where
+  -- its own refusals
+  pub own_listed : (e : Refusal) → Contains t.own e → Contains (refusals t) e
+  own_listed e own = Contains-append_right (gate t) (t.own ++ wants t) e (Contains-append_left t.own (wants t) e own)
+
+  wants_listed : (e : Refusal) → Contains (wants t) e → Contains (refusals t) e
+  wants_listed e wanted = Contains-append_right (gate t) (t.own ++ wants t) e (Contains-append_right t.own (wants t) e wanted)
+
+  exhausted_listed : t.draws ≡ true → Contains (refusals t) Exhausted
+  exhausted_listed draws =
+      wants_listed Exhausted (cond_both t.quiet (cond t.draws (Exhausted ∷ []) []) (Exhausted ∷ OutboxFull ∷ []) (λ these. Contains these Exhausted) (λ quiet. rw draws (0, omega arith, refl)) (λ told. (0, omega arith, refl)))
+
+  -- what may be told of is refused for want of numbers or of room
+  pub room_listed : t.quiet ≡ false → Contains (refusals t) Exhausted × Contains (refusals t) OutboxFull
+  room_listed told = (wants_listed Exhausted (rw told (0, omega arith, refl)), wants_listed OutboxFull (rw told (1, omega arith, refl)))
+
+  -- and who may not give it is refused first
+  pub forbidden_listed : option_map_or is_operator t.giver true ≡ false → Contains (refusals t) Forbidden
+  forbidden_listed other = Contains-append_left (gate t) (t.own ++ wants t) Forbidden (by t.giver other)
+    where
+      by : (giver : Option Role) → option_map_or is_operator giver true ≡ false → Contains (option_map_or (λ role. Forbidden ∷ []) giver []) Forbidden
+      by None other = absurd (let yes : true ≡ false = other in cc)
+      by (Some role) other = (0, omega arith, refl)
 
 -- ---- names
 
@@ -130,62 +160,39 @@ module _ (P : Refusal → Type 0) (base : Base) (forbidden : P Forbidden) where
         first_then P (settled sub) _ (settled_so sub) (λ body. first_then P (sight_of base role) _ (sight_so P base forbidden role)
         (λ sight. first_then P (sub_put sight now id body base.portfolio) _ (first_then P (sub_in_sight sight id base.portfolio) _ (in_sight_so sight id missing) (λ s. never P _)) (λ d. never P _)))
 
-decided_listed : (limits : Limits) (now n : ℕ) (base : Base) (c : Command) → Refuses (Contains (listed c)) (decided limits now n base c)
-decided_listed limits now n base (Evidence founds polled) = first_then _ (evidence limits founds polled base) _ (joined_so _ limits base (evidence_of founds) (scan_with base.scan founds polled) (0, omega arith, refl)) (λ change. never _ _)
-decided_listed limits now n base (Gone kind id) =
+-- what is decided is refused by nothing but its own refusals
+decided_own : (limits : Limits) (now n : ℕ) (base : Base) (c : Command) → Refuses (Contains (traits_of c).own) (decided limits now n base c)
+decided_own limits now n base (Evidence founds polled) = first_then _ (evidence limits founds polled base) _ (joined_so _ limits base (evidence_of founds) (scan_with base.scan founds polled) (0, omega arith, refl)) (λ change. never _ _)
+decided_own limits now n base (Gone kind id) =
     let key : MirrorKey = record { kind = kind; id = id } in first_then _ (gone limits key base) _ (joined_so _ limits base ((key, Dead) ∷ []) base.scan (0, omega arith, refl)) (λ change. never _ _)
-decided_listed limits now n base ScanBegin = never _ _
-decided_listed limits now n base ScanEnd = first_then _ (scan_end base) _ (first_then _ (open_scan base.scan) _ (scan_so _ limits base base.scan (0, omega arith, refl)) (λ polled. never _ _)) (λ d. never _ _)
-decided_listed limits now n base (VenAdd role ven) = portfolio_so _ limits base _ (ven_add limits now n ven.name base.portfolio) (new _ _ _ _ (1, omega arith, refl) (2, omega arith, refl))
-decided_listed limits now n base (VenPut role id ven) =
+decided_own limits now n base ScanEnd = first_then _ (scan_end base) _ (first_then _ (open_scan base.scan) _ (scan_so _ limits base base.scan (0, omega arith, refl)) (λ polled. never _ _)) (λ d. never _ _)
+decided_own limits now n base (VenAdd role ven) = portfolio_so _ limits base _ (ven_add limits now n ven.name base.portfolio) (new _ _ _ _ (0, omega arith, refl) (1, omega arith, refl))
+decided_own limits now n base (VenPut role id ven) =
     let p = base.portfolio in
-    portfolio_so _ limits base _ (ven_put now id ven.name p) (found_then _ NotFound (ven_with_id id p) _ (1, omega arith, refl) (λ v. free _ (is_taken_by_another ven_name v.0 ven.name p.vens) _ (2, omega arith, refl)))
-decided_listed limits now n base (VenRemove role id) = portfolio_so _ limits base _ (ven_remove id base.portfolio) (found_then _ NotFound _ _ (1, omega arith, refl) (λ v. never _ _))
-decided_listed limits now n base (ResourceAdd role ven resource) =
+    portfolio_so _ limits base _ (ven_put now id ven.name p) (found_then _ NotFound (ven_with_id id p) _ (0, omega arith, refl) (λ v. free _ (is_taken_by_another ven_name v.0 ven.name p.vens) _ (1, omega arith, refl)))
+decided_own limits now n base (VenRemove role id) = portfolio_so _ limits base _ (ven_remove id base.portfolio) (found_then _ NotFound _ _ (0, omega arith, refl) (λ v. never _ _))
+decided_own limits now n base (ResourceAdd role ven resource) =
     let p = base.portfolio in
     portfolio_so _ limits base _ (resource_add limits now n ven resource.name p)
-    (found_then _ NotFound (ven_at ven p) _ (1, omega arith, refl) (λ v. new _ (is_taken resource_name resource.name p.resources) (is_full limits.resources p.resources) _ (2, omega arith, refl) (3, omega arith, refl)))
-decided_listed limits now n base (ResourcePut role ven id resource) =
+    (found_then _ NotFound (ven_at ven p) _ (0, omega arith, refl) (λ v. new _ (is_taken resource_name resource.name p.resources) (is_full limits.resources p.resources) _ (1, omega arith, refl) (2, omega arith, refl)))
+decided_own limits now n base (ResourcePut role ven id resource) =
     let p = base.portfolio in
     portfolio_so _ limits base _ (resource_put now ven id resource.name p)
-    (found_then _ NotFound (resource_under ven id p) _ (1, omega arith, refl) (λ r. free _ (is_taken_by_another resource_name r.0 resource.name p.resources) _ (2, omega arith, refl)))
-decided_listed limits now n base (ResourceRemove role ven id) = portfolio_so _ limits base _ (resource_remove ven id base.portfolio) (found_then _ NotFound _ _ (1, omega arith, refl) (λ r. never _ _))
-decided_listed limits now n base (ShareSet role program resource share) =
+    (found_then _ NotFound (resource_under ven id p) _ (0, omega arith, refl) (λ r. free _ (is_taken_by_another resource_name r.0 resource.name p.resources) _ (1, omega arith, refl)))
+decided_own limits now n base (ResourceRemove role ven id) = portfolio_so _ limits base _ (resource_remove ven id base.portfolio) (found_then _ NotFound _ _ (0, omega arith, refl) (λ r. never _ _))
+decided_own limits now n base (ShareSet role program resource share) =
     portfolio_so _ limits base _ (share_set limits program resource share.share base.portfolio)
-    (found_then _ NotFound (resource_at resource base.portfolio) _ (1, omega arith, refl) (λ m. share_so _ limits base (record { program = program; resource = m }) share.share (2, omega arith, refl) (3, omega arith, refl)))
-decided_listed limits now n base (ReportPost role report) = post_so (Contains (listed (ReportPost role report))) limits base (0, omega arith, refl) (1, omega arith, refl) (2, omega arith, refl) n role report (3, omega arith, refl)
-decided_listed limits now n base (ReportPut role id report) = put_so (Contains (listed (ReportPut role id report))) limits base (0, omega arith, refl) (1, omega arith, refl) (2, omega arith, refl) n role id report
-decided_listed limits now n base (ReportDelete role id) = delete_so (Contains (listed (ReportDelete role id))) limits base (0, omega arith, refl) (1, omega arith, refl) role id
-decided_listed limits now n base (SubPost role sub) = sub_post_so (Contains (listed (SubPost role sub))) base (1, omega arith, refl) (0, omega arith, refl) limits now n role sub (2, omega arith, refl)
-decided_listed limits now n base (SubPut role id sub) = sub_put_so (Contains (listed (SubPut role id sub))) base (1, omega arith, refl) (0, omega arith, refl) now role id sub (2, omega arith, refl)
-decided_listed limits now n base (SubDelete role id) = sub_delete_so (Contains (listed (SubDelete role id))) base (0, omega arith, refl) role id (1, omega arith, refl)
-decided_listed limits now n base Lease = never _ _
-decided_listed limits now n base (Sent entry lease remote) = never _ _
-decided_listed limits now n base (Failed entry lease forget) = never _ _
+    (found_then _ NotFound (resource_at resource base.portfolio) _ (0, omega arith, refl) (λ m. share_so _ limits base (record { program = program; resource = m }) share.share (1, omega arith, refl) (2, omega arith, refl)))
+decided_own limits now n base (ReportPost role report) = post_so _ limits base (0, omega arith, refl) (1, omega arith, refl) (2, omega arith, refl) n role report (3, omega arith, refl)
+decided_own limits now n base (ReportPut role id report) = put_so _ limits base (0, omega arith, refl) (1, omega arith, refl) (2, omega arith, refl) n role id report
+decided_own limits now n base (ReportDelete role id) = delete_so _ limits base (0, omega arith, refl) (1, omega arith, refl) role id
+decided_own limits now n base (SubPost role sub) = sub_post_so _ base (1, omega arith, refl) (0, omega arith, refl) limits now n role sub (2, omega arith, refl)
+decided_own limits now n base (SubPut role id sub) = sub_put_so _ base (1, omega arith, refl) (0, omega arith, refl) now role id sub (2, omega arith, refl)
+decided_own limits now n base (SubDelete role id) = sub_delete_so _ base (0, omega arith, refl) role id (1, omega arith, refl)
+decided_own limits now n base c = never _ _
 
-exhausted_listed : (c : Command) → draws_number c ≡ true → Contains (listed c) Exhausted
-exhausted_listed (VenAdd role ven) draws = (3, omega arith, refl)
-exhausted_listed (ResourceAdd role ven resource) draws = (4, omega arith, refl)
-exhausted_listed (ReportPost role report) draws = (4, omega arith, refl)
-exhausted_listed (ReportPut role id report) draws = (3, omega arith, refl)
-exhausted_listed (SubPost role sub) draws = (3, omega arith, refl)
-exhausted_listed c draws = absurd (let no : false ≡ true = draws in cc)
-
-pub forbidden_listed : (c : Command) → is_allowed c ≡ false → Contains (listed c) Forbidden
-forbidden_listed (Evidence founds polled) is = absurd (let yes : true ≡ false = is in cc)
-forbidden_listed (Gone kind id) is = absurd (let yes : true ≡ false = is in cc)
-forbidden_listed ScanBegin is = absurd (let yes : true ≡ false = is in cc)
-forbidden_listed ScanEnd is = absurd (let yes : true ≡ false = is in cc)
-forbidden_listed (ReportPost role report) is = absurd (let yes : true ≡ false = is in cc)
-forbidden_listed (ReportPut role id report) is = absurd (let yes : true ≡ false = is in cc)
-forbidden_listed (ReportDelete role id) is = absurd (let yes : true ≡ false = is in cc)
-forbidden_listed (SubPost role sub) is = absurd (let yes : true ≡ false = is in cc)
-forbidden_listed (SubPut role id sub) is = absurd (let yes : true ≡ false = is in cc)
-forbidden_listed (SubDelete role id) is = absurd (let yes : true ≡ false = is in cc)
-forbidden_listed Lease is = absurd (let yes : true ≡ false = is in cc)
-forbidden_listed (Sent entry lease remote) is = absurd (let yes : true ≡ false = is in cc)
-forbidden_listed (Failed entry lease forget) is = absurd (let yes : true ≡ false = is in cc)
-forbidden_listed c is = (0, omega arith, refl)
+decided_listed : (limits : Limits) (now n : ℕ) (base : Base) (c : Command) → Refuses (Contains (listed c)) (decided limits now n base c)
+decided_listed limits now n base c = record { so = IfErr-weaker (decided limits now n base c) _ _ (own_listed (traits_of c)) (decided_own limits now n base c).so }
 
 drawn_so : (P : Refusal → Type 0) (limits : Limits) (serial : ℕ) (draws : Bool) → (draws ≡ true → P Exhausted) → Refuses P (drawn limits serial draws)
 drawn_so P limits serial false exhausted = never P serial
@@ -196,8 +203,8 @@ unfolding edit
 edit_so limits now base c =
     let P = Contains (listed c) in
     cond_both (is_allowed c) (edit_of limits now base c) (Err Forbidden) (λ r. Refuses P r)
-    (λ allowed. first_then P _ _ (decided_listed limits now (base.serial + 1) base c) (λ d. first_then P _ _ (drawn_so P limits base.serial (draws_number c) (exhausted_listed c)) (λ serial. never P _)))
-    (λ other. record { so = forbidden_listed c other })
+    (λ allowed. first_then P _ _ (decided_listed limits now (base.serial + 1) base c) (λ d. first_then P _ _ (drawn_so P limits base.serial (draws_number c) (exhausted_listed (traits_of c))) (λ serial. never P _)))
+    (λ other. record { so = forbidden_listed (traits_of c) other })
 
 -- ---- answers
 
@@ -236,36 +243,40 @@ then_with : {A B : Type 0} (P : Refusal → Type 0) (Q : B → Type 0) (r : Resu
 then_with P Q (Ok x) f first is others = others x is
 then_with P Q (Err e) f first is others = record { so = first.so }
 
+-- whatever is told of the portfolio
+portfolio_answered : {A : Type 0} (c : Command) (comes : A → Outcome) → ((x : A) → IsAnswered c (comes x)) → (r : Result (A × PortfolioChange) Refusal) → IfOk (of_portfolio comes r) (λ d. IsAnswered c d.outcome)
+portfolio_answered c comes each r = made (λ d. IsAnswered c d.outcome) r (λ d. record { outcome = comes d.0; change = ChangePortfolio d.1 }) (λ d. each d.0)
+
+-- by who sees this much
+seen_answered : {A B : Type 0} (c : Command) (comes : A → Outcome) → ((x : A) → IsAnswered c (comes x)) → (seen : Result B Refusal) (decide : B → Result (A × PortfolioChange) Refusal)
+    → IfOk (seen >>= λ sight. of_portfolio comes (decide sight)) (λ d. IsAnswered c d.outcome)
+seen_answered c comes each (Ok sight) decide = portfolio_answered c comes each (decide sight)
+seen_answered c comes each (Err e) decide = tt
+
+-- a subscription is told, once its addresses are known
+sub_answered : {A B : Type 0} (c : Command) (body : Result A Refusal) (seen : Result B Refusal) (decide : A → B → Result (SubObject × PortfolioChange) Refusal)
+    → IfOk (body >>= λ body. seen >>= λ sight. of_portfolio sub_outcome (decide body sight)) (λ d. IsAnswered c d.outcome)
+sub_answered c (Ok body) seen decide = seen_answered c sub_outcome (λ x before after. never _ _) seen (decide body)
+sub_answered c (Err e) seen decide = tt
+
 decided_answered : (limits : Limits) (now n : ℕ) (base : Base) (c : Command) → IfOk (decided limits now n base c) (λ d. IsAnswered c d.outcome)
-decided_answered limits now n base (Evidence founds polled) = made (λ d. IsAnswered (Evidence founds polled) d.outcome) (evidence limits founds polled base) (λ change. counted change) (λ x before after. never (Contains (listed (Evidence founds polled))) _)
-decided_answered limits now n base (Gone kind id) = made (λ d. IsAnswered (Gone kind id) d.outcome) (gone limits (record { kind = kind; id = id }) base) (λ change. counted change) (λ x before after. never (Contains (listed (Gone kind id))) _)
-decided_answered limits now n base ScanBegin = λ before after. never _ _
-decided_answered limits now n base ScanEnd = made (λ d. IsAnswered ScanEnd d.outcome) (scan_end base) (λ d. answered (answer.Probes d.0) d.1) (λ x before after. never (Contains (listed ScanEnd)) _)
-decided_answered limits now n base (VenAdd role ven) = made (λ d. IsAnswered (VenAdd role ven) d.outcome) (ven_add limits now n ven.name base.portfolio) (λ d. record { outcome = ven_outcome d.0; change = ChangePortfolio d.1 }) (λ x before after. never (Contains (listed (VenAdd role ven))) _)
-decided_answered limits now n base (VenPut role id ven) = made (λ d. IsAnswered (VenPut role id ven) d.outcome) (ven_put now id ven.name base.portfolio) (λ d. record { outcome = ven_outcome d.0; change = ChangePortfolio d.1 }) (λ x before after. never (Contains (listed (VenPut role id ven))) _)
-decided_answered limits now n base (VenRemove role id) = made (λ d. IsAnswered (VenRemove role id) d.outcome) (ven_remove id base.portfolio) (λ d. record { outcome = ven_outcome d.0; change = ChangePortfolio d.1 }) (λ x before after. never (Contains (listed (VenRemove role id))) _)
-decided_answered limits now n base (ResourceAdd role ven resource) = made (λ d. IsAnswered (ResourceAdd role ven resource) d.outcome) (resource_add limits now n ven resource.name base.portfolio) (λ d. record { outcome = resource_outcome d.0; change = ChangePortfolio d.1 }) (λ x before after. never (Contains (listed (ResourceAdd role ven resource))) _)
-decided_answered limits now n base (ResourcePut role ven id resource) = made (λ d. IsAnswered (ResourcePut role ven id resource) d.outcome) (resource_put now ven id resource.name base.portfolio) (λ d. record { outcome = resource_outcome d.0; change = ChangePortfolio d.1 }) (λ x before after. never (Contains (listed (ResourcePut role ven id resource))) _)
-decided_answered limits now n base (ResourceRemove role ven id) = made (λ d. IsAnswered (ResourceRemove role ven id) d.outcome) (resource_remove ven id base.portfolio) (λ d. record { outcome = resource_outcome d.0; change = ChangePortfolio d.1 }) (λ x before after. never (Contains (listed (ResourceRemove role ven id))) _)
-decided_answered limits now n base (ShareSet role program resource share) = made (λ d. IsAnswered (ShareSet role program resource share) d.outcome) (share_set limits program resource share.share base.portfolio) (λ d. record { outcome = share_outcome d.0; change = ChangePortfolio d.1 }) (λ x before after. never (Contains (listed (ShareSet role program resource share))) _)
-decided_answered limits now n base (ReportPost role report) = any (λ d. IsAnswered (ReportPost role report) d.outcome) _ (λ d. answered_so (Contains (listed (ReportPost role report))) (1, omega arith, refl) d.outcome)
-decided_answered limits now n base (ReportPut role id report) = any (λ d. IsAnswered (ReportPut role id report) d.outcome) _ (λ d. answered_so (Contains (listed (ReportPut role id report))) (1, omega arith, refl) d.outcome)
-decided_answered limits now n base (ReportDelete role id) = any (λ d. IsAnswered (ReportDelete role id) d.outcome) _ (λ d. answered_so (Contains (listed (ReportDelete role id))) (1, omega arith, refl) d.outcome)
-decided_answered limits now n base (SubPost role sub) =
-    let Q = λ (d : Decision). IsAnswered (SubPost role sub) d.outcome in
-    made_with Q (λ b. Unit {0}) (settled sub) _ (any (λ b. Unit {0}) (settled sub) (λ b. tt)) (λ body u. made_with Q (λ x. Unit {0}) (sight_of base role) _ (any (λ x. Unit {0}) (sight_of base role) (λ x. tt))
-    (λ sight u. made Q (sub_post limits now n (owner_in sight) body base.portfolio) (λ d. record { outcome = sub_outcome d.0; change = ChangePortfolio d.1 }) (λ d before after. never (Contains (listed (SubPost role sub))) _)))
-decided_answered limits now n base (SubPut role id sub) =
-    let Q = λ (d : Decision). IsAnswered (SubPut role id sub) d.outcome in
-    made_with Q (λ b. Unit {0}) (settled sub) _ (any (λ b. Unit {0}) (settled sub) (λ b. tt)) (λ body u. made_with Q (λ x. Unit {0}) (sight_of base role) _ (any (λ x. Unit {0}) (sight_of base role) (λ x. tt))
-    (λ sight u. made Q (sub_put sight now id body base.portfolio) (λ d. record { outcome = sub_outcome d.0; change = ChangePortfolio d.1 }) (λ d before after. never (Contains (listed (SubPut role id sub))) _)))
-decided_answered limits now n base (SubDelete role id) =
-    let Q = λ (d : Decision). IsAnswered (SubDelete role id) d.outcome in
-    made_with Q (λ x. Unit {0}) (sight_of base role) _ (any (λ x. Unit {0}) (sight_of base role) (λ x. tt))
-    (λ sight u. made Q (sub_delete sight id base.portfolio) (λ d. record { outcome = sub_outcome d.0; change = ChangePortfolio d.1 }) (λ d before after. never (Contains (listed (SubDelete role id))) _))
-decided_answered limits now n base Lease = λ before after. never _ _
-decided_answered limits now n base (Sent entry lease remote) = λ before after. never _ _
-decided_answered limits now n base (Failed entry lease forget) = λ before after. never _ _
+decided_answered limits now n base (Evidence founds polled) = made _ (evidence limits founds polled base) (λ change. counted change) (λ x before after. never _ _)
+decided_answered limits now n base (Gone kind id) = made _ (gone limits (record { kind = kind; id = id }) base) (λ change. counted change) (λ x before after. never _ _)
+decided_answered limits now n base ScanEnd = made _ (scan_end base) (λ d. answered (answer.Probes d.0) d.1) (λ x before after. never _ _)
+decided_answered limits now n base (VenAdd role ven) = portfolio_answered (VenAdd role ven) ven_outcome (λ x before after. never _ _) (ven_add limits now n ven.name base.portfolio)
+decided_answered limits now n base (VenPut role id ven) = portfolio_answered (VenPut role id ven) ven_outcome (λ x before after. never _ _) (ven_put now id ven.name base.portfolio)
+decided_answered limits now n base (VenRemove role id) = portfolio_answered (VenRemove role id) ven_outcome (λ x before after. never _ _) (ven_remove id base.portfolio)
+decided_answered limits now n base (ResourceAdd role ven resource) = portfolio_answered (ResourceAdd role ven resource) resource_outcome (λ x before after. never _ _) (resource_add limits now n ven resource.name base.portfolio)
+decided_answered limits now n base (ResourcePut role ven id resource) = portfolio_answered (ResourcePut role ven id resource) resource_outcome (λ x before after. never _ _) (resource_put now ven id resource.name base.portfolio)
+decided_answered limits now n base (ResourceRemove role ven id) = portfolio_answered (ResourceRemove role ven id) resource_outcome (λ x before after. never _ _) (resource_remove ven id base.portfolio)
+decided_answered limits now n base (ShareSet role program resource share) = portfolio_answered (ShareSet role program resource share) share_outcome (λ x before after. never _ _) (share_set limits program resource share.share base.portfolio)
+decided_answered limits now n base (ReportPost role report) = any _ _ (λ d. answered_so _ (1, omega arith, refl) d.outcome)
+decided_answered limits now n base (ReportPut role id report) = any _ _ (λ d. answered_so _ (1, omega arith, refl) d.outcome)
+decided_answered limits now n base (ReportDelete role id) = any _ _ (λ d. answered_so _ (1, omega arith, refl) d.outcome)
+decided_answered limits now n base (SubPost role sub) = sub_answered (SubPost role sub) (settled sub) (sight_of base role) (λ body sight. sub_post limits now n (owner_in sight) body base.portfolio)
+decided_answered limits now n base (SubPut role id sub) = sub_answered (SubPut role id sub) (settled sub) (sight_of base role) (λ body sight. sub_put sight now id body base.portfolio)
+decided_answered limits now n base (SubDelete role id) = seen_answered (SubDelete role id) sub_outcome (λ x before after. never _ _) (sight_of base role) (λ sight. sub_delete sight id base.portfolio)
+decided_answered limits now n base c = λ before after. never _ _
 
 edit_answered : (limits : Limits) (now : ℕ) (base : Base) (c : Command) → IfOk (edit limits now base c) (λ e. IsAnswered c e.0)
 unfolding edit
@@ -275,7 +286,7 @@ edit_answered limits now base c =
     (λ other. tt)
 
 pub drawn_listed : (limits : Limits) (serial : ℕ) (c : Command) → IfErr (drawn limits serial (draws_number c)) (Contains (listed c))
-drawn_listed limits serial c = (drawn_so _ limits serial (draws_number c) (exhausted_listed c)).so
+drawn_listed limits serial c = (drawn_so _ limits serial (draws_number c) (exhausted_listed (traits_of c))).so
 
 pub edit_listed : (limits : Limits) (now : ℕ) (base : Base) (c : Command) → IfErr (edit limits now base c) (Contains (listed c))
 edit_listed limits now base c = (edit_so limits now base c).so
@@ -322,29 +333,13 @@ unfolding edit
 edit_quiet limits now base c is =
     cond_both (is_allowed c) (edit_of limits now base c) (Err Forbidden) (ShowsAs base) (λ allowed. edit_of_quiet limits now base c is) (λ other. tt)
 
--- what may be told of is refused for want of numbers or of room
-pub room_listed : (c : Command) → is_quiet c ≡ false → Contains (listed c) Exhausted × Contains (listed c) OutboxFull
-room_listed (Evidence founds polled) is = ((1, omega arith, refl), (2, omega arith, refl))
-room_listed (Gone kind id) is = ((1, omega arith, refl), (2, omega arith, refl))
-room_listed (VenAdd role ven) is = ((3, omega arith, refl), (4, omega arith, refl))
-room_listed (VenPut role id ven) is = ((3, omega arith, refl), (4, omega arith, refl))
-room_listed (VenRemove role id) is = ((2, omega arith, refl), (3, omega arith, refl))
-room_listed (ResourceAdd role ven resource) is = ((4, omega arith, refl), (5, omega arith, refl))
-room_listed (ResourcePut role ven id resource) is = ((3, omega arith, refl), (4, omega arith, refl))
-room_listed (ResourceRemove role ven id) is = ((2, omega arith, refl), (3, omega arith, refl))
-room_listed (ShareSet role program resource share) is = ((4, omega arith, refl), (5, omega arith, refl))
-room_listed (ReportPost role report) is = ((4, omega arith, refl), (5, omega arith, refl))
-room_listed (ReportPut role id report) is = ((3, omega arith, refl), (4, omega arith, refl))
-room_listed (ReportDelete role id) is = ((2, omega arith, refl), (3, omega arith, refl))
-room_listed c is = absurd (let yes : true ≡ false = is in cc)
-
 -- what is told of it finds numbers and room, or is refused as is listed
 then_so : (settings : Settings) (s : State) (now : ℕ) (c : Command) (e : Outcome × Base) → edit settings.limits now s.base c ≡ Ok e → Refuses (Contains (listed c)) (outbox_then settings s now e.1)
 then_so settings s now c e is = by (is_quiet c) refl
   where
     by : (quiet : Bool) → is_quiet c ≡ quiet → Refuses (Contains (listed c)) (outbox_then settings s now e.1)
     by true quiet = quiet_so (Contains (listed c)) settings s now e.1 (subst (ShowsAs s.base) is (edit_quiet settings.limits now s.base c quiet))
-    by false other = let room = room_listed c other in room_so _ settings s now e.1 room.0 room.1
+    by false other = let room = room_listed (traits_of c) other in room_so _ settings s now e.1 room.0 room.1
 
 -- ---- steps
 
@@ -366,29 +361,9 @@ step_listed settings s now c =
     (λ is. (first_then P (delivered settings.limits now s.outbox c) _ (delivered_listed settings.limits now s.outbox c is) (λ d. never P _)).so)
     (λ other. (then_found P (edit settings.limits now s.base c) _ (edit_so settings.limits now s.base c) (committed_so settings s now c)).so)
 
--- ---- what is listed
-
 pub listed_of_machine : (c : Command) → list_all is_of_machine (listed c) ≡ true
-listed_of_machine (Evidence founds polled) = refl
-listed_of_machine (Gone kind id) = refl
 listed_of_machine ScanBegin = refl
-listed_of_machine ScanEnd = refl
-listed_of_machine (VenAdd role ven) = refl
-listed_of_machine (VenPut role id ven) = refl
-listed_of_machine (VenRemove role id) = refl
-listed_of_machine (ResourceAdd role ven resource) = refl
-listed_of_machine (ResourcePut role ven id resource) = refl
-listed_of_machine (ResourceRemove role ven id) = refl
-listed_of_machine (ShareSet role program resource share) = refl
-listed_of_machine (ReportPost role report) = refl
-listed_of_machine (ReportPut role id report) = refl
-listed_of_machine (ReportDelete role id) = refl
-listed_of_machine (SubPost role sub) = refl
-listed_of_machine (SubPut role id sub) = refl
-listed_of_machine (SubDelete role id) = refl
-listed_of_machine Lease = refl
-listed_of_machine (Sent entry lease remote) = refl
-listed_of_machine (Failed entry lease forget) = refl
+listed_of_machine c = refl
 
 -- ---- runs
 

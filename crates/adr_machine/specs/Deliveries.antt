@@ -16,6 +16,7 @@ use Rattle.adr_machine.specs.declared.command.Command.TheVariants.{Lease, Sent, 
 abbrev pub job_told : Outbox → Option (ℕ × Entry) → Answer
 job_told o leased = answer.Job (option_map (job_of o) leased)
 
+-- the next entry that may leave is leased, and what is to be sent of it is answered, where there is one
 abbrev pub leased : Limits → ℕ → Outbox → Result (Answer × Outbox) Refusal
 leased limits now o = lease_next limits.serial now o >>= λ l. Ok (job_told l.1 l.0, l.1)
 
@@ -23,7 +24,7 @@ leased limits now o = lease_next limits.serial now o >>= λ l. Ok (job_told l.1 
 abbrev pub done : Result Outbox Refusal → Result (Answer × Outbox) Refusal
 done outbox = outbox >>= λ o. Ok (answer.Done, o)
 
--- what a command does with the outbox, where it is about an entry
+-- what a command does with the outbox, where it is about an entry, and its answer
 abbrev pub delivered : Limits → ℕ → Outbox → Command → Result (Answer × Outbox) Refusal
 delivered limits now o Lease = leased limits now o
 delivered limits now o (Sent entry lease remote) = done (sent entry lease remote o)

@@ -1,5 +1,5 @@
 -- What each command decides, and what its edit makes of the base; or the first refusal whose condition holds.
-use Rattle.std.specs.Prelude.{ℕ, ◌+◌, Bool, true, false, List, Option, None, Some, Result, Ok, Err, if◌then◌else◌}
+use Rattle.std.specs.Prelude.{ℕ, ◌+◌, Bool, true, List, Option, Result, Ok, Err, if◌then◌else◌}
 use Rattle.std.specs.Option.{option_map_or}
 use Rattle.adr_text.specs.Refusals.{◌>>=◌}
 use Rattle.adr_text.specs.declared.refusal.Refusal.{Refusal}
@@ -27,7 +27,8 @@ use Rattle.adr_view.specs.Subs.{sub_put, sub_delete}
 use Rattle.adr_view.specs.Reports.{report_post, report_put, report_delete}
 use Rattle.adr_queries.specs.declared.role.Role.{Role}
 use Rattle.adr_machine.specs.declared.command.Command.{Command}
-use Rattle.adr_machine.specs.declared.command.Command.TheVariants.{Evidence, Gone, ScanBegin, ScanEnd, VenAdd, VenPut, VenRemove, ResourceAdd, ResourcePut, ResourceRemove, ShareSet, ReportPost, ReportPut, ReportDelete, SubPost, SubPut, SubDelete, Lease, Sent, Failed}
+use Rattle.adr_machine.specs.declared.command.Command.TheVariants.{Evidence, Gone, ScanBegin, ScanEnd, VenAdd, VenPut, VenRemove, ResourceAdd, ResourcePut, ResourceRemove, ShareSet, ReportPost, ReportPut, ReportDelete, SubPost, SubPut, SubDelete}
+use Rattle.adr_machine.specs.Commands.{traits_of}
 use Rattle.adr_queries.specs.declared.answer.Object.TheVariants as object
 use Rattle.adr_queries.specs.declared.answer.Answer.{Answer}
 use Rattle.adr_queries.specs.declared.answer.Answer.TheVariants as answer
@@ -39,47 +40,26 @@ use Rattle.adr_queries.specs.Roles.{is_operator, sight_of}
 
 -- who gives a command that the operator alone may give
 abbrev pub giver_of : Command → Option Role
-giver_of (VenAdd role ven) = Some role
-giver_of (VenPut role id ven) = Some role
-giver_of (VenRemove role id) = Some role
-giver_of (ResourceAdd role ven resource) = Some role
-giver_of (ResourcePut role ven id resource) = Some role
-giver_of (ResourceRemove role ven id) = Some role
-giver_of (ShareSet role program resource share) = Some role
-giver_of _ = None
+giver_of command = (traits_of command).giver
 
+-- the operator gives it, where the operator alone may
 abbrev pub is_allowed : Command → Bool
 is_allowed command = option_map_or is_operator (giver_of command) true
 
 -- ---- what it decides
 
--- whether the next number is drawn for it: what it makes is new, or a report is given another revision
+-- whether the next number is drawn for it: what it makes is new, a subscription too, or a report is given another
+-- revision
 abbrev pub draws_number : Command → Bool
-draws_number (VenAdd role ven) = true
-draws_number (ResourceAdd role ven resource) = true
-draws_number (ReportPost role report) = true
-draws_number (ReportPut role id report) = true
-draws_number (SubPost role sub) = true
-draws_number _ = false
+draws_number command = (traits_of command).draws
 
 -- whether it is about an entry of the outbox, and leaves all else
 abbrev pub is_delivery : Command → Bool
-is_delivery Lease = true
-is_delivery (Sent entry lease remote) = true
-is_delivery (Failed entry lease forget) = true
-is_delivery _ = false
+is_delivery command = (traits_of command).delivers
 
 -- whether it leaves all that is shown, whatever is decided: so nothing is told of it
 abbrev pub is_quiet : Command → Bool
-is_quiet ScanBegin = true
-is_quiet ScanEnd = true
-is_quiet (SubPost role sub) = true
-is_quiet (SubPut role id sub) = true
-is_quiet (SubDelete role id) = true
-is_quiet Lease = true
-is_quiet (Sent entry lease remote) = true
-is_quiet (Failed entry lease forget) = true
-is_quiet _ = false
+is_quiet command = (traits_of command).quiet
 
 -- what comes of it, and the change of the base
 pub record Decision : Type 0 where
@@ -90,6 +70,7 @@ pub record Decision : Type 0 where
 abbrev pub counted : BaseChange → Decision
 counted change = record { outcome = outcome.Counted; change = change }
 
+-- what comes of it is this answer, with the change of the base
 abbrev pub answered : Answer → BaseChange → Decision
 answered a change = record { outcome = outcome.Told a; change = change }
 
@@ -97,42 +78,53 @@ answered a change = record { outcome = outcome.Told a; change = change }
 abbrev pub of_portfolio : {A : Type 0} → (A → Outcome) → Result (A × PortfolioChange) Refusal → Result Decision Refusal
 of_portfolio comes decision = decision >>= λ d. Ok (record { outcome = comes d.0; change = ChangePortfolio d.1 })
 
+-- what comes of a ven: it is answered
 abbrev pub ven_outcome : VenObject → Outcome
 ven_outcome ven = outcome.Told (answer.Object (object.Ven ven))
 
+-- what comes of a resource: it is answered
 abbrev pub resource_outcome : ResourceObject → Outcome
 resource_outcome resource = outcome.Told (answer.Object (object.Resource resource))
 
+-- what comes of a share: it is answered
 abbrev pub share_outcome : ShareObject → Outcome
 share_outcome share = outcome.Told (answer.Share share)
 
--- a report that is kept, and one that went
+-- what comes of a report that is kept: its number and what it says
 abbrev pub report_kept : ℕ × Report → Outcome
 report_kept r = outcome.ReportKept r.0 r.1.body
 
+-- what comes of a report that went: its number and what it said
 abbrev pub report_gone : ℕ × Report → Outcome
 report_gone r = outcome.ReportGone r.0 r.1.body
 
+-- what comes of a subscription: it is answered
 abbrev pub sub_outcome : SubObject → Outcome
 sub_outcome sub = outcome.Told (answer.Object (object.Sub sub))
 
--- what is decided of subscriptions, by who gives the command: first whether the addresses may be called
+-- what is decided of a new subscription, by who gives the command: first whether the addresses may be called, which
+-- is 14 otherwise, and then what the role sees: one that sees nothing is 8
 abbrev pub sub_post_decided : Limits → ℕ → ℕ → Role → SubIn → Base → Result Decision Refusal
 sub_post_decided limits now n role sub base = settled sub >>= λ body. sight_of base role >>= λ sight. of_portfolio sub_outcome (sub_post limits now n (owner_in sight) body base.portfolio)
 
+-- what is decided of a subscription that is put again: first whether the addresses may be called, which is 14
+-- otherwise, and then what the role sees: one that sees nothing is 8
 abbrev pub sub_put_decided : ℕ → Role → List ℕ → SubIn → Base → Result Decision Refusal
 sub_put_decided now role id sub base = settled sub >>= λ body. sight_of base role >>= λ sight. of_portfolio sub_outcome (sub_put sight now id body base.portfolio)
 
+-- what is decided of a subscription that goes, by what the role sees: one that sees nothing is 8
 abbrev pub sub_delete_decided : Role → List ℕ → Base → Result Decision Refusal
 sub_delete_decided role id base = sight_of base role >>= λ sight. of_portfolio sub_outcome (sub_delete sight id base.portfolio)
 
--- what is decided of reports, by who gives the command
+-- what is decided of a new report, by what the role sees: one that sees nothing is 8
 abbrev pub post_decided : Limits → ℕ → Role → ReportIn → Base → Result Decision Refusal
 post_decided limits n role report base = sight_of base role >>= λ sight. of_portfolio report_kept (report_post limits sight n report base.mirror base.portfolio)
 
+-- what is decided of a report that is put again, by what the role sees: one that sees nothing is 8
 abbrev pub put_decided : ℕ → Role → List ℕ → ReportIn → Base → Result Decision Refusal
 put_decided n role id report base = sight_of base role >>= λ sight. of_portfolio report_kept (report_put sight n id report base.mirror base.portfolio)
 
+-- what is decided of a report that goes, by what the role sees: one that sees nothing is 8
 abbrev pub delete_decided : Role → List ℕ → Base → Result Decision Refusal
 delete_decided role id base = sight_of base role >>= λ sight. of_portfolio report_gone (report_delete sight id base.portfolio)
 
@@ -173,8 +165,10 @@ carried_out_on base decision = decision >>= λ d. Ok (d.outcome, changed d.chang
 abbrev pub numbered : Limits → Bool → Base → Decision → Result (Outcome × Base) Refusal
 numbered limits draws base d = drawn limits base.serial draws >>= λ serial. Ok (d.outcome, record (changed d.change base) { serial = serial })
 
+-- what is decided is carried out, and the next number is drawn where the command draws one
 abbrev pub edit_of : Limits → ℕ → Base → Command → Result (Outcome × Base) Refusal
 edit_of limits now base command = decided limits now (base.serial + 1) base command >>= numbered limits (draws_number command) base
 
+-- what a command makes of the base, or the first refusal whose condition holds, that of the role first
 unfoldable pub edit : Limits → ℕ → Base → Command → Result (Outcome × Base) Refusal
 edit limits now base command = if is_allowed command then edit_of limits now base command else Err Forbidden

@@ -1,3 +1,4 @@
+pub mod Commands
 pub mod Edits
 pub mod Deliveries
 pub mod Listed

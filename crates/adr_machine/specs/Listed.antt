@@ -1,29 +1,23 @@
 -- The refusals that are listed for each command, in the order in which each is first tested.
-use Rattle.std.specs.Prelude.{List, [], ◌∷◌}
+use Rattle.std.specs.Prelude.{List, [], ◌∷◌, ◌++◌, if◌then◌else◌}
+use Rattle.std.specs.Option.{option_map_or}
 use Rattle.adr_text.specs.declared.refusal.Refusal.{Refusal}
-use Rattle.adr_text.specs.declared.refusal.Refusal.TheVariants.{OutboxFull, Exhausted, NotFound, Conflict, Forbidden, BadShare, LimitReached, ResourceNotOfEvent, NoScan, LeaseLost, BadShape}
+use Rattle.adr_text.specs.declared.refusal.Refusal.TheVariants.{OutboxFull, Exhausted, Forbidden}
 use Rattle.adr_machine.specs.declared.command.Command.{Command}
-use Rattle.adr_machine.specs.declared.command.Command.TheVariants.{Evidence, Gone, ScanBegin, ScanEnd, VenAdd, VenPut, VenRemove, ResourceAdd, ResourcePut, ResourceRemove, ShareSet, ReportPost, ReportPut, ReportDelete, SubPost, SubPut, SubDelete, Lease, Sent, Failed}
+use Rattle.adr_machine.specs.Commands.{Traits, traits_of}
+
+-- where the operator alone may give it, who else gives it is refused
+abbrev pub gate : Traits → List Refusal
+gate t = option_map_or (λ role. Forbidden ∷ []) t.giver []
+
+-- it may want a number of its own, and numbers and room for what is told of it
+abbrev pub wants : Traits → List Refusal
+wants t = if t.quiet then (if t.draws then Exhausted ∷ [] else []) else Exhausted ∷ OutboxFull ∷ []
+
+-- what a command may be refused by: for who gives it, of its own, and for what it wants
+abbrev pub refusals : Traits → List Refusal
+refusals t = gate t ++ (t.own ++ wants t)
 
 -- what a command may be refused by
 abbrev pub listed : Command → List Refusal
-listed (Evidence founds polled) = LimitReached ∷ Exhausted ∷ OutboxFull ∷ []
-listed (Gone kind id) = LimitReached ∷ Exhausted ∷ OutboxFull ∷ []
-listed ScanBegin = []
-listed ScanEnd = NoScan ∷ []
-listed (VenAdd role ven) = Forbidden ∷ Conflict ∷ LimitReached ∷ Exhausted ∷ OutboxFull ∷ []
-listed (VenPut role id ven) = Forbidden ∷ NotFound ∷ Conflict ∷ Exhausted ∷ OutboxFull ∷ []
-listed (VenRemove role id) = Forbidden ∷ NotFound ∷ Exhausted ∷ OutboxFull ∷ []
-listed (ResourceAdd role ven resource) = Forbidden ∷ NotFound ∷ Conflict ∷ LimitReached ∷ Exhausted ∷ OutboxFull ∷ []
-listed (ResourcePut role ven id resource) = Forbidden ∷ NotFound ∷ Conflict ∷ Exhausted ∷ OutboxFull ∷ []
-listed (ResourceRemove role ven id) = Forbidden ∷ NotFound ∷ Exhausted ∷ OutboxFull ∷ []
-listed (ShareSet role program resource share) = Forbidden ∷ NotFound ∷ BadShare ∷ LimitReached ∷ Exhausted ∷ OutboxFull ∷ []
-listed (ReportPost role report) = Forbidden ∷ NotFound ∷ ResourceNotOfEvent ∷ LimitReached ∷ Exhausted ∷ OutboxFull ∷ []
-listed (ReportPut role id report) = Forbidden ∷ NotFound ∷ ResourceNotOfEvent ∷ Exhausted ∷ OutboxFull ∷ []
-listed (ReportDelete role id) = Forbidden ∷ NotFound ∷ Exhausted ∷ OutboxFull ∷ []
-listed (SubPost role sub) = BadShape ∷ Forbidden ∷ LimitReached ∷ Exhausted ∷ []
-listed (SubPut role id sub) = BadShape ∷ Forbidden ∷ NotFound ∷ []
-listed (SubDelete role id) = Forbidden ∷ NotFound ∷ []
-listed Lease = Exhausted ∷ []
-listed (Sent entry lease remote) = LeaseLost ∷ []
-listed (Failed entry lease forget) = LeaseLost ∷ []
+listed command = refusals (traits_of command)

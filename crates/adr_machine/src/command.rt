@@ -1,6 +1,5 @@
 //! What the machine is told to do.
 ghost use Rattle.std.specs.Prelude.{◌≡◌, IfOk};
-ghost use Rattle.std.specs.Option.{option_copied};
 
 use crate::copies;
 use adr_objects::{Found, Kind, Number, ReportIn, ResourceIn, ShareIn, VenIn};
@@ -9,7 +8,9 @@ use adr_subscription::SubIn;
 use adr_text::{ObjectId, Rows};
 use std::alloc::AllocError;
 
-/// A command. Each is one step, at a moment.
+/// A command. Each is one step, at a moment, and is refused as is said of it. One of which something may be told, that is
+/// all but those on scans, subscriptions and entries of the outbox, is also refused where the numbers are used up for the
+/// entries that it makes, or the outbox has no room for them.
 pub enum Command {
     /// Versions of upstream objects were found, in a page that was polled or in a notification.
     /// Refused where keys would pass their limit.
@@ -199,8 +200,62 @@ impl Drop for Command {
     }
 }
 
+/// What a command is.
+#[derive(Clone, Copy)]
+struct Traits {
+    is_allowed: bool,
+    draws_number: bool,
+    is_delivery: bool,
+    is_quiet: bool,
+}
+
+/// Of what may change what is shown.
+const SHOWN: Traits = Traits {
+    is_allowed: true,
+    draws_number: false,
+    is_delivery: false,
+    is_quiet: false,
+};
+
+/// Of what leaves all that is shown.
+const UNSEEN: Traits = Traits {
+    is_quiet: true,
+    ..SHOWN
+};
+
+/// Of what is about an entry of the outbox.
+const DELIVERY: Traits = Traits {
+    is_delivery: true,
+    ..UNSEEN
+};
+
+impl Traits {
+    ghost use Rattle.std.specs.Prelude.{true};
+    ghost use Rattle.adr_queries.specs.Roles.{is_operator};
+
+    /// Of what the operator alone may give, and this role gives.
+    fn given_by(self, role: &Role) -> Traits
+        ensures { result ≡ record self { is_allowed = is_operator role.now } }
+    {
+        Traits {
+            is_allowed: is_operator(role),
+            ..self
+        }
+    }
+
+    /// Of what the next number is drawn for.
+    fn numbered(self) -> Traits
+        ensures { result ≡ record self { draws_number = true } }
+    {
+        Traits {
+            draws_number: true,
+            ..self
+        }
+    }
+}
+
 impl Command {
-    ghost use Rattle.adr_machine.specs.Edits.{giver_of, is_allowed, draws_number, is_delivery, is_quiet};
+    ghost use Rattle.adr_machine.specs.Edits.{is_allowed, draws_number, is_delivery, is_quiet};
 
     /// The same command again.
     pub fn copy(&self) -> Result<Command, AllocError>
@@ -256,31 +311,31 @@ impl Command {
         }
     }
 
-    /// Who gives it, where the operator alone may.
-    fn giver(&self) -> Option<&Role>
-        ensures { option_copied result ≡ giver_of self.now }
+    /// The table of commands: what each is.
+    fn traits(&self) -> Traits
+        ensures { result ≡ record { is_allowed = is_allowed self.now; draws_number = draws_number self.now; is_delivery = is_delivery self.now; is_quiet = is_quiet self.now } }
     {
         match self {
-            Command::Evidence { .. }
-            | Command::Gone { .. }
-            | Command::ScanBegin
-            | Command::ScanEnd
-            | Command::ReportPost { .. }
-            | Command::ReportPut { .. }
-            | Command::ReportDelete { .. }
-            | Command::SubPost { .. }
-            | Command::SubPut { .. }
-            | Command::SubDelete { .. }
-            | Command::Lease
-            | Command::Sent { .. }
-            | Command::Failed { .. } => None,
-            Command::VenAdd { role, .. }
-            | Command::VenPut { role, .. }
-            | Command::VenRemove { role, .. }
-            | Command::ResourceAdd { role, .. }
-            | Command::ResourcePut { role, .. }
-            | Command::ResourceRemove { role, .. }
-            | Command::ShareSet { role, .. } => Some(role),
+            Command::Evidence { .. } => SHOWN,
+            Command::Gone { .. } => SHOWN,
+            Command::ScanBegin => UNSEEN,
+            Command::ScanEnd => UNSEEN,
+            Command::VenAdd { role, .. } => SHOWN.numbered().given_by(role),
+            Command::VenPut { role, .. } => SHOWN.given_by(role),
+            Command::VenRemove { role, .. } => SHOWN.given_by(role),
+            Command::ResourceAdd { role, .. } => SHOWN.numbered().given_by(role),
+            Command::ResourcePut { role, .. } => SHOWN.given_by(role),
+            Command::ResourceRemove { role, .. } => SHOWN.given_by(role),
+            Command::ShareSet { role, .. } => SHOWN.given_by(role),
+            Command::ReportPost { .. } => SHOWN.numbered(),
+            Command::ReportPut { .. } => SHOWN.numbered(),
+            Command::ReportDelete { .. } => SHOWN,
+            Command::SubPost { .. } => UNSEEN.numbered(),
+            Command::SubPut { .. } => UNSEEN,
+            Command::SubDelete { .. } => UNSEEN,
+            Command::Lease => DELIVERY,
+            Command::Sent { .. } => DELIVERY,
+            Command::Failed { .. } => DELIVERY,
         }
     }
 
@@ -288,50 +343,27 @@ impl Command {
     pub fn is_allowed(&self) -> bool
         ensures { result ≡ is_allowed self.now }
     {
-        match self.giver() {
-            Some(role) => is_operator(role),
-            None => true,
-        }
+        self.traits().is_allowed
     }
 
     /// Whether the next number is drawn for it: what it makes is new, or a report is given another revision.
     pub fn draws_number(&self) -> bool
         ensures { result ≡ draws_number self.now }
     {
-        matches!(
-            self,
-            Command::VenAdd { .. }
-                | Command::ResourceAdd { .. }
-                | Command::ReportPost { .. }
-                | Command::ReportPut { .. }
-                | Command::SubPost { .. }
-        )
+        self.traits().draws_number
     }
 
     /// Whether it is about an entry of the outbox, and leaves all else.
     pub fn is_delivery(&self) -> bool
         ensures { result ≡ is_delivery self.now }
     {
-        matches!(
-            self,
-            Command::Lease | Command::Sent { .. } | Command::Failed { .. }
-        )
+        self.traits().is_delivery
     }
 
     /// Whether it leaves all that is shown, whatever is decided: so nothing is told of it.
     pub fn is_quiet(&self) -> bool
         ensures { result ≡ is_quiet self.now }
     {
-        matches!(
-            self,
-            Command::ScanBegin
-                | Command::ScanEnd
-                | Command::SubPost { .. }
-                | Command::SubPut { .. }
-                | Command::SubDelete { .. }
-                | Command::Lease
-                | Command::Sent { .. }
-                | Command::Failed { .. }
-        )
+        self.traits().is_quiet
     }
 }

@@ -14,7 +14,8 @@ use Rattle.adr_db.specs.declared.meta.Meta.{Meta}
 use Rattle.adr_db.specs.Kept.{at_most}
 use Rattle.adr_db.specs.Bases.{Beside, with_base, HoldsBeside}
 
--- the first ones, at most so many where there is a limit
+-- the live keys that an open scan missed, the first of them where there is a limit, at most so many; `NoScan` where
+-- none is open
 abbrev pub missed : Option ℕ → Base → Result (List MirrorKey) Refusal
 missed limit base = open_scan base.scan >>= λ polled. Ok (at_most limit (probes base.mirror polled))
 

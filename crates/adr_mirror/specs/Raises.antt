@@ -18,11 +18,12 @@ use Rattle.adr_mirror.specs.declared.risen.Risen.{Risen}
 
 -- ---- which marks rise
 
--- what a mark makes of what is known of its key
+-- what a mark makes of what is known of its key: the first mark, a higher one, or neither
 abbrev pub rise_of : Option Mark → Mark → Rise
 rise_of None mark = First
 rise_of (Some known) mark = if is_below (Some known) mark then Higher else Same
 
+-- a mark raises its key: as the first one, or as a higher one
 abbrev pub is_raised : Rise → Bool
 is_raised Same = false
 is_raised Higher = true
@@ -60,12 +61,15 @@ are_beyond limit keys added = nat_lt 0 added && nat_lt limit (keys + added)
 
 -- ---- what is kept then
 
+-- what is kept with the mark of a key raised: it keeps the greater of its own and the one that comes
 abbrev pub with_raised : MirrorKey × Mark → Kept → Kept
 with_raised e kept = record kept { mirror = raised kept.mirror e }
 
+-- what is kept with marks joined to the mirror, one after another
 abbrev pub with_joined : List (MirrorKey × Mark) → Kept → Kept
 with_joined evidence kept = record kept { mirror = joined kept.mirror evidence }
 
+-- what is kept with the keys of what was found among those that were polled
 abbrev pub with_keys_polled : List Found → Kept → Kept
 with_keys_polled founds kept = record kept { polled = keys_found kept.polled founds }
 

@@ -1,7 +1,7 @@
 //! Evidence joins the mirror.
 ghost use Rattle.std.specs.Prelude.{◌≡◌, ◌⊎◌, ◌+◌, false, true, nat_lt, ◌&&◌, if◌then◌else◌, [], ◌∷◌, IfOk, IfErr, OnOk};
 ghost use Rattle.adr_text.specs.declared.refusal.Refusal.TheVariants.{LimitReached};
-ghost use Rattle.adr_sql.specs.Calls.{Stays};
+ghost use Rattle.adr_sql.specs.Calls.{LeavesLent};
 ghost use Rattle.adr_state.specs.Keys.{mirror_cmp, at};
 ghost use Rattle.adr_state.specs.Mirror.{key_of, mark_of, evidence_of, joined};
 ghost use Rattle.adr_db.specs.Calls.{LeavesKept, Turns, IsOfStore};
@@ -26,8 +26,7 @@ fn join_one<S: Alter>(
     found: &Found,
     risen: &mut Risen,
 ) -> Result<(), Refusal>
-    ensures same_reference { tx.new.conn.ghost_name ≡ tx.old.conn.ghost_name }
-    ensures stays { Stays S.Store tx.old.conn.now tx.new.conn.now result }
+    ensures lent { LeavesLent S.Store tx.old.conn tx.new.conn result }
     ensures turns { Turns S.Store tx.old.conn.now tx.new.conn.now (with_raised (key_of found.now, mark_of found.now)) (λ kept _. risen.new ≡ noted risen.old (key_of found.now) (rise_of (at mirror_cmp (key_of found.now) kept.mirror) (mark_of found.now))) result }
     ensures refused { IfErr result IsOfStore }
 {
@@ -44,8 +43,7 @@ fn join<S: Alter>(
     tx: &mut Transaction<'_, S>,
     founds: &[Found],
 ) -> Result<Risen, Refusal>
-    ensures same_reference { tx.new.conn.ghost_name ≡ tx.old.conn.ghost_name }
-    ensures stays { Stays S.Store tx.old.conn.now tx.new.conn.now result }
+    ensures lent { LeavesLent S.Store tx.old.conn tx.new.conn result }
     ensures turns { Turns S.Store tx.old.conn.now tx.new.conn.now (with_joined (evidence_of founds.now)) (λ kept risen. HasRisen kept.mirror (joined kept.mirror (evidence_of founds.now)) risen) result }
     ensures refused { IfErr result IsOfStore }
 {
@@ -83,8 +81,7 @@ fn count_keys(limits: &Limits, meta: &mut Meta, added: u64) -> Result<(), Refusa
 
 // The keys of the versions join the polled ones.
 fn poll_each<S: Alter>(tx: &mut Transaction<'_, S>, founds: &[Found]) -> Result<(), Refusal>
-    ensures same_reference { tx.new.conn.ghost_name ≡ tx.old.conn.ghost_name }
-    ensures stays { Stays S.Store tx.old.conn.now tx.new.conn.now result }
+    ensures lent { LeavesLent S.Store tx.old.conn tx.new.conn result }
     ensures leaves { LeavesKept S.Store tx.old.conn.now tx.new.conn.now (with_keys_polled founds.now) result }
     ensures refused { IfErr result IsOfStore }
 {
@@ -103,8 +100,7 @@ fn is_noted(polled: bool, meta: &Meta) -> bool
 
 /// Notes the keys of what was polled, where a scan is open for it.
 fn poll<S: Alter>(tx: &mut Transaction<'_, S>, founds: &[Found], noted: bool) -> Result<(), Refusal>
-    ensures same_reference { tx.new.conn.ghost_name ≡ tx.old.conn.ghost_name }
-    ensures stays { Stays S.Store tx.old.conn.now tx.new.conn.now result }
+    ensures lent { LeavesLent S.Store tx.old.conn tx.new.conn result }
     ensures leaves { LeavesKept S.Store tx.old.conn.now tx.new.conn.now (with_polled_if noted founds.now) result }
     ensures refused { IfErr result IsOfStore }
 {
@@ -127,8 +123,7 @@ pub fn put_evidence<S: Alter>(
     founds: &[Found],
     polled: bool,
 ) -> Result<Rows<MirrorKey>, Refusal>
-    ensures same_reference { tx.new.conn.ghost_name ≡ tx.old.conn.ghost_name }
-    ensures stays { Stays S.Store tx.old.conn.now tx.new.conn.now result }
+    ensures lent { LeavesLent S.Store tx.old.conn tx.new.conn result }
     ensures makes { Makes S.Store tx.old.conn.now tx.new.conn.now (evidence limits.now founds.now polled) meta.old meta.new (λ before after keys. HaveRisen before.mirror after.mirror keys) result }
     ensures refuses { RefusesOn S.Store tx.old.conn.now tx.new.conn.now (evidence limits.now founds.now polled) meta.old result }
     ensures refused { IfErr result (λ refusal. IsOfStore refusal ⊎ (refusal ≡ LimitReached)) }
@@ -158,8 +153,7 @@ pub fn gone<S: Alter>(
     kind: Kind,
     id: &ObjectId,
 ) -> Result<bool, Refusal>
-    ensures same_reference { tx.new.conn.ghost_name ≡ tx.old.conn.ghost_name }
-    ensures stays { Stays S.Store tx.old.conn.now tx.new.conn.now result }
+    ensures lent { LeavesLent S.Store tx.old.conn tx.new.conn result }
     ensures makes { Makes S.Store tx.old.conn.now tx.new.conn.now (gone limits.now (record { kind = kind; id = id.now })) meta.old meta.new (λ before after rose. HaveRisen before.mirror after.mirror (if rose then record { kind = kind; id = id.now } ∷ [] else [])) result }
     ensures refuses { RefusesOn S.Store tx.old.conn.now tx.new.conn.now (gone limits.now (record { kind = kind; id = id.now })) meta.old result }
     ensures refused { IfErr result (λ refusal. IsOfStore refusal ⊎ (refusal ≡ LimitReached)) }

@@ -1,6 +1,6 @@
 //! One mark joins the mirror.
 ghost use Rattle.std.specs.Prelude.{◌≡◌, IfErr};
-ghost use Rattle.adr_sql.specs.Calls.{Stays};
+ghost use Rattle.adr_sql.specs.Calls.{LeavesLent};
 ghost use Rattle.adr_state.specs.Keys.{mirror_cmp, at};
 ghost use Rattle.adr_db.specs.Calls.{Turns, IsOfStore};
 ghost use Rattle.adr_mirror.specs.Raises.{is_raised, added_by, rise_of, with_raised};
@@ -52,8 +52,7 @@ pub(crate) fn raise<S: Alter>(
     key: &MirrorKey,
     mark: &Mark,
 ) -> Result<Rise, Refusal>
-    ensures same_reference { tx.new.conn.ghost_name ≡ tx.old.conn.ghost_name }
-    ensures stays { Stays S.Store tx.old.conn.now tx.new.conn.now result }
+    ensures lent { LeavesLent S.Store tx.old.conn tx.new.conn result }
     ensures turns { Turns S.Store tx.old.conn.now tx.new.conn.now (with_raised (key.now, mark.now)) (λ kept rise. rise ≡ rise_of (at mirror_cmp key.now kept.mirror) mark.now) result }
     ensures refused { IfErr result IsOfStore }
 {

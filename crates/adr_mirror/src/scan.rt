@@ -3,7 +3,7 @@ ghost use Rattle.std.specs.Prelude.{◌≡◌, ◌⊎◌, None, Ok, IfErr};
 ghost use Rattle.adr_text.specs.declared.refusal.Refusal.TheVariants.{NoScan};
 ghost use Rattle.adr_state.specs.BaseChanges.{SetScan};
 ghost use Rattle.adr_state.specs.Evidence.{scan_begin, scan_end};
-ghost use Rattle.adr_sql.specs.Calls.{Stays};
+ghost use Rattle.adr_sql.specs.Calls.{LeavesLent};
 ghost use Rattle.adr_db.specs.Kept.{with_none_polled};
 ghost use Rattle.adr_db.specs.Calls.{LeavesKept, IsOfStore};
 ghost use Rattle.adr_db.specs.BaseCalls.{Makes, RefusesOn};
@@ -22,8 +22,7 @@ fn set_scan<S: Alter>(
     meta: &mut Meta,
     is_open: bool,
 ) -> Result<(), Refusal>
-    ensures same_reference { tx.new.conn.ghost_name ≡ tx.old.conn.ghost_name }
-    ensures stays { Stays S.Store tx.old.conn.now tx.new.conn.now result }
+    ensures lent { LeavesLent S.Store tx.old.conn tx.new.conn result }
     ensures leaves { LeavesKept S.Store tx.old.conn.now tx.new.conn.now with_none_polled result }
     ensures noted { meta.new ≡ record meta.old { scan = is_open } }
     ensures refused { IfErr result IsOfStore }
@@ -35,8 +34,7 @@ fn set_scan<S: Alter>(
 /// Opens a scan with an empty set of polled keys. An open one is replaced. The numbers of the node are handed
 /// in, and are left as the caller has to put them.
 pub fn scan_begin<S: Alter>(tx: &mut Transaction<'_, S>, meta: &mut Meta) -> Result<(), Refusal>
-    ensures same_reference { tx.new.conn.ghost_name ≡ tx.old.conn.ghost_name }
-    ensures stays { Stays S.Store tx.old.conn.now tx.new.conn.now result }
+    ensures lent { LeavesLent S.Store tx.old.conn tx.new.conn result }
     ensures makes { Makes S.Store tx.old.conn.now tx.new.conn.now (λ _. Ok scan_begin) meta.old meta.new (λ _ _ _. Unit {0}) result }
     ensures refused { IfErr result IsOfStore }
 {
@@ -51,8 +49,7 @@ pub fn probes<S: Alter>(
     meta: &Meta,
     limit: Option<u32>,
 ) -> Result<Rows<MirrorKey>, Refusal>
-    ensures same_reference { tx.new.conn.ghost_name ≡ tx.old.conn.ghost_name }
-    ensures stays { Stays S.Store tx.old.conn.now tx.new.conn.now result }
+    ensures lent { LeavesLent S.Store tx.old.conn tx.new.conn result }
     ensures tells { TellsOn S.Store tx.old.conn.now tx.new.conn.now (missed limit) meta.now result }
     ensures refuses { RefusesOn S.Store tx.old.conn.now tx.new.conn.now (missed limit) meta.now result }
     ensures refused { IfErr result (λ refusal. IsOfStore refusal ⊎ (refusal ≡ NoScan)) }
@@ -69,8 +66,7 @@ pub fn scan_end<S: Alter>(
     tx: &mut Transaction<'_, S>,
     meta: &mut Meta,
 ) -> Result<Rows<MirrorKey>, Refusal>
-    ensures same_reference { tx.new.conn.ghost_name ≡ tx.old.conn.ghost_name }
-    ensures stays { Stays S.Store tx.old.conn.now tx.new.conn.now result }
+    ensures lent { LeavesLent S.Store tx.old.conn tx.new.conn result }
     ensures makes { Makes S.Store tx.old.conn.now tx.new.conn.now closing meta.old meta.new (λ before _ keys. scan_end before ≡ Ok (keys, SetScan None)) result }
     ensures refuses { RefusesOn S.Store tx.old.conn.now tx.new.conn.now closing meta.old result }
     ensures refused { IfErr result (λ refusal. IsOfStore refusal ⊎ (refusal ≡ NoScan)) }

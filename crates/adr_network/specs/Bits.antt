@@ -14,6 +14,7 @@ bits_of (V6 ip) = record { count = 128; number = ipv6_bits ip }
 abbrev pub unmapped : ℕ → Bits
 unmapped number = if number / 2 ^ 32 == 0xffff then record { count = 32; number = number % 2 ^ 32 } else record { count = 128; number = number }
 
+-- the bits of an address that is asked about: one that is ::ffff:a.b.c.d counts as a.b.c.d
 abbrev pub asked_bits : IpAddr → Bits
 asked_bits (V4 ip) = bits_of (V4 ip)
 asked_bits (V6 ip) = unmapped (ipv6_bits ip)

@@ -22,6 +22,7 @@ HasFirstBits network address = ((asked_bits address).count ≡ network.bits.coun
 abbrev pub HaveFirstBits : Type 0
 HaveFirstBits = (network : Network) (address : IpAddr) → IsTrue (has network address) ↔ HasFirstBits network address
 
+-- one of the networks has the address
 abbrev pub has_one : List Network → IpAddr → Bool
 has_one networks address = list_any (λ network. has network address) networks
 

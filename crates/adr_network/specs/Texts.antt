@@ -7,10 +7,11 @@ use Rattle.adr_state.specs.Digits.{number_within, starts_with_zero}
 use Rattle.adr_network.specs.declared.network.Network.{Network}
 use Rattle.adr_network.specs.Networks.{network_at}
 
--- what stands before the first `/` of a text, and what behind it, where it has one
+-- what stands before the first `/` of a text
 abbrev pub address_part : List ℕ → List ℕ
 address_part text = before_first (λ b. b == 47) text
 
+-- what stands behind the first `/` of a text, where it has one
 abbrev pub length_part : List ℕ → Option (List ℕ)
 length_part text = option_map (λ i. drop (i + 1) text) (position (λ b. b == 47) text)
 
@@ -18,7 +19,7 @@ length_part text = option_map (λ i. drop (i + 1) text) (position (λ b. b == 47
 abbrev pub is_padded : List ℕ → Bool
 is_padded digits = starts_with_zero digits && nat_lt 1 (length digits)
 
--- the number that plain digits write, at most 128
+-- the number that plain digits write, at most 128, unless they begin with a 0 and are more than that
 abbrev pub length_in : List ℕ → Option ℕ
 length_in digits = if is_padded digits then None else number_within 128 digits
 

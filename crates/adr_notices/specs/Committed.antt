@@ -17,7 +17,8 @@ numbered last entries = enumerate_from (last + 1) entries
 abbrev pub with_further : ℕ → List Entry → Outbox → Outbox × ℕ
 with_further serial entries o = (appended (numbered serial entries) o, serial + length entries)
 
--- where there are numbers and room for all of them, once the entries of subscriptions that are not there are dropped: 4 and then 3
+-- the outbox without the entries of subscriptions that are not there and with the further ones, and the serial then,
+-- where there are numbers for all of them, and room once those others are dropped: 4 and then 3
 abbrev pub outbox_after : Limits → ℕ → Outbox → List (ℕ × Sub) → List Entry → Result (Outbox × ℕ) Refusal
 outbox_after limits serial o subs entries =
     check_room limits.serial limits.pending serial (length (kept_for subs o).entries) (length entries) >>= λ _. Ok (with_further serial entries (kept_for subs o))

@@ -18,6 +18,7 @@ use Rattle.adr_notices.specs.Matching.{entries_of}
 use Rattle.adr_notices.specs.RollupEntries.{rollup_entry}
 use Rattle.adr_notices.specs.Shown.{Side}
 
+-- the entries for the subscriptions that match what is told, and none where nothing is told
 abbrev pub entries_noticed : List (ℕ × Sub) → Option Notice → List Entry
 entries_noticed subs notice = option_map_or (entries_of subs) notice []
 
@@ -36,9 +37,10 @@ judged_in operation.Delete before after = before
 abbrev pub entries_in : List ℕ → List (ℕ × Sub) → Side → Change → List Entry
 entries_in client subs shown change = option_map_or (entries_at client subs shown change.operation change.key) (at view_cmp change.key shown.view) []
 
+-- the entries of a change, as it is judged, for the subscriptions that there are after the command
 abbrev pub entries_of_change : List ℕ → List (ℕ × Sub) → Side → Side → Change → List Entry
 entries_of_change client subs before after change = entries_in client subs (judged_in change.operation before after) change
 
--- those of all changes, in their order
+-- the entries of all changes, in their order
 abbrev pub entries_made : List ℕ → List (ℕ × Sub) → Side → Side → List Change → List Entry
 entries_made client subs before after changes = flat_map (entries_of_change client subs before after) changes

@@ -35,6 +35,8 @@ abbrev pub is_meant : SubIn → Option EventNames → Bool
 is_meant sub None = true
 is_meant sub (Some names) = is_targeted names.ven_name names.resource_name sub
 
+-- whether all three hold: it is about the program that the subscription names, if it names one, its owner sees the
+-- object, and its targets mean the event
 abbrev pub is_for : Sub → Notice → Bool
 is_for sub n = is_about sub.body.program n && is_in_sight sub.owner n && is_meant sub.body n.names
 
@@ -46,9 +48,10 @@ matching sub n = if is_for sub n then item_for n.kind n.operation sub.body else 
 abbrev pub entry_by : ℕ → Notice → SubscriptionItem → Entry
 entry_by number n item = fresh (Subscriber number item.callback_url item.bearer_token) n.operation n.body
 
+-- the entry for a subscription with its number, where that matches
 abbrev pub entry_for : Notice → ℕ × Sub → Option Entry
 entry_for n s = option_map (entry_by s.0 n) (matching s.1 n)
 
--- one for each subscription that matches, in the order of their numbers
+-- one entry for each subscription that matches, in the order of their numbers
 abbrev pub entries_of : List (ℕ × Sub) → Notice → List Entry
 entries_of subs n = filter_map (entry_for n) subs

@@ -18,13 +18,13 @@ use Rattle.adr_queries.specs.Shown.{owner_of, object_at}
 use Rattle.adr_written.specs.WrittenNotices.{program_notice_text, event_notice_text, report_notice_text}
 use Rattle.adr_notices.specs.declared.notice.Notice.{Notice}
 
--- what happened at a key, as it is told
+-- what happened at a key, as it is told: POST, PUT or DELETE for what appeared, differs or went
 abbrev pub operation_kind : Operation → OperationKind
 operation_kind operation.Post = told.Post
 operation_kind operation.Put = told.Put
 operation_kind operation.Delete = told.Delete
 
--- of a program, which is of no ven
+-- what is told of a program, which is of no ven
 abbrev pub program_notice : OperationKind → ProgramObject → Notice
 program_notice done p = record {
   kind = kind.Program;
@@ -35,7 +35,7 @@ program_notice done p = record {
   body = program_notice_text done p;
 }
 
--- of what a resource is shown of an event, which is of the ven that owns the resource
+-- what is told of what a resource is shown of an event, which is of the ven that owns the resource
 abbrev pub event_notice : Base → OperationKind → EventObject → Notice
 event_notice base done e = record {
   kind = kind.Event;
@@ -46,7 +46,7 @@ event_notice base done e = record {
   body = event_notice_text done e;
 }
 
--- of a report, which is of the ven that owns the resource that it is on
+-- what is told of a report, which is of the ven that owns the resource that it is on
 abbrev pub report_notice : Base → OperationKind → ReportObject → Notice
 report_notice base done r = record {
   kind = kind.Report;
@@ -57,7 +57,7 @@ report_notice base done r = record {
   body = report_notice_text done r;
 }
 
--- what a change of an object tells; only of these three is anything told
+-- what a change of an object tells, which is a program, an event as it is shown or a report; nothing of another
 abbrev pub notice_about : Base → OperationKind → Object → Option Notice
 notice_about base done (object.Program p) = Some (program_notice done p)
 notice_about base done (object.Event e) = Some (event_notice base done e)

@@ -8,7 +8,7 @@ use Rattle.adr_delivery.specs.Entries.{fresh}
 use Rattle.adr_written.specs.WrittenReports.{rollup_text}
 use Rattle.adr_notices.specs.Notices.{operation_kind}
 
--- to the utility, under the node's name
+-- the entry to the utility that tells the roll-up of an upstream event, under the node's name
 abbrev pub rollup_entry : List ℕ → Operation → List ℕ → Rollup → Entry
 rollup_entry client operation event rollup =
     fresh (Utility event) (operation_kind operation) (rollup_text (record { client = client; event = event; rollup = rollup }))

@@ -38,6 +38,8 @@ pub record AreNames (names : List (List ℕ)) : Type 0 where
   pub ascend : IsStrictlySortedBy (slice_cmp nat_cmp) names
   pub each : All (λ name. IsTrue (is_name name)) names
 
+-- of an event: an object id as its program, a name of at most 256 bytes, a priority of at most 2^31 - 1, and its
+-- period, resource names and intervals within their bounds, where all but the program and the intervals may be absent
 pub record IsEvent (e : EventBody) : Type 0 where
   pub program : IsTrue (is_id e.program)
   pub name : IfSome e.name (λ text. length text ≤ 256)
@@ -46,6 +48,8 @@ pub record IsEvent (e : EventBody) : Type 0 where
   pub resource_names : IfSome e.resource_names AreNames
   pub intervals : AreIntervals e.intervals
 
+-- what a body keeps by the types of its parts: a program's name has 1 to 128 bytes, an event is as `IsEvent` says,
+-- and of a body that is kept unread nothing is asked
 abbrev pub IsBody : Body → Type 0
 IsBody (Program name) = IsTrue (is_name name)
 IsBody (Event event) = IsEvent event

@@ -10,9 +10,11 @@ use Rattle.adr_objects.specs.declared.body.Body.{Body}
 use Rattle.adr_objects.specs.declared.body.Body.TheVariants.{Program, Event, Opaque}
 use Rattle.adr_objects.specs.Reasons.{reason_number}
 
+-- a number from 0 on, as a JSON number without point or exponent
 abbrev pub natural_data : ℕ → Data
 natural_data n = whole_data (pos n)
 
+-- the array of these texts, in their order
 abbrev pub texts_data : List (List ℕ) → Data
 texts_data texts = array_of (map string texts)
 
@@ -23,6 +25,7 @@ period_fields p =
     ∷ (codes "start", Some (string p.start))
     ∷ []
 
+-- `duration`, `randomizeStart` and `start`, of which the first two may be absent
 unfoldable pub period_data : Period → Data
 period_data p = object_of (period_fields p)
 
@@ -33,6 +36,7 @@ interval_fields i =
     ∷ (codes "setpoint", option_map whole_data i.setpoint)
     ∷ []
 
+-- `id`, `intervalPeriod` and `setpoint`, of which the last two may be absent
 unfoldable pub interval_data : Interval → Data
 interval_data i = object_of (interval_fields i)
 
@@ -46,14 +50,17 @@ event_fields e =
     ∷ (codes "resourceNames", option_map texts_data e.resource_names)
     ∷ []
 
+-- `eventName`, `intervalPeriod`, `intervals`, `priority`, `programID` and `resourceNames`, of which all but
+-- `intervals` and `programID` may be absent
 unfoldable pub event_data : EventBody → Data
 event_data e = object_of (event_fields e)
 
+-- an object of one member: `program` with the name, `event` with the event, or `opaque` with the reason's number
 unfoldable pub body_data : Body → Data
 body_data (Program name) = object_of ((codes "program", Some (string name)) ∷ [])
 body_data (Event event) = object_of ((codes "event", Some (event_data event)) ∷ [])
 body_data (Opaque reason) = object_of ((codes "opaque", Some (natural_data (reason_number reason))) ∷ [])
 
--- members in byte order, names ascending by bytes, no space
+-- the text by which two versions of one moment are ordered: members in byte order, names ascending by bytes, no space
 unfoldable pub canonical_text : Body → List ℕ
 canonical_text b = compact_text (body_data b)

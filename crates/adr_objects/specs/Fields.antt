@@ -7,15 +7,19 @@ use Rattle.adr_text.specs.declared.fault.Fault.{Fault}
 use Rattle.adr_objects.specs.declared.interval.Period.{Period}
 use Rattle.adr_objects.specs.Limits.{text_within, setpoint_at, priority_at}
 
+-- a text of at most so many bytes, else the wrong shape
 unfoldable pub text_in : ℕ → Data → Result (List ℕ) Fault
 text_in most d = text_of d >>= text_within most
 
+-- a whole number from 0 to 2^31 - 1, or its fault
 unfoldable pub priority_in : Data → Result ℕ Fault
 priority_in d = whole_from (whole_of d) >>= priority_at
 
+-- a whole number of a magnitude of at most 10^12, or its fault
 unfoldable pub setpoint_in : Data → Result ℤ Fault
 setpoint_in d = whole_from (whole_of d) >>= setpoint_at
 
+-- a start, and a duration and a randomized start that may be absent, each a text of at most 64 bytes
 unfoldable pub period_in : Data → Result Period Fault
 period_in d = do
   start ← required (member_of (codes "start") d) (text_in 64)

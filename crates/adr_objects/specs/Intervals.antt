@@ -14,9 +14,10 @@ abbrev pub differ_after : {A : Type 0} → (A → ℤ) → List A → List A →
 differ_after id_of before [] = true
 differ_after id_of before (x ∷ xs) = not (has_id id_of (id_of x) before) && differ_after id_of (before ++ x ∷ []) xs
 
+-- no two of them have one id
 abbrev pub differ : {A : Type 0} → (A → ℤ) → List A → Bool
 differ id_of items = differ_after id_of [] items
 
--- all of them, of which no two have one id
+-- all of them, of which no two have one id, else the fault of a repeated id
 abbrev pub apart : {A : Type 0} → (A → ℤ) → List A → Result (List A) Fault
 apart id_of items = if differ id_of items then Ok items else Err Repeated

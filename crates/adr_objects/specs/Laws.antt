@@ -12,10 +12,10 @@ use Rattle.adr_objects.specs.Bodies.{IsBody}
 abbrev pub FractionsAreRefused : Type 0
 FractionsAreRefused = (x : Float) → setpoint_in (number (float x)) ≡ Err Fraction
 
--- the canonical text of a body reads back as that body
+-- the canonical text of each body that the types admit reads back as that body
 abbrev pub CanonicalTextsReadBack : Type 0
 CanonicalTextsReadBack = (b : Body) → IsBody b → canonical_of (canonical_text b) ≡ Ok b
 
--- two bodies of one canonical text are one
+-- two bodies that the types admit, of one canonical text, are one
 abbrev pub CanonicalTextsDiffer : Type 0
 CanonicalTextsDiffer = (a b : Body) → IsBody a → IsBody b → canonical_text a ≡ canonical_text b → a ≡ b

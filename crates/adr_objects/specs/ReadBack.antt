@@ -30,6 +30,7 @@ reason_at (pos n) =
     else Err fault.OutOfRange))))
 reason_at (negsuc n) = Err fault.OutOfRange
 
+-- the reason whose number a value is, from 1 to 5, or the fault
 unfoldable pub reason_in : Data → Result Reason Fault
 reason_in d = whole_from (whole_of d) >>= reason_at
 
@@ -69,6 +70,7 @@ body_from None (Some reason) None = reason_in reason >>= λ r. Ok (Opaque r)
 body_from None None (Some name) = name_in name >>= λ n. Ok (Program n)
 body_from event reason name = Err fault.BadShape
 
+-- the body that a value is, which has exactly one of `event`, `opaque` and `program`, or the fault
 unfoldable pub canonical_in : Data → Result Body Fault
 canonical_in d = body_from (member_of (codes "event") d) (member_of (codes "opaque") d) (member_of (codes "program") d)
 
@@ -85,6 +87,6 @@ abbrev pub as_bad_shape : {A : Type 0} → Result A Fault → Result A Refusal
 as_bad_shape (Ok x) = Ok x
 as_bad_shape (Err e) = Err refusal.BadShape
 
--- the body whose canonical text it is
+-- the body whose canonical text it is, and 14 for a text that is read as none
 unfoldable pub canonical_of : List ℕ → Result Body Refusal
 canonical_of text = as_bad_shape (body_of_text text)

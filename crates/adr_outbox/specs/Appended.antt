@@ -16,7 +16,8 @@ use Rattle.adr_db.specs.Bases.{counting}
 use Rattle.adr_db.specs.Images.{outbox_of}
 use Rattle.adr_outbox.specs.Turned.{with_outbox}
 
--- where there are numbers and room for all of them, each is appended at the number that is drawn next; with the serial then
+-- where there are numbers and room for all of them, each is appended at the number that is drawn next; with the
+-- serial then; else 4 for want of numbers, and then 3 for want of room
 abbrev pub further : Limits → ℕ → List Entry → Outbox → Result (Outbox × ℕ) Refusal
 further limits serial entries o = check_room limits.serial limits.pending serial (length o.entries) (length entries) >>= λ _. Ok (with_further serial entries o)
 

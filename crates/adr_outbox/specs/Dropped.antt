@@ -28,6 +28,6 @@ pub record IsDropped (before after : Meta) (kept : Kept) (s : State) : Type 0 wh
   pub keeps : Keeps (with_outbox (without_lost before kept) kept) s
   pub counted : after ≡ counting (without_lost before kept) before
 
--- after Ok it is so of what the tables kept, where the caller's numbers said how many entries wait
+-- after Ok the tables keep that outbox, and the caller's numbers count it, where they said how many entries wait
 abbrev pub DropsLost : {S T E : Type 0} → Ghosts S → Held S → Held S → Meta → Meta → Result T E → Type 0
 DropsLost g old new before after result = HasCleanDisk (state g new) → OnOk result ((kept : Kept) → Keeps kept (state g old) → before.pending ≡ length kept.entries → IsDropped before after kept (state g new))

@@ -12,9 +12,10 @@ use Rattle.adr_db.specs.Kept.{Kept, with_waiting, without_waiting}
 abbrev pub after_failed : ℕ → ℕ → Entry → Kept → Kept
 after_failed now n e kept = option_map_or (λ d. with_waiting n (with_delivery d e) kept) (after_failure now e.delivery) (without_waiting n kept)
 
--- one that leaves counts as given up
+-- one that leaves counts as given up, and one entry fewer waits
 abbrev pub given_up : Meta → Meta
 given_up numbers = record numbers { counts = record numbers.counts { given_up = plus numbers.counts.given_up 1 }; pending = numbers.pending - 1 }
 
+-- the numbers after a failure: an entry that leaves counts as given up, and one that waits on changes nothing
 abbrev pub counted_failed : ℕ → Entry → Meta → Meta
 counted_failed now e numbers = if is_some (after_failure now e.delivery) then numbers else given_up numbers

@@ -23,7 +23,8 @@ pub record IsTurned {T : Type 0} (decide : Outbox → Result (T × Outbox) Refus
   pub counted : after ≡ counting outbox before
 
 module _ {S : Type 0} (g : Ghosts S) (old new : Held S) where
-  -- after Ok, what is decided of the outbox is carried out, where the caller's numbers said how many entries wait
+  -- after Ok, what is decided of the outbox is carried out and answered, and the caller's numbers count it, where
+  -- they said how many entries wait
   abbrev pub TurnsOutbox : {T E : Type 0} → (Outbox → Result (T × Outbox) Refusal) → Meta → Meta → Result T E → Type 0
   TurnsOutbox decide before after result =
       HasCleanDisk (state g new) → IfOk result (λ x. (kept : Kept) → Keeps kept (state g old) → before.pending ≡ length kept.entries → IsTurned decide before after kept x (state g new))

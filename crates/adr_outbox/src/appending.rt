@@ -6,7 +6,7 @@ ghost use Rattle.adr_text.specs.declared.refusal.Refusal.TheVariants.{Exhausted,
 ghost use Rattle.adr_delivery.specs.Outboxes.{with_entries};
 ghost use Rattle.adr_state.specs.Digits.{most_number};
 ghost use Rattle.adr_notices.specs.Committed.{numbered};
-ghost use Rattle.adr_sql.specs.Calls.{Stays};
+ghost use Rattle.adr_sql.specs.Calls.{LeavesLent};
 ghost use Rattle.adr_db.specs.Kept.{with_waiting};
 ghost use Rattle.adr_db.specs.Calls.{Turns, IsOfStore};
 ghost use Rattle.adr_outbox.specs.Turned.{RefusesOutbox};
@@ -48,8 +48,7 @@ fn append_one<S: Alter>(
 ) -> Result<(), Refusal>
     requires drawn { meta.old.serial + 1 ≤ most_number }
     requires few { meta.old.pending + 1 < 2 ^ 64 }
-    ensures same_reference { tx.new.conn.ghost_name ≡ tx.old.conn.ghost_name }
-    ensures stays { Stays S.Store tx.old.conn.now tx.new.conn.now result }
+    ensures lent { LeavesLent S.Store tx.old.conn tx.new.conn result }
     ensures turns { Turns S.Store tx.old.conn.now tx.new.conn.now (with_waiting (meta.old.serial + 1) entry.now) (λ kept _. meta.old.pending ≡ length kept.entries → meta.new ≡ with_drawn 1 (length (insert_entry nat_cmp kept.entries (meta.old.serial + 1) entry.now)) meta.old) result }
     ensures drawn { OnOk result (meta.new.serial ≡ meta.old.serial + 1) }
     ensures few { OnOk result (meta.new.pending ≤ meta.old.pending + 1) }
@@ -73,8 +72,7 @@ fn append_each<S: Alter>(
 ) -> Result<(), Refusal>
     requires drawn { meta.old.serial + length entries.now ≤ most_number }
     requires few { meta.old.pending + length entries.now < 2 ^ 64 }
-    ensures same_reference { tx.new.conn.ghost_name ≡ tx.old.conn.ghost_name }
-    ensures stays { Stays S.Store tx.old.conn.now tx.new.conn.now result }
+    ensures lent { LeavesLent S.Store tx.old.conn tx.new.conn result }
     ensures turns { Turns S.Store tx.old.conn.now tx.new.conn.now (λ kept. record kept { entries = with_entries (numbered meta.old.serial entries.now) kept.entries }) (λ kept _. meta.old.pending ≡ length kept.entries → meta.new ≡ with_drawn (length entries.now) (length (with_entries (numbered meta.old.serial entries.now) kept.entries)) meta.old) result }
     ensures refused { IfErr result IsOfStore }
 {
@@ -94,8 +92,7 @@ pub fn append<S: Alter>(
     meta: &mut Meta,
     entries: &[Entry],
 ) -> Result<(), Refusal>
-    ensures same_reference { tx.new.conn.ghost_name ≡ tx.old.conn.ghost_name }
-    ensures stays { Stays S.Store tx.old.conn.now tx.new.conn.now result }
+    ensures lent { LeavesLent S.Store tx.old.conn tx.new.conn result }
     ensures appends { Appends S.Store tx.old.conn.now tx.new.conn.now limits.now entries.now meta.old meta.new result }
     ensures refuses { RefusesOutbox S.Store tx.old.conn.now tx.new.conn.now (further limits.now meta.old.serial entries.now) meta.old result }
     ensures refused { IfErr result (λ refusal. IsOfStore refusal ⊎ ((refusal ≡ Exhausted) ⊎ (refusal ≡ OutboxFull))) }

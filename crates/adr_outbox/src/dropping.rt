@@ -1,6 +1,6 @@
 //! The entries of subscriptions that are not there are dropped.
-ghost use Rattle.std.specs.Prelude.{◌≡◌, IfErr};
-ghost use Rattle.adr_sql.specs.Calls.{Stays};
+ghost use Rattle.std.specs.Prelude.{IfErr};
+ghost use Rattle.adr_sql.specs.Calls.{LeavesLent};
 ghost use Rattle.adr_db.specs.Calls.{LeavesKept, IsOfStore};
 ghost use Rattle.adr_outbox.specs.Dropped.{without_entries, DropsLost};
 
@@ -13,8 +13,7 @@ use std::alloc::Global;
 
 // The entries of these numbers go, one after another.
 fn remove_each<S: Alter>(tx: &mut Transaction<'_, S>, numbers: Rows<Number>) -> Result<(), Refusal>
-    ensures same_reference { tx.new.conn.ghost_name ≡ tx.old.conn.ghost_name }
-    ensures stays { Stays S.Store tx.old.conn.now tx.new.conn.now result }
+    ensures lent { LeavesLent S.Store tx.old.conn tx.new.conn result }
     ensures leaves { LeavesKept S.Store tx.old.conn.now tx.new.conn.now (λ kept. record kept { entries = without_entries numbers kept.entries }) result }
     ensures refused { IfErr result IsOfStore }
 {
@@ -31,8 +30,7 @@ pub fn drop_lost<S: Alter>(
     tx: &mut Transaction<'_, S>,
     meta: &mut Meta,
 ) -> Result<(), Refusal>
-    ensures same_reference { tx.new.conn.ghost_name ≡ tx.old.conn.ghost_name }
-    ensures stays { Stays S.Store tx.old.conn.now tx.new.conn.now result }
+    ensures lent { LeavesLent S.Store tx.old.conn tx.new.conn result }
     ensures drops { DropsLost S.Store tx.old.conn.now tx.new.conn.now meta.old meta.new result }
     ensures refused { IfErr result IsOfStore }
 {

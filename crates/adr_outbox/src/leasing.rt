@@ -5,7 +5,7 @@ ghost use Rattle.adr_text.specs.declared.refusal.Refusal.TheVariants.{Exhausted}
 ghost use Rattle.adr_text.specs.Refusals.{IsRefusalOf};
 ghost use Rattle.adr_delivery.specs.Deliveries.{leased};
 ghost use Rattle.adr_delivery.specs.Outboxes.{remote_for};
-ghost use Rattle.adr_sql.specs.Calls.{Stays};
+ghost use Rattle.adr_sql.specs.Calls.{LeavesLent};
 ghost use Rattle.adr_db.specs.declared.meta.Meta.{Meta as MetaOf};
 ghost use Rattle.adr_db.specs.Images.{outbox_of};
 ghost use Rattle.adr_db.specs.Calls.{Finds, IsOfStore};
@@ -26,8 +26,7 @@ fn remote_for<S: Alter>(
     tx: &mut Transaction<'_, S>,
     addressee: &Addressee,
 ) -> Result<Option<ObjectId>, Refusal>
-    ensures same_reference { tx.new.conn.ghost_name ≡ tx.old.conn.ghost_name }
-    ensures stays { Stays S.Store tx.old.conn.now tx.new.conn.now result }
+    ensures lent { LeavesLent S.Store tx.old.conn tx.new.conn result }
     ensures finds { Finds S.Store tx.old.conn.now tx.new.conn.now (λ kept found. (numbers : MetaOf) → found ≡ remote_for addressee.now (outbox_of numbers kept)) result }
     ensures refused { IfErr result IsOfStore }
 {
@@ -46,8 +45,7 @@ fn lease_entry<S: Alter>(
     number: Number,
     entry: &Entry,
 ) -> Result<Job, Refusal>
-    ensures same_reference { tx.new.conn.ghost_name ≡ tx.old.conn.ghost_name }
-    ensures stays { Stays S.Store tx.old.conn.now tx.new.conn.now result }
+    ensures lent { LeavesLent S.Store tx.old.conn tx.new.conn result }
     ensures leases { LeasesEntry S.Store tx.old.conn.now tx.new.conn.now most now number entry.now result }
     ensures refuses { IfErr result (λ refusal. IsRefusalOf refusal (leased most now entry.now.delivery)) }
     ensures refused { IfErr result (λ refusal. IsOfStore refusal ⊎ (refusal ≡ Exhausted)) }
@@ -66,8 +64,7 @@ pub fn lease<S: Alter>(
     most: u64,
     now: Moment,
 ) -> Result<Option<Job>, Refusal>
-    ensures same_reference { tx.new.conn.ghost_name ≡ tx.old.conn.ghost_name }
-    ensures stays { Stays S.Store tx.old.conn.now tx.new.conn.now result }
+    ensures lent { LeavesLent S.Store tx.old.conn tx.new.conn result }
     ensures turns { (numbers : MetaOf) → TurnsOutbox S.Store tx.old.conn.now tx.new.conn.now (job_leased most now) numbers numbers result }
     ensures refuses { (numbers : MetaOf) → RefusesOutbox S.Store tx.old.conn.now tx.new.conn.now (job_leased most now) numbers result }
     ensures refused { IfErr result (λ refusal. IsOfStore refusal ⊎ (refusal ≡ Exhausted)) }

@@ -3,7 +3,7 @@ ghost use Rattle.std.specs.Prelude.{◌≡◌, ◌⊎◌, Ok, IfErr, OnOk};
 ghost use Rattle.std.specs.Option.{option_copied};
 ghost use Rattle.adr_text.specs.declared.refusal.Refusal.TheVariants.{LeaseLost};
 ghost use Rattle.adr_delivery.specs.Outboxes.{entry_leased, with_remote, without_remote, sent, failed};
-ghost use Rattle.adr_sql.specs.Calls.{Stays};
+ghost use Rattle.adr_sql.specs.Calls.{LeavesLent};
 ghost use Rattle.adr_db.specs.Calls.{Finds, LeavesKept, IsOfStore};
 ghost use Rattle.adr_db.specs.BaseCalls.{Refuses};
 ghost use Rattle.adr_outbox.specs.Turned.{TurnsOutbox, RefusesOutbox};
@@ -25,8 +25,7 @@ fn entry_leased<S: Alter>(
     number: Number,
     lease: u64,
 ) -> Result<Entry, Refusal>
-    ensures same_reference { tx.new.conn.ghost_name ≡ tx.old.conn.ghost_name }
-    ensures stays { Stays S.Store tx.old.conn.now tx.new.conn.now result }
+    ensures lent { LeavesLent S.Store tx.old.conn tx.new.conn result }
     ensures finds { Finds S.Store tx.old.conn.now tx.new.conn.now (λ kept entry. entry_leased number lease kept.entries ≡ Ok entry) result }
     ensures refuses { Refuses S.Store tx.old.conn.now tx.new.conn.now (λ kept. entry_leased number lease kept.entries) result }
     ensures refused { IfErr result (λ refusal. IsOfStore refusal ⊎ (refusal ≡ LeaseLost)) }
@@ -46,8 +45,7 @@ fn note_remote<S: Alter>(
     addressee: &Addressee,
     remote: Option<&ObjectId>,
 ) -> Result<(), Refusal>
-    ensures same_reference { tx.new.conn.ghost_name ≡ tx.old.conn.ghost_name }
-    ensures stays { Stays S.Store tx.old.conn.now tx.new.conn.now result }
+    ensures lent { LeavesLent S.Store tx.old.conn tx.new.conn result }
     ensures leaves { LeavesKept S.Store tx.old.conn.now tx.new.conn.now (λ kept. record kept { remotes = with_remote addressee.now (option_copied remote.entry) kept.remotes }) result }
     ensures refused { IfErr result IsOfStore }
 {
@@ -63,8 +61,7 @@ fn forget_remote<S: Alter>(
     addressee: &Addressee,
     forget: bool,
 ) -> Result<(), Refusal>
-    ensures same_reference { tx.new.conn.ghost_name ≡ tx.old.conn.ghost_name }
-    ensures stays { Stays S.Store tx.old.conn.now tx.new.conn.now result }
+    ensures lent { LeavesLent S.Store tx.old.conn tx.new.conn result }
     ensures leaves { LeavesKept S.Store tx.old.conn.now tx.new.conn.now (λ kept. record kept { remotes = without_remote addressee.now forget kept.remotes }) result }
     ensures refused { IfErr result IsOfStore }
 {
@@ -85,8 +82,7 @@ pub fn sent<S: Alter>(
     lease: u64,
     remote: Option<&ObjectId>,
 ) -> Result<(), Refusal>
-    ensures same_reference { tx.new.conn.ghost_name ≡ tx.old.conn.ghost_name }
-    ensures stays { Stays S.Store tx.old.conn.now tx.new.conn.now result }
+    ensures lent { LeavesLent S.Store tx.old.conn tx.new.conn result }
     ensures turns { TurnsOutbox S.Store tx.old.conn.now tx.new.conn.now (λ o. done (sent number lease (option_copied remote.entry) o)) meta.old meta.new result }
     ensures refuses { RefusesOutbox S.Store tx.old.conn.now tx.new.conn.now (sent number lease (option_copied remote.entry)) meta.old result }
     ensures refused { IfErr result (λ refusal. IsOfStore refusal ⊎ (refusal ≡ LeaseLost)) }
@@ -107,8 +103,7 @@ fn after_failure<S: Alter>(
     number: Number,
     entry: &Entry,
 ) -> Result<(), Refusal>
-    ensures same_reference { tx.new.conn.ghost_name ≡ tx.old.conn.ghost_name }
-    ensures stays { Stays S.Store tx.old.conn.now tx.new.conn.now result }
+    ensures lent { LeavesLent S.Store tx.old.conn tx.new.conn result }
     ensures leaves { LeavesKept S.Store tx.old.conn.now tx.new.conn.now (after_failed now number entry.now) result }
     ensures counted { OnOk result (meta.new ≡ counted_failed now entry.now meta.old) }
     ensures refused { IfErr result IsOfStore }
@@ -135,8 +130,7 @@ pub fn failed<S: Alter>(
     lease: u64,
     forget: bool,
 ) -> Result<(), Refusal>
-    ensures same_reference { tx.new.conn.ghost_name ≡ tx.old.conn.ghost_name }
-    ensures stays { Stays S.Store tx.old.conn.now tx.new.conn.now result }
+    ensures lent { LeavesLent S.Store tx.old.conn tx.new.conn result }
     ensures turns { TurnsOutbox S.Store tx.old.conn.now tx.new.conn.now (λ o. done (failed now number lease forget o)) meta.old meta.new result }
     ensures refuses { RefusesOutbox S.Store tx.old.conn.now tx.new.conn.now (failed now number lease forget) meta.old result }
     ensures refused { IfErr result (λ refusal. IsOfStore refusal ⊎ (refusal ≡ LeaseLost)) }

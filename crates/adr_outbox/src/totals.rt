@@ -1,6 +1,6 @@
 //! How many entries there were, and what became of them.
-ghost use Rattle.std.specs.Prelude.{◌≡◌, IfErr};
-ghost use Rattle.adr_sql.specs.Calls.{Stays};
+ghost use Rattle.std.specs.Prelude.{IfErr};
+ghost use Rattle.adr_sql.specs.Calls.{LeavesLent};
 ghost use Rattle.adr_db.specs.Calls.{Finds, IsOfStore};
 ghost use Rattle.adr_outbox.specs.Told.{AreItsCounts};
 
@@ -12,8 +12,7 @@ use sqlite::{Alter, Transaction};
 /// How many entries were made, sent, given up and dropped, and how many wait. None of them is counted anew: the node keeps
 /// their numbers.
 pub fn counts<S: Alter>(tx: &mut Transaction<'_, S>) -> Result<OutboxCounts, Refusal>
-    ensures same_reference { tx.new.conn.ghost_name ≡ tx.old.conn.ghost_name }
-    ensures stays { Stays S.Store tx.old.conn.now tx.new.conn.now result }
+    ensures lent { LeavesLent S.Store tx.old.conn tx.new.conn result }
     ensures finds { Finds S.Store tx.old.conn.now tx.new.conn.now AreItsCounts result }
     ensures refused { IfErr result IsOfStore }
 {

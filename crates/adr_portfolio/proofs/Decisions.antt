@@ -5,12 +5,6 @@ use Rattle.adr_db.proofs.Common.{list_any, nat_cmp, IsRefusalOf, Refusal, OutOfM
 use Rattle.adr_text.specs.Refusals.{◌>>=◌}
 use Rattle.adr_portfolio.proofs.NameLemmas.{taken_is, another_is}
 
--- the refusal that it is
-pub refused_so : {A : Type 0} (e : Refusal) (r : Result A Refusal) → r ≡ Err e → IsRefusalOf e r
-refused_so OutOfMemory r is = tt
-refused_so Store r is = tt
-refused_so _ r is = is
-
 -- what is made is made behind the tests, or is refused by them
 module _ {A : Type 0} (made : A) where
   new_made : (taken full : Bool) → if_new taken full made ≡ (if_new {A = Unit {0}} taken full tt >>= λ u. Ok made)

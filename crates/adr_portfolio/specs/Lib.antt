@@ -1,4 +1,3 @@
 pub mod Found
 pub mod Weights
 pub mod Parts
-pub mod Refusals

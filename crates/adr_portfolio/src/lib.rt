@@ -7,7 +7,7 @@ mod resource;
 mod share;
 mod ven;
 
-pub use participant::{named_participants, participants};
+pub use participant::participants;
 pub use resource::{resource_add, resource_put, resource_remove};
 pub use share::share_set;
 pub use ven::{ven_add, ven_put, ven_remove};

@@ -3,10 +3,9 @@ ghost use Rattle.std.specs.Prelude.{◌≡◌, ◌==◌, ◌&&◌, Some, IfOk, I
 ghost use Rattle.adr_text.specs.declared.refusal.Refusal.TheVariants.{NotFound, Conflict, LimitReached};
 ghost use Rattle.adr_state.specs.Stamping.{modified_at};
 ghost use Rattle.adr_state.specs.Resources.{resource_under, resource_object, resource_add, resource_put, resource_remove};
-ghost use Rattle.adr_sql.specs.Calls.{Stays};
-ghost use Rattle.adr_db.specs.Calls.{Finds, IsOfStore};
+ghost use Rattle.adr_sql.specs.Calls.{LeavesLent};
+ghost use Rattle.adr_db.specs.Calls.{Finds, IsOfStore, IsOneOf};
 ghost use Rattle.adr_db.specs.BaseCalls.{Carries, Refuses};
-ghost use Rattle.adr_portfolio.specs.Refusals.{IsOneOf};
 ghost use Rattle.adr_portfolio.specs.Found.{found_under};
 
 use crate::names::is_another_there;
@@ -47,8 +46,7 @@ pub fn resource_add<S: Alter>(
     ven: &ObjectId,
     name: &ResourceName,
 ) -> Result<ResourceObject, Refusal>
-    ensures same_reference { tx.new.conn.ghost_name ≡ tx.old.conn.ghost_name }
-    ensures stays { Stays S.Store tx.old.conn.now tx.new.conn.now result }
+    ensures lent { LeavesLent S.Store tx.old.conn tx.new.conn result }
     ensures carries { Carries S.Store tx.old.conn.now tx.new.conn.now (resource_add limits.now now number ven.now name.now) result }
     ensures refuses { Refuses S.Store tx.old.conn.now tx.new.conn.now (λ kept. resource_add limits.now now number ven.now name.now kept.portfolio) result }
     ensures refused { IfErr result (IsOneOf (NotFound ∷ Conflict ∷ LimitReached ∷ [])) }
@@ -78,8 +76,7 @@ fn read_under<S: Alter>(
     ven: &ObjectId,
     id: &ObjectId,
 ) -> Result<Option<(Number, Resource)>, Refusal>
-    ensures same_reference { tx.new.conn.ghost_name ≡ tx.old.conn.ghost_name }
-    ensures stays { Stays S.Store tx.old.conn.now tx.new.conn.now result }
+    ensures lent { LeavesLent S.Store tx.old.conn tx.new.conn result }
     ensures finds { Finds S.Store tx.old.conn.now tx.new.conn.now (λ kept found. found ≡ resource_under ven.now id.now kept.portfolio) result }
     ensures refused { IfErr result IsOfStore }
 {
@@ -131,8 +128,7 @@ pub fn resource_put<S: Alter>(
     id: &ObjectId,
     name: &ResourceName,
 ) -> Result<ResourceObject, Refusal>
-    ensures same_reference { tx.new.conn.ghost_name ≡ tx.old.conn.ghost_name }
-    ensures stays { Stays S.Store tx.old.conn.now tx.new.conn.now result }
+    ensures lent { LeavesLent S.Store tx.old.conn tx.new.conn result }
     ensures carries { Carries S.Store tx.old.conn.now tx.new.conn.now (resource_put now ven.now id.now name.now) result }
     ensures refuses { Refuses S.Store tx.old.conn.now tx.new.conn.now (λ kept. resource_put now ven.now id.now name.now kept.portfolio) result }
     ensures refused { IfErr result (IsOneOf (NotFound ∷ Conflict ∷ [])) }
@@ -156,8 +152,7 @@ pub fn resource_remove<S: Alter>(
     ven: &ObjectId,
     id: &ObjectId,
 ) -> Result<ResourceObject, Refusal>
-    ensures same_reference { tx.new.conn.ghost_name ≡ tx.old.conn.ghost_name }
-    ensures stays { Stays S.Store tx.old.conn.now tx.new.conn.now result }
+    ensures lent { LeavesLent S.Store tx.old.conn tx.new.conn result }
     ensures carries { Carries S.Store tx.old.conn.now tx.new.conn.now (resource_remove ven.now id.now) result }
     ensures refuses { Refuses S.Store tx.old.conn.now tx.new.conn.now (λ kept. resource_remove ven.now id.now kept.portfolio) result }
     ensures refused { IfErr result (IsOneOf (NotFound ∷ [])) }

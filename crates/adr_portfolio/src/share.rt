@@ -3,10 +3,9 @@ ghost use Rattle.std.specs.Prelude.{◌≡◌, ◌≤◌, IfOk, [], ◌∷◌, I
 ghost use Rattle.adr_text.specs.declared.refusal.Refusal.TheVariants.{NotFound, BadShare, LimitReached};
 ghost use Rattle.adr_state.specs.Weights.{most_weight};
 ghost use Rattle.adr_state.specs.Shares.{is_beyond, weight_set, share_of, share_set};
-ghost use Rattle.adr_sql.specs.Calls.{Stays};
-ghost use Rattle.adr_db.specs.Calls.{Finds, IsOfStore};
+ghost use Rattle.adr_sql.specs.Calls.{LeavesLent};
+ghost use Rattle.adr_db.specs.Calls.{Finds, IsOfStore, IsOneOf};
 ghost use Rattle.adr_db.specs.BaseCalls.{Carries, Refuses};
-ghost use Rattle.adr_portfolio.specs.Refusals.{IsOneOf};
 ghost use Rattle.adr_portfolio.specs.Weights.{Sets};
 
 use adr_db_portfolio::{count_shares, put_share, read_resource, read_share, remove_share};
@@ -22,8 +21,7 @@ fn is_beyond<S: Alter>(
     limits: &Limits,
     key: &ShareKey,
 ) -> Result<bool, Refusal>
-    ensures same_reference { tx.new.conn.ghost_name ≡ tx.old.conn.ghost_name }
-    ensures stays { Stays S.Store tx.old.conn.now tx.new.conn.now result }
+    ensures lent { LeavesLent S.Store tx.old.conn tx.new.conn result }
     ensures finds { Finds S.Store tx.old.conn.now tx.new.conn.now (λ kept beyond. beyond ≡ is_beyond limits.now key.now kept.portfolio.shares) result }
     ensures refused { IfErr result IsOfStore }
 {
@@ -54,8 +52,7 @@ fn set_weight<S: Alter>(
     share: u32,
 ) -> Result<(), Refusal>
     requires { share ≤ most_weight }
-    ensures same_reference { tx.new.conn.ghost_name ≡ tx.old.conn.ghost_name }
-    ensures stays { Stays S.Store tx.old.conn.now tx.new.conn.now result }
+    ensures lent { LeavesLent S.Store tx.old.conn tx.new.conn result }
     ensures sets { Sets S.Store tx.old.conn.now tx.new.conn.now (weight_set limits.now key.now share) result }
     ensures refuses { Refuses S.Store tx.old.conn.now tx.new.conn.now (λ kept. weight_set limits.now key.now share kept.portfolio) result }
     ensures refused { IfErr result (IsOneOf (LimitReached ∷ [])) }
@@ -77,8 +74,7 @@ fn set_of<S: Alter>(
     key: ShareKey,
     share: u32,
 ) -> Result<ShareObject, Refusal>
-    ensures same_reference { tx.new.conn.ghost_name ≡ tx.old.conn.ghost_name }
-    ensures stays { Stays S.Store tx.old.conn.now tx.new.conn.now result }
+    ensures lent { LeavesLent S.Store tx.old.conn tx.new.conn result }
     ensures carries { Carries S.Store tx.old.conn.now tx.new.conn.now (share_of limits.now key share) result }
     ensures refuses { Refuses S.Store tx.old.conn.now tx.new.conn.now (λ kept. share_of limits.now key share kept.portfolio) result }
     ensures refused { IfErr result (IsOneOf (BadShare ∷ LimitReached ∷ [])) }
@@ -104,8 +100,7 @@ pub fn share_set<S: Alter>(
     resource: &ObjectId,
     share: u32,
 ) -> Result<ShareObject, Refusal>
-    ensures same_reference { tx.new.conn.ghost_name ≡ tx.old.conn.ghost_name }
-    ensures stays { Stays S.Store tx.old.conn.now tx.new.conn.now result }
+    ensures lent { LeavesLent S.Store tx.old.conn tx.new.conn result }
     ensures carries { Carries S.Store tx.old.conn.now tx.new.conn.now (share_set limits.now program.now resource.now share) result }
     ensures refuses { Refuses S.Store tx.old.conn.now tx.new.conn.now (λ kept. share_set limits.now program.now resource.now share kept.portfolio) result }
     ensures refused { IfErr result (IsOneOf (NotFound ∷ BadShare ∷ LimitReached ∷ [])) }

@@ -2,9 +2,9 @@
 ghost use Rattle.std.specs.Prelude.{◌≡◌, [], ◌∷◌, IfErr};
 ghost use Rattle.adr_text.specs.declared.refusal.Refusal.TheVariants.{NotFound, Conflict, LimitReached};
 ghost use Rattle.adr_state.specs.Vens.{ven_object, ven_add, ven_put, ven_remove};
-ghost use Rattle.adr_sql.specs.Calls.{Stays};
+ghost use Rattle.adr_sql.specs.Calls.{LeavesLent};
 ghost use Rattle.adr_db.specs.BaseCalls.{Carries, Refuses};
-ghost use Rattle.adr_portfolio.specs.Refusals.{IsOneOf};
+ghost use Rattle.adr_db.specs.Calls.{IsOneOf};
 
 use crate::names::is_another_there;
 use adr_db_portfolio::{count_vens, put_ven, read_ven, read_vens_named, remove_ven};
@@ -34,8 +34,7 @@ pub fn ven_add<S: Alter>(
     number: Number,
     name: &Name,
 ) -> Result<VenObject, Refusal>
-    ensures same_reference { tx.new.conn.ghost_name ≡ tx.old.conn.ghost_name }
-    ensures stays { Stays S.Store tx.old.conn.now tx.new.conn.now result }
+    ensures lent { LeavesLent S.Store tx.old.conn tx.new.conn result }
     ensures carries { Carries S.Store tx.old.conn.now tx.new.conn.now (ven_add limits.now now number name.now) result }
     ensures refuses { Refuses S.Store tx.old.conn.now tx.new.conn.now (λ kept. ven_add limits.now now number name.now kept.portfolio) result }
     ensures refused { IfErr result (IsOneOf (Conflict ∷ LimitReached ∷ [])) }
@@ -60,8 +59,7 @@ pub fn ven_put<S: Alter>(
     id: &ObjectId,
     name: &Name,
 ) -> Result<VenObject, Refusal>
-    ensures same_reference { tx.new.conn.ghost_name ≡ tx.old.conn.ghost_name }
-    ensures stays { Stays S.Store tx.old.conn.now tx.new.conn.now result }
+    ensures lent { LeavesLent S.Store tx.old.conn tx.new.conn result }
     ensures carries { Carries S.Store tx.old.conn.now tx.new.conn.now (ven_put now id.now name.now) result }
     ensures refuses { Refuses S.Store tx.old.conn.now tx.new.conn.now (λ kept. ven_put now id.now name.now kept.portfolio) result }
     ensures refused { IfErr result (IsOneOf (NotFound ∷ Conflict ∷ [])) }
@@ -89,8 +87,7 @@ pub fn ven_remove<S: Alter>(
     tx: &mut Transaction<'_, S>,
     id: &ObjectId,
 ) -> Result<VenObject, Refusal>
-    ensures same_reference { tx.new.conn.ghost_name ≡ tx.old.conn.ghost_name }
-    ensures stays { Stays S.Store tx.old.conn.now tx.new.conn.now result }
+    ensures lent { LeavesLent S.Store tx.old.conn tx.new.conn result }
     ensures carries { Carries S.Store tx.old.conn.now tx.new.conn.now (ven_remove id.now) result }
     ensures refuses { Refuses S.Store tx.old.conn.now tx.new.conn.now (λ kept. ven_remove id.now kept.portfolio) result }
     ensures refused { IfErr result (IsOneOf (NotFound ∷ [])) }

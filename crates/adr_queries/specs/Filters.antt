@@ -11,6 +11,7 @@ use Rattle.adr_queries.specs.declared.filter.ReportFilter.{ReportFilter}
 use Rattle.adr_queries.specs.declared.filter.TargetFilter.{TargetFilter}
 use Rattle.adr_queries.specs.declared.filter.TargetFilter.TheVariants.{Any, VenName, ResourceName, Other}
 
+-- the text is one of these, byte by byte
 abbrev pub is_among : List (List ℕ) → List ℕ → Bool
 is_among texts text = list_any (λ t. bytes_eq t text) texts
 
@@ -26,19 +27,21 @@ has_target (VenName names) event = is_among names event.ven_name
 has_target (ResourceName names) event = is_among names event.resource_name
 has_target Other event = false
 
--- whether an object is an event of the programs and of the target that are wanted
+-- whether an object is an event of the programs and of the target that are wanted, where any are asked for
 abbrev pub is_wanted : EventFilter → Object → Bool
 is_wanted f (object.Event e) = is_among_all f.programs e.shown.program && has_target f.target e.shown
 is_wanted f _ = false
 
+-- the events among objects that are wanted, in their order
 abbrev pub wanted_of : EventFilter → List Object → List Object
 wanted_of f objects = filter (is_wanted f) objects
 
--- whether an object is a report of the programs and of the clients that are wanted
+-- whether an object is a report of the programs and of the clients that are wanted, where any are asked for
 abbrev pub is_wanted_report : ReportFilter → Object → Bool
 is_wanted_report f (object.Report r) = is_among_all f.programs r.body.head.program && is_among_all f.clients r.body.head.client
 is_wanted_report f _ = false
 
+-- the reports among objects that are wanted, in their order
 abbrev pub wanted_reports : ReportFilter → List Object → List Object
 wanted_reports f objects = filter (is_wanted_report f) objects
 
@@ -47,10 +50,12 @@ abbrev pub is_about : Option (List (List ℕ)) → Option (List ℕ) → Bool
 is_about None program = true
 is_about (Some programs) program = option_map_or (is_among programs) program false
 
--- whether an object is a subscription that names one of the programs, and of the clients that are wanted
+-- whether an object is a subscription that names one of the programs, and of the clients, that are asked for, where
+-- any are
 abbrev pub is_wanted_sub : ReportFilter → Object → Bool
 is_wanted_sub f (object.Sub s) = is_about f.programs s.sub.program && is_among_all f.clients s.sub.client_name
 is_wanted_sub f _ = false
 
+-- the subscriptions among objects that are wanted, in their order
 abbrev pub wanted_subs : ReportFilter → List Object → List Object
 wanted_subs f objects = filter (is_wanted_sub f) objects

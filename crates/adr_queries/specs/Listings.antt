@@ -30,6 +30,7 @@ page_of page objects = take page.limit (drop page.skip objects)
 abbrev pub vens_in_sight : Base → Sight → List Object
 vens_in_sight base sight = map (λ v. object.Ven (ven_object v)) (filter (λ v. sees_ven sight v.0) base.portfolio.vens)
 
+-- one page of the vens in sight, by number
 abbrev pub vens_reply : Base → Role → Page → Result Answer Refusal
 vens_reply base role page = sight_of base role >>= λ sight. Ok (answer.List (page_of page (vens_in_sight base sight)))
 
@@ -38,6 +39,7 @@ abbrev pub ven_told : Sight → Option (ℕ × Ven) → Result Answer Refusal
 ven_told sight None = Err NotFound
 ven_told sight (Some (n, ven)) = if sees_ven sight n then Ok (answer.Object (object.Ven (ven_object (n, ven)))) else Err Forbidden
 
+-- the ven of an id: one that isn't there is 6, one that is out of sight 8
 abbrev pub ven_reply : Base → Role → List ℕ → Result Answer Refusal
 ven_reply base role id = sight_of base role >>= λ sight. ven_told sight (ven_with_id id base.portfolio)
 
@@ -52,6 +54,7 @@ abbrev pub resources_told : Base → Page → Sight → Option ℕ → Result An
 resources_told base page sight None = Err NotFound
 resources_told base page sight (Some ven) = if sees_ven sight ven then Ok (answer.List (page_of page (resources_of base ven))) else Err Forbidden
 
+-- one page of the resources of the ven of an id, by number: a ven that isn't there is 6, one out of sight 8
 abbrev pub resources_reply : Base → Role → List ℕ → Page → Result Answer Refusal
 resources_reply base role ven page = sight_of base role >>= λ sight. resources_told base page sight (ven_at ven base.portfolio)
 
@@ -62,6 +65,8 @@ resource_told base ven sight (Some (n, resource)) =
     if not (sees_ven sight resource.ven) then Err Forbidden
     else (if is_under ven base.portfolio resource then Ok (answer.Object (object.Resource (resource_object (n, resource)))) else Err NotFound)
 
+-- the resource of an id: one that isn't there is 6, one that is out of sight 8, whatever ven is named with it, and
+-- one under another ven than its own 6
 abbrev pub resource_reply : Base → Role → List ℕ → List ℕ → Result Answer Refusal
 resource_reply base role ven id = sight_of base role >>= λ sight. resource_told base ven sight (resource_with_id id base.portfolio)
 
@@ -71,6 +76,6 @@ resource_reply base role ven id = sight_of base role >>= λ sight. resource_told
 abbrev pub shares_of : Base → List ℕ → List Object
 shares_of base program = map (λ s. object.Share (share_object s)) (filter (λ s. bytes_eq s.0.program program) base.portfolio.shares)
 
--- only the operator sees shares
+-- all shares in a program, by resource number: only the operator sees shares
 abbrev pub shares_reply : Base → Role → List ℕ → Result Answer Refusal
 shares_reply base role program = if is_operator role then Ok (answer.List (shares_of base program)) else Err Forbidden

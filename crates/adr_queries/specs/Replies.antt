@@ -15,7 +15,7 @@ use Rattle.adr_queries.specs.Subscribed.{subs_reply, sub_reply, outbox_reply}
 use Rattle.adr_queries.specs.Shown.{programs_reply, program_reply, events_reply, event_reply}
 use Rattle.adr_queries.specs.Listings.{vens_reply, ven_reply, resources_reply, resource_reply, shares_reply}
 
--- the first live keys that an open scan missed
+-- the first live keys that an open scan missed, at most so many, and 12 where none is open
 abbrev pub probes_reply : ℕ → Base → Option (List MirrorKey) → Result Answer Refusal
 probes_reply limit base None = Err NoScan
 probes_reply limit base (Some polled) = Ok (answer.Probes (take limit (probes base.mirror polled)))

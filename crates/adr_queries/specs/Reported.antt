@@ -25,7 +25,7 @@ use Rattle.adr_queries.specs.Shown.{sees_owned, object_at, told}
 
 -- ---- reports
 
--- whether a report is in sight
+-- whether a report is in sight, by the resource that it is on
 abbrev pub sees_report : Base → Sight → ℕ × Report → Bool
 sees_report base sight r = sees_owned base sight r.1.body.head.resource
 
@@ -33,24 +33,26 @@ sees_report base sight r = sees_owned base sight r.1.body.head.resource
 abbrev pub reports_in_sight : State → Sight → List Object
 reports_in_sight s sight = filter_map (λ r. object_at s.stamps (report_row r)) (filter (sees_report s.base sight) s.base.portfolio.reports)
 
--- what isn't wanted is left out before the page is cut
+-- one page of the wanted reports in sight, by number: what isn't wanted is left out before the page is cut
 abbrev pub reports_reply : State → Role → ReportFilter → Page → Result Answer Refusal
 reports_reply s role wanted page = sight_of s.base role >>= λ sight. Ok (answer.List (page_of page (wanted_reports wanted (reports_in_sight s sight))))
 
--- one that is out of sight is forbidden
+-- one report: one that isn't there is 6, one that is out of sight is forbidden
 abbrev pub report_told : State → Sight → Option (ℕ × Report) → Result Answer Refusal
 report_told s sight None = Err NotFound
 report_told s sight (Some r) = if sees_report s.base sight r then told (object_at s.stamps (report_row r)) else Err Forbidden
 
+-- the report of an id: one that isn't there is 6, one that is out of sight 8
 abbrev pub report_reply : State → Role → List ℕ → Result Answer Refusal
 report_reply s role id = sight_of s.base role >>= λ sight. report_told s sight (report_with_id id s.base.portfolio)
 
 -- ---- roll-ups
 
+-- a roll-up behind the id of its upstream event, and 6 where there is none
 abbrev pub rollup_told : List ℕ → Option Rollup → Result Answer Refusal
 rollup_told event None = Err NotFound
 rollup_told event (Some rollup) = Ok (answer.Rollup event rollup)
 
--- only the operator sees roll-ups, by the id of the upstream event
+-- the roll-up of an upstream event: only the operator sees roll-ups, by the id of the upstream event
 abbrev pub rollup_reply : Base → Role → List ℕ → Result Answer Refusal
 rollup_reply base role event = if is_operator role then rollup_told event (rollup_at base.mirror base.portfolio event) else Err Forbidden

@@ -9,16 +9,18 @@ use Rattle.adr_view.specs.declared.sight.Sight.{Sight}
 use Rattle.adr_view.specs.declared.sight.Sight.TheVariants.{All, Of}
 use Rattle.adr_state.specs.Vens.{ven_at}
 
+-- the operator, and neither a ven nor the utility
 abbrev pub is_operator : Role → Bool
 is_operator Operator = true
 is_operator (Ven id) = false
 is_operator Utility = false
 
+-- what is of the ven of a number, and 8 where there is none
 abbrev pub sight_by : Option ℕ → Result Sight Refusal
 sight_by None = Err Forbidden
 sight_by (Some n) = Ok (Of n)
 
--- what a role sees: the operator all, an enrolled ven what is its own, and another nothing
+-- what a role sees: the operator all, an enrolled ven what is its own, and another nothing, which is 8
 abbrev pub sight_of : Base → Role → Result Sight Refusal
 sight_of base Operator = Ok All
 sight_of base (Ven id) = sight_by (ven_at id base.portfolio)

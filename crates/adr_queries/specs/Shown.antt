@@ -35,7 +35,7 @@ use Rattle.adr_queries.specs.Listings.{page_of}
 
 -- ---- what is in sight
 
--- the ven that owns a resource
+-- the ven that owns a resource, where it is there
 abbrev pub owner_of : Base → ℕ → Option ℕ
 owner_of base resource = option_map (λ r. r.ven) (at nat_cmp resource base.portfolio.resources)
 
@@ -44,7 +44,8 @@ abbrev pub sees_owned : Base → Sight → ℕ → Bool
 sees_owned base All resource = true
 sees_owned base (Of ven) resource = option_map_or (λ owner. owner == ven) (owner_of base resource) false
 
--- whether what stands at a key is in sight: every ven sees the programs, and the operator alone the roll-ups
+-- whether what stands at a key is in sight: every ven sees the programs, the events of its own resources and the
+-- reports on these, and the operator alone the roll-ups
 abbrev pub sees : Base → Sight → ViewKey → Bool
 sees base All k = true
 sees base (Of ven) (key.Program id) = true
@@ -73,6 +74,7 @@ object_of (key.Event event resource) (content.Event shown) stamps = Some (object
 object_of (key.Report n) (content.Report body) stamps = Some (object.Report (record { number = n; body = body; stamps = stamps }))
 object_of _ _ stamps = None
 
+-- what is shown at a key, as an object with its stamps, where it has some; a roll-up is none
 abbrev pub object_at : List (ViewKey × Stamps) → ViewKey × Content → Option Object
 object_at stamps r = option_and_then (object_of r.0 r.1) (at view_cmp r.0 stamps)
 
@@ -86,10 +88,11 @@ objects_seen base shown stamps kind sight = filter_map (object_at stamps) (rows_
 abbrev pub objects_in_sight : State → Kind → Sight → List Object
 objects_in_sight s kind sight = objects_seen s.base (view s.base) s.stamps kind sight
 
+-- one page of the programs in sight, by id
 abbrev pub programs_reply : State → Role → Page → Result Answer Refusal
 programs_reply s role page = sight_of s.base role >>= λ sight. Ok (answer.List (page_of page (objects_in_sight s kind.Program sight)))
 
--- what isn't wanted is left out before the page is cut
+-- one page of the wanted events in sight: what isn't wanted is left out before the page is cut
 abbrev pub events_reply : State → Role → EventFilter → Page → Result Answer Refusal
 events_reply s role wanted page = sight_of s.base role >>= λ sight. Ok (answer.List (page_of page (wanted_of wanted (objects_in_sight s kind.Event sight))))
 
@@ -99,11 +102,12 @@ events_reply s role wanted page = sight_of s.base role >>= λ sight. Ok (answer.
 abbrev pub object_shown : State → ViewKey → Option Object
 object_shown s key = option_and_then (λ c. object_at s.stamps (key, c)) (at view_cmp key (view s.base))
 
+-- the object, and 6 where there is none
 abbrev pub told : Option Object → Result Answer Refusal
 told None = Err NotFound
 told (Some o) = Ok (answer.Object o)
 
--- every ven sees each program
+-- the program of an id, and 6 where it isn't shown: every ven sees each program
 abbrev pub program_reply : State → Role → List ℕ → Result Answer Refusal
 program_reply s role id = sight_of s.base role >>= λ sight. told (object_shown s (key.Program id))
 
@@ -121,5 +125,7 @@ abbrev pub event_named : State → Sight → List ℕ → Option (List ℕ) → 
 event_named s sight resource None = Err NotFound
 event_named s sight resource (Some event) = event_told s sight event (resource_named s.base.portfolio resource)
 
+-- the event of an id, which names a resource before its first `-` and the utility's event behind it: an event of a
+-- resource that is out of sight is 8, whether it is there or not, and what isn't shown is 6
 abbrev pub event_reply : State → Role → List ℕ → Result Answer Refusal
 event_reply s role id = sight_of s.base role >>= λ sight. event_named s sight (resource_part id) (event_part id)

@@ -26,14 +26,14 @@ use Rattle.adr_queries.specs.Roles.{is_operator, sight_of}
 abbrev pub subs_in_sight : Sight → Portfolio → List Object
 subs_in_sight sight p = map (λ s. object.Sub (sub_object s)) (filter (λ s. sees_owner sight s.1.owner) p.subs)
 
--- what isn't wanted is left out before the page is cut
+-- one page of the wanted subscriptions in sight, by number: what isn't wanted is left out before the page is cut
 abbrev pub subs_reply : Base → Role → ReportFilter → Page → Result Answer Refusal
 subs_reply base role wanted page = sight_of base role >>= λ sight. Ok (answer.List (page_of page (wanted_subs wanted (subs_in_sight sight base.portfolio))))
 
--- one that is out of sight is forbidden
+-- the subscription of an id: one that isn't there is 6, one that is out of sight 8
 abbrev pub sub_reply : Base → Role → List ℕ → Result Answer Refusal
 sub_reply base role id = sight_of base role >>= λ sight. sub_in_sight sight id base.portfolio >>= λ s. Ok (answer.Object (object.Sub (sub_object s)))
 
--- only the operator sees the outbox
+-- how many entries there were, what came of them, and how many wait: only the operator sees the outbox
 abbrev pub outbox_reply : Outbox → Role → Result Answer Refusal
 outbox_reply outbox role = if is_operator role then Ok (answer.Counts (counts_of outbox)) else Err Forbidden

@@ -16,11 +16,12 @@ use Rattle.adr_objects.specs.Limits.{most_intervals}
 use Rattle.adr_objects.specs.Intervals.{has_id}
 use Rattle.adr_objects.specs.Fields.{text_in, priority_in, setpoint_in, period_in}
 use Rattle.adr_objects.specs.NameSets.{name_set_of}
-use Rattle.adr_schema.specs.Events.{type_in, typed_as, typed_in, only_one, value_of, value_where, only_value, payloads_in, resource_target, names_of_target, joined, all_names, names_of_targets, names_among, targets_in, fresh_id, interval_in, intervals_from, intervals_in, event_in}
+use Rattle.adr_schema.specs.Events.{type_in, typed_as, typed_in, only_one, value_of, value_where, only_value, payloads_in, resource_target, names_of_target, joined, names_of_targets, names_among, targets_in, fresh_id, interval_in, intervals_from, intervals_in, event_in}
+use Rattle.adr_schema.proofs.Reading.{list_any-map}
 use Rattle.adr_reasons.specs.declared.place.Part.TheVariants as part
 use Rattle.adr_reasons.specs.declared.place.Place.{Place}
 use Rattle.adr_reasons.specs.Places.{Located, placed, in_object, in_target, in_interval}
-use Rattle.adr_reasons.specs.Bodies.{if_there, types_at, names_at, targets_at, fresh_id_at, is_dispatch, setpoint_of, setpoint_at, payloads_at, interval_at, each_at, intervals_at, event_at}
+use Rattle.adr_reasons.specs.Bodies.{if_there, types_at, names_at, targets_at, fresh_id_at, is_dispatch, setpoint_of, payloads_at, interval_at, each_at, intervals_at, event_at}
 
 -- ---- readings without their places
 
@@ -46,10 +47,19 @@ chain u v (Ok a) (Err e) f g same later = absurd (cc)
 chain u v (Err l) (Ok x) f g same later = absurd (cc)
 chain u v (Err l) (Err e) f g same later = let fault : l.1 ≡ e = cc in ap Err fault
 
+-- the same where it is the front of a reading in three parts
+chain_in : {A B C D E : Type 0} (u : B → A) (v : E → C) (m : Result A Located) (r : Result B Fault) (f : A → Result C Located) (h : B → Result D Fault) (g : D → Result E Fault) → forget m ≡ seen_by u r → ((x : B) → forget (f (u x)) ≡ seen_by v (h x >>= g)) → forget (m >>= f) ≡ seen_by v (r >>= h >>= g)
+chain_in u v m (Ok x) f h g same later = chain u v m (Ok x) f (λ x. h x >>= g) same later
+chain_in u v m (Err e) f h g same later = chain u v m (Err e) f (λ x. h x >>= g) same later
+
 -- what is made of the last value is gone
 last : {A B : Type 0} (m : Result (Unit {0}) Located) (r : Result A Fault) (h : A → B) → forget m ≡ seen_by gone r → forget m ≡ seen_by gone (r >>= λ x. Ok (h x))
 last m (Ok x) h same = same
 last m (Err e) h same = same
+
+last_at : {A B : Type 0} (place : Place) (r : Result A Fault) (h : A → B) → forget (placed place r >>= λ x. Ok tt) ≡ seen_by gone (r >>= λ x. Ok (h x))
+last_at place (Ok x) h = refl
+last_at place (Err e) h = refl
 
 -- a member that may be absent
 if_there_agrees : {A : Type 0} (o : Option Data) (f : Data → Result (Unit {0}) Located) (g : Data → Result A Fault) → ((d : Data) → forget (f d) ≡ seen_by gone (g d)) → forget (if_there o f) ≡ seen_by gone (optional o g)
@@ -64,20 +74,12 @@ types_agree number (d ∷ ds) =
     chain (λ x. x) gone _ _ _ _ (forget-placed (in_target number part.Type) (type_in d))
     (λ type. last (types_at (number + 1) ds) (each type_in ds) (λ types. type ∷ types) (types_agree (number + 1) ds))
 
--- the names of one more target, and of those behind it
-names_front : (place : Place) (r : Result (List (List ℕ)) Fault) (more : Result (List (List ℕ)) Located) (rest : Result (List (List (List ℕ))) Fault) → forget more ≡ (rest >>= λ lists. Ok (joined lists)) → forget (placed place r >>= λ names. more >>= λ ms. Ok (names ++ ms)) ≡ ((r >>= λ x. rest >>= λ xs. Ok (x ∷ xs)) >>= λ lists. Ok (joined lists))
-names_front place (Err e) more rest same = refl
-names_front place (Ok names) (Ok ms) (Ok lists) same = let tail : ms ≡ joined lists = cc in ap (λ t. Ok (names ++ t)) tail
-names_front place (Ok names) (Ok ms) (Err e) same = absurd (cc)
-names_front place (Ok names) (Err l) (Ok lists) same = absurd (cc)
-names_front place (Ok names) (Err l) (Err e) same = same
-
-names_agree : (number : ℕ) (ds : List Data) → forget (names_at number ds) ≡ all_names (filter resource_target ds)
+names_agree : (number : ℕ) (ds : List Data) → forget (names_at number ds) ≡ seen_by joined (each names_of_target (filter resource_target ds))
 names_agree number [] = refl
 names_agree number (d ∷ ds) = one (resource_target d) (names_at (number + 1) ds) (filter resource_target ds) (names_agree (number + 1) ds)
   where
-    one : (b : Bool) (more : Result (List (List ℕ)) Located) (fs : List Data) → forget more ≡ all_names fs → forget (cond b (placed (in_target number part.Values) (names_of_target d) >>= λ names. more >>= λ ms. Ok (names ++ ms)) more) ≡ all_names (cond b (d ∷ fs) fs)
-    one true more fs same = names_front (in_target number part.Values) (names_of_target d) more (each names_of_target fs) same
+    one : (b : Bool) (more : Result (List (List ℕ)) Located) (fs : List Data) → forget more ≡ seen_by joined (each names_of_target fs) → forget (cond b (placed (in_target number part.Values) (names_of_target d) >>= λ names. more >>= λ ms. Ok (names ++ ms)) more) ≡ seen_by joined (each names_of_target (cond b (d ∷ fs) fs))
+    one true more fs same = chain (λ x. x) joined _ _ _ _ (forget-placed (in_target number part.Values) (names_of_target d)) (λ names. chain joined joined _ _ _ _ same (λ lists. refl))
     one false more fs same = same
 
 none_pass : {A : Type 0} (p : A → Bool) (xs : List A) → list_any p xs ≡ false → filter p xs ≡ []
@@ -88,51 +90,33 @@ none_pass p (x ∷ xs) h = one (p x) (none_pass p xs) h
     one true later h = absurd (cc)
     one false later h = later h
 
-set_agrees : (names : Result (List (List ℕ)) Located) (rest : Result (List (List ℕ)) Fault) → forget names ≡ rest → forget (names >>= λ ns. placed (in_object part.Targets) (name_set_of ns) >>= λ set. Ok tt) ≡ seen_by gone (rest >>= name_set_of >>= λ set. Ok (Some set))
-set_agrees (Ok ns) (Ok ms) same = let first : ns ≡ ms = cc in rw first (one (name_set_of ms))
-  where
-    one : (r : Result (List (List ℕ)) Fault) → forget (placed (in_object part.Targets) r >>= λ set. Ok tt) ≡ seen_by gone (r >>= λ set. Ok (Some set))
-    one (Ok set) = refl
-    one (Err e) = refl
-set_agrees (Ok ns) (Err e) same = absurd (cc)
-set_agrees (Err l) (Ok ms) same = absurd (cc)
-set_agrees (Err l) (Err e) same = let fault : l.1 ≡ e = cc in ap Err fault
+abbrev set_at : List (List ℕ) → Result (Unit {0}) Located
+set_at names = placed (in_object part.Targets) (name_set_of names) >>= λ set. Ok tt
 
-abbrev set_at : Result (List (List ℕ)) Located → Result (Unit {0}) Located
-set_at names = names >>= λ ns. placed (in_object part.Targets) (name_set_of ns) >>= λ set. Ok tt
-
-named_agrees : (ds : List Data) → forget (set_at (names_at 0 ds)) ≡ seen_by gone (names_among ds)
+named_agrees : (ds : List Data) → forget (names_at 0 ds >>= set_at) ≡ seen_by gone (names_among ds)
 named_agrees ds = one (list_any resource_target ds) refl
   where
-    all : forget (set_at (names_at 0 ds)) ≡ seen_by gone (names_of_targets (filter resource_target ds))
-    all = set_agrees (names_at 0 ds) (all_names (filter resource_target ds)) (names_agree 0 ds)
+    all : (r : Result (List (List (List ℕ))) Fault) → forget (names_at 0 ds) ≡ seen_by joined r → forget (names_at 0 ds) ≡ seen_by (λ names. names) (r >>= λ lists. Ok (joined lists))
+    all (Ok lists) same = same
+    all (Err e) same = same
 
-    one : (b : Bool) → list_any resource_target ds ≡ b → forget (set_at (names_at 0 ds)) ≡ seen_by gone (cond b (names_of_targets (filter resource_target ds)) (Ok None))
-    one true is = all
-    one false is = all ∙ ap (λ fs. seen_by gone (names_of_targets fs)) (none_pass resource_target ds is)
+    named : forget (names_at 0 ds >>= set_at) ≡ seen_by gone (names_of_targets (filter resource_target ds))
+    named = chain_in (λ names. names) gone _ _ set_at name_set_of (λ set. Ok (Some set)) (all _ (names_agree 0 ds)) (λ names. last_at _ (name_set_of names) (λ set. Some set))
+
+    one : (b : Bool) → list_any resource_target ds ≡ b → forget (names_at 0 ds >>= set_at) ≡ seen_by gone (cond b (names_of_targets (filter resource_target ds)) (Ok None))
+    one true is = named
+    one false is = named ∙ ap (λ fs. seen_by gone (names_of_targets fs)) (none_pass resource_target ds is)
 
 targets_agree : (d : Data) → forget (targets_at d) ≡ seen_by gone (targets_in d)
 unfolding targets_at targets_in typed_in
-targets_agree d = listed (objects_in d)
-  where
-    typed : (ds : List Data) (m : Result (Unit {0}) Located) (r : Result (List (List ℕ)) Fault) → forget m ≡ seen_by gone r → forget (m >>= λ types. set_at (names_at 0 ds)) ≡ seen_by gone ((r >>= λ types. Ok ds) >>= names_among)
-    typed ds (Ok x) (Ok types) same = named_agrees ds
-    typed ds (Ok x) (Err e) same = absurd (cc)
-    typed ds (Err l) (Ok types) same = absurd (cc)
-    typed ds (Err l) (Err e) same = let fault : l.1 ≡ e = cc in ap Err fault
-
-    listed : (r : Result (List Data) Fault) → forget (placed (in_object part.Targets) r >>= λ ds. types_at 0 ds >>= λ types. set_at (names_at 0 ds)) ≡ seen_by gone ((r >>= λ ds. typed_as ds ds) >>= names_among)
-    listed (Ok ds) = typed ds (types_at 0 ds) (each type_in ds) (types_agree 0 ds)
-    listed (Err e) = refl
+targets_agree d =
+    chain_in (λ x. x) gone _ _ _ (λ ds. typed_as ds ds) names_among (forget-placed (in_object part.Targets) (objects_in d))
+    (λ ds. chain_in gone gone _ _ _ (λ types. Ok ds) names_among (types_agree 0 ds) (λ types. named_agrees ds))
 
 -- ---- intervals
 
 abbrev id_of : Interval → ℤ
 id_of i = i.id
-
-pub list_any-map : {X Y : Type 0} (p : Y → Bool) (f : X → Y) (xs : List X) → list_any p (map f xs) ≡ list_any (λ x. p (f x)) xs
-list_any-map p f [] = refl
-list_any-map p f (x ∷ xs) = ap (λ (b : Bool). p (f x) || b) (list_any-map p f xs)
 
 fresh_agrees : (number : ℕ) (before : List Interval) (d : Data) → forget (fresh_id_at number (map id_of before) d) ≡ seen_by (λ id. id) (fresh_id before d)
 fresh_agrees number before d =
@@ -145,29 +129,16 @@ fresh_agrees number before d =
 
 payloads_agree : (number : ℕ) (d : Data) → forget (payloads_at number d) ≡ seen_by gone (payloads_in d)
 unfolding payloads_at payloads_in only_value
-payloads_agree number d = listed (typed_in d)
+payloads_agree number d =
+    chain_in (λ x. x) gone _ _ _ (λ ps. only_one (filter is_dispatch ps) >>= value_where) (λ value. optional value setpoint_in) (forget-placed (in_interval number part.Payloads) (typed_in d))
+    (λ ps. chain_in (λ x. x) gone _ _ _ value_where _ (forget-placed place (only_one (filter is_dispatch ps))) only)
   where
     place : Place
     place = in_interval number part.Setpoint
 
-    of_value : (value : Result Data Fault) → forget (placed place value >>= λ v. placed place (setpoint_in v) >>= λ s. Ok tt) ≡ seen_by gone ((value >>= λ v. Ok (Some v)) >>= λ v. optional v setpoint_in)
-    of_value (Ok v) = number_of (setpoint_in v)
-      where
-        number_of : (s : Result ℤ Fault) → forget (placed place s >>= λ s. Ok tt) ≡ seen_by gone (s >>= λ s. Ok (Some s))
-        number_of (Ok s) = refl
-        number_of (Err e) = refl
-    of_value (Err e) = refl
-
-    only : (r : Result (Option Data) Fault) → forget (placed place r >>= λ only. setpoint_of place only) ≡ seen_by gone ((r >>= value_where) >>= λ value. optional value setpoint_in)
-    only (Ok None) = refl
-    only (Ok (Some d)) = of_value (value_of d)
-    only (Err e) = refl
-
-    listed : (r : Result (List Data) Fault) →
-        forget (placed (in_interval number part.Payloads) r >>= λ ps. setpoint_at number ps)
-        ≡ seen_by gone ((r >>= λ ps. only_one (filter is_dispatch ps) >>= value_where) >>= λ value. optional value setpoint_in)
-    listed (Ok ps) = only (only_one (filter is_dispatch ps))
-    listed (Err e) = refl
+    only : (o : Option Data) → forget (setpoint_of place o) ≡ seen_by gone (value_where o >>= λ value. optional value setpoint_in)
+    only None = refl
+    only (Some d) = chain_in (λ x. x) gone _ _ _ (λ value. Ok (Some value)) _ (forget-placed place (value_of d)) (λ value. last_at place (setpoint_in value) (λ s. Some s))
 
 abbrev interval_from : ℤ → Option Period → Option (Option ℤ) → Interval
 interval_from id period payloads = record { id = id; period = period; setpoint = option_and_then (λ s. s) payloads }

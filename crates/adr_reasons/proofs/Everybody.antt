@@ -6,8 +6,8 @@ use Rattle.adr_text.specs.Refusals.{◌>>=◌}
 use Rattle.adr_text.specs.declared.fault.Fault.{Fault}
 use Rattle.adr_objects.specs.NameSets.{name_set_of}
 use Rattle.adr_schema.specs.Events.{resource_target, all_names, names_of_targets}
+use Rattle.adr_schema.proofs.Reading.{list_any-map}
 use Rattle.adr_reasons.specs.Targets.{names_none, goes_to_everybody}
-use Rattle.adr_reasons.proofs.Agreement.{list_any-map}
 
 some_named : (r : Result (List (List ℕ)) Fault) → names_none (r >>= λ set. Ok (Some set)) ≡ false
 some_named (Ok set) = refl

@@ -1,6 +1,6 @@
 -- An element is told of exactly where it is skipped or kept unread, and as many are as the page says.
 use Rattle.std.proofs.Common.{◌≡◌, ℕ, ◌+◌, cond, List, [], ◌∷◌, map, codes, Option, Some, None, option_map, Result, Ok, Err, refl, sym, ap, ◌∙◌, zero-add, arith}
-use Rattle.std.specs.Prelude.{count_by, is_err}
+use Rattle.std.specs.Prelude.{count_by, is_err, unwrap_or}
 use Rattle.std.specs.List.{filter_map, cons_option}
 use Rattle.std.specs.Result.{result_ok}
 use Rattle.std.proofs.lemmas.List.Sums.{sum_by-cons}
@@ -24,7 +24,7 @@ use Rattle.adr_reasons.specs.declared.fault.ObjectFault.{ObjectFault}
 use Rattle.adr_reasons.specs.declared.place.Part.TheVariants as part
 use Rattle.adr_reasons.specs.Places.{Located, placed, in_object}
 use Rattle.adr_reasons.specs.Bodies.{event_at, body_at, version_at}
-use Rattle.adr_reasons.specs.Elements.{fate_of_body, fate_of, id_told, Fated, unread_by, skipped_by, fated, Told, with_id, fault_in, seen, faults_among, faults_on, is_skipped, is_unread, is_opaque, AddUpTo}
+use Rattle.adr_reasons.specs.Elements.{fate_of_body, fate_of, id_told, Fated, unread_by, skipped_by, fated, Told, with_id, fault_in, seen, faults_listed, faults_on, is_skipped, is_unread, is_opaque, AddUpTo}
 use Rattle.adr_reasons.proofs.Agreement.{forget, seen_by, gone, event_agrees}
 
 -- ---- an element
@@ -112,11 +112,11 @@ on_page : (kind : Kind) (bytes : List ℕ) → AddUpTo (map fate_told (faults_on
 unfolding page_of
 on_page kind bytes = value (value_in bytes)
   where
-    items : (r : Result (List Data) Fault) → AddUpTo (map fate_told (faults_among kind r)) (as_refusal (r >>= λ ds. Ok (founds_and_skipped kind ds)))
+    items : (r : Result (List Data) Fault) → AddUpTo (map fate_told (unwrap_or (result_ok (r >>= λ ds. Ok (filter_map (fault_in kind) ds))) [])) (as_refusal (r >>= λ ds. Ok (founds_and_skipped kind ds)))
     items (Ok ds) = (ap (count_by is_skipped) (fates_of kind ds) ∙ count_skipped (found_in kind) ds, ap (count_by is_unread) (fates_of kind ds) ∙ count_unread (found_in kind) ds)
     items (Err e) = refl
 
-    value : (r : Result Data Fault) → AddUpTo (map fate_told (faults_among kind (r >>= items_in))) (as_refusal (r >>= page_in kind))
+    value : (r : Result Data Fault) → AddUpTo (map fate_told (unwrap_or (result_ok (r >>= faults_listed kind)) [])) (as_refusal (r >>= page_in kind))
     value (Ok d) = items (items_in d)
     value (Err e) = refl
 

@@ -21,11 +21,11 @@ use Rattle.adr_reasons.specs.Places.{name_of, in_object, in_target, in_interval,
 
 -- ---- members, which are found by the part that they are
 
--- one that has to be there
+-- a member that has to be there, read as a part at a place
 abbrev pub needed_at : {A : Type 0} → Place → (Data → Result A Fault) → Data → Result A Located
 needed_at place reading d = placed place (required (member_of (name_of place.part) d) reading)
 
--- one that may be absent
+-- a member that may be absent, read as a part at a place
 abbrev pub maybe_at : {A : Type 0} → Place → (Data → Result A Fault) → Data → Result (Option A) Located
 maybe_at place reading d = placed place (optional (member_of (name_of place.part) d) reading)
 
@@ -47,6 +47,7 @@ names_at number [] = Ok []
 names_at number (d ∷ ds) =
     if resource_target d then (placed (in_target number part.Values) (names_of_target d) >>= λ names. names_at (number + 1) ds >>= λ more. Ok (names ++ more)) else names_at (number + 1) ds
 
+-- the targets, of which the first has the number 0, read in the order of `targets_in`, each fault with its place
 unfoldable pub targets_at : Data → Result (Unit {0}) Located
 targets_at d = do
   ds ← placed (in_object part.Targets) (objects_in d)
@@ -61,12 +62,14 @@ targets_at d = do
 abbrev pub unused_at : ℕ → List ℤ → ℤ → Result (Unit {0}) Located
 unused_at number ids id = if list_any (λ x. int_eq x id) ids then Err (in_interval number part.Id, Repeated) else Ok tt
 
+-- the id of an interval, which has to be there and is not among those before
 abbrev pub fresh_id_at : ℕ → List ℤ → Data → Result ℤ Located
 fresh_id_at number ids d = do
   id ← needed_at (in_interval number part.Id) i32_in d
   unused ← unused_at number ids id
   Ok id
 
+-- the type of the payload is `DISPATCH_SETPOINT`
 abbrev pub is_dispatch : Data → Bool
 is_dispatch d = is_of_type (codes "DISPATCH_SETPOINT") d
 
@@ -83,6 +86,7 @@ abbrev pub setpoint_at : ℕ → List Data → Result (Unit {0}) Located
 setpoint_at number payloads =
     placed (in_interval number part.Setpoint) (only_one (filter is_dispatch payloads)) >>= λ only. setpoint_of (in_interval number part.Setpoint) only
 
+-- the payloads of the interval of a number, read in the order of `payloads_in`, each fault with its place
 unfoldable pub payloads_at : ℕ → Data → Result (Unit {0}) Located
 payloads_at number d = placed (in_interval number part.Payloads) (typed_in d) >>= λ payloads. setpoint_at number payloads
 
@@ -99,6 +103,7 @@ abbrev pub each_at : ℕ → List ℤ → List Data → Result (Unit {0}) Locate
 each_at number ids [] = Ok tt
 each_at number ids (d ∷ ds) = interval_at number ids d >>= λ id. each_at (number + 1) (ids ++ id ∷ []) ds
 
+-- the intervals, of which the first has the number 0, read in the order of `intervals_in`, each fault with its place
 unfoldable pub intervals_at : Data → Result (Unit {0}) Located
 intervals_at d = do
   ds ← placed (in_object part.Intervals) (objects_in d)
@@ -106,6 +111,7 @@ intervals_at d = do
 
 -- ---- the object
 
+-- an event, read in the order of `event_in`, each fault with its place
 unfoldable pub event_at : Data → Result (Unit {0}) Located
 event_at d = do
   program ← needed_at (in_object part.ProgramId) id_in d
@@ -115,12 +121,12 @@ event_at d = do
   targets ← if_there (member_of (codes "targets") d) targets_at
   if_there (member_of (codes "intervals") d) intervals_at
 
--- what an object says
+-- what an object says, read in the order of `body_in`, each fault with its place
 abbrev pub body_at : Kind → Data → Result (Unit {0}) Located
 body_at kind.Program d = needed_at (in_object part.ProgramName) name_in d >>= λ name. Ok tt
 body_at kind.Event d = event_at d
 
--- what makes an element a version
+-- what makes an element a version, read in the order of `found_in`, each fault with its place
 unfoldable pub version_at : Data → Result (Unit {0}) Located
 version_at d = do
   id ← placed (in_object part.Id) (upstream_id_in d)

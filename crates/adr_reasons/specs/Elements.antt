@@ -1,5 +1,5 @@
 -- The elements of a page that are skipped or kept unread, as adr_schema reads them: which, and why.
-use Rattle.std.specs.Prelude.{◌≡◌, ℕ, List, [], codes, count_by, Bool, true, false, Option, Some, None, option_map, Result, Ok, Err}
+use Rattle.std.specs.Prelude.{◌≡◌, ℕ, List, [], codes, count_by, Bool, true, false, Option, Some, None, option_map, unwrap_or, Result, Ok, Err}
 use Rattle.std.specs.List.{filter_map}
 use Rattle.std.specs.Result.{result_ok}
 use Rattle.serde_json.specs.Data.{Data}
@@ -40,7 +40,7 @@ fate_of (Err fault) = Some Skipped
 
 -- ---- and why
 
--- the id, where it is a text of at most 100 bytes
+-- the id of an element, where it is a text of at most 100 bytes
 abbrev pub id_told : Data → Option (List ℕ)
 id_told d = result_ok (text_at (codes "id") d >>= text_within 100)
 
@@ -61,7 +61,7 @@ abbrev pub skipped_by : Result (Unit {0}) Located → Option Fated → Option Fa
 skipped_by (Ok read) body = body
 skipped_by (Err fault) body = Some (Skipped, fault)
 
--- nothing where the element is read
+-- nothing where the element is read, else what becomes of it and its first fault with its place
 abbrev pub fated : Kind → Data → Option Fated
 fated kind d = skipped_by (version_at d) (unread_by kind (body_at kind d))
 
@@ -82,13 +82,13 @@ seen fault = (fault.fate, fault.id, located fault.defect)
 
 -- ---- of a whole page
 
-abbrev pub faults_among : Kind → Result (List Data) Fault → List Told
-faults_among kind (Ok ds) = filter_map (fault_in kind) ds
-faults_among kind (Err fault) = []
+-- of the elements that a value lists
+abbrev pub faults_listed : Kind → Data → Result (List Told) Fault
+faults_listed kind d = items_in d >>= λ ds. Ok (filter_map (fault_in kind) ds)
 
--- of the elements of the list that the bytes are, and none where they are no list
+-- what becomes of each element that is not read, of the list that the bytes are, and none where they are no list
 abbrev pub faults_on : Kind → List ℕ → List Told
-faults_on kind bytes = faults_among kind (bytes_as items_in bytes)
+faults_on kind bytes = unwrap_or (result_ok (bytes_as (faults_listed kind) bytes)) []
 
 abbrev pub is_skipped : Fate → Bool
 is_skipped Skipped = true

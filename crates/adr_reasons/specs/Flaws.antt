@@ -6,7 +6,7 @@ use Rattle.adr_reasons.specs.declared.flaw.Flaw.TheVariants.{NotWhole, Beyond, O
 use Rattle.adr_reasons.specs.declared.defect.Defect.{Defect}
 use Rattle.adr_reasons.specs.Places.{Located}
 
--- the fault that it is
+-- what is wrong with a value, as the fault of its reading
 abbrev pub fault_of : Flaw → Fault
 fault_of NotWhole = fault.Fraction
 fault_of Beyond = fault.Fraction

@@ -22,12 +22,15 @@ name_of part.Intervals = codes "intervals"
 name_of part.Payloads = codes "payloads"
 name_of part.Setpoint = codes "setpoint"
 
+-- a part of the object itself
 abbrev pub in_object : Part → Place
 in_object part = record { within = within.Object; part = part }
 
+-- a part of the target of a number
 abbrev pub in_target : ℕ → Part → Place
 in_target number part = record { within = within.Target number; part = part }
 
+-- a part of the interval of a number
 abbrev pub in_interval : ℕ → Part → Place
 in_interval number part = record { within = within.Interval number; part = part }
 

@@ -24,7 +24,7 @@ type_of_target d =
     else (if is_of_type (codes "POWER_SERVICE_LOCATION") d then type.PowerServiceLocation
     else type.Another)))))
 
--- those that do not name resources, the first target having that number
+-- the targets that do not name resources, by number and type, the first target having that number
 abbrev pub passed_over : ℕ → List Data → List PassedTarget
 passed_over number [] = []
 passed_over number (d ∷ ds) =
@@ -37,7 +37,7 @@ names_none (Ok None) = true
 names_none (Ok (Some names)) = false
 names_none (Err fault) = false
 
--- an event goes to everybody though it has targets
+-- an event goes to everybody though it has targets: none of them names resources
 abbrev pub goes_to_everybody : List Data → Bool
 goes_to_everybody [] = false
 goes_to_everybody (d ∷ ds) = names_none (names_among (d ∷ ds))

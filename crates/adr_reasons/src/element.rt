@@ -10,7 +10,8 @@ use crate::event::{body, version};
 use crate::fault::{Fate, ObjectFault, ShownId};
 use crate::stopped::Stopped;
 use adr_objects::{Kind, Reason};
-use adr_text::{Fault, member};
+use adr_schema::{reason_of, text_at};
+use adr_text::Fault;
 use serde_json::Value;
 use std::alloc::{AllocError, Global};
 
@@ -18,14 +19,7 @@ use std::alloc::{AllocError, Global};
 pub(crate) fn shown_id(alloc: Global, value: &Value) -> Result<Option<ShownId>, AllocError>
     ensures { IfOk result (λ id. id ≡ id_told (view value.now)) }
 {
-    let text = match member(value, "id") {
-        Some(found) => match found.as_str() {
-            Some(text) => text,
-            None => return Ok(None),
-        },
-        None => return Ok(None),
-    };
-    match ShownId::new(alloc, text) {
+    match text_at(value, "id").and_then(|text| ShownId::new(alloc, text)) {
         Ok(id) => Ok(Some(id)),
         Err(Fault::OutOfMemory) => Err(AllocError),
         Err(_) => Ok(None),
@@ -38,13 +32,7 @@ fn reason_kept(kind: Kind, fault: Fault) -> Reason
 {
     match kind {
         Kind::Program => Reason::BadShape,
-        Kind::Event => match fault {
-            Fault::Fraction => Reason::Fraction,
-            Fault::NotOne => Reason::NotOne,
-            Fault::Repeated => Reason::Repeated,
-            Fault::OutOfRange => Reason::OutOfRange,
-            Fault::OutOfMemory | Fault::BadShape => Reason::BadShape,
-        },
+        Kind::Event => reason_of(fault),
     }
 }
 

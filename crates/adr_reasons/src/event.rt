@@ -1,5 +1,4 @@
 //! What an object says, read with the places of its parts. The first fault wins.
-ghost use Rattle.std.specs.Prelude.{codes};
 ghost use Rattle.serde_json.specs.View.{view};
 ghost use Rattle.adr_schema.specs.Pages.{upstream_id_in};
 ghost use Rattle.adr_reasons.specs.Places.{in_object, placed};
@@ -26,10 +25,11 @@ fn id_at(alloc: Global, value: &Value) -> Result<UpstreamId, Stopped>
 {
     let place = Part::Id.of_object();
     let text = text_at(value, place)?;
-    match UpstreamId::new(alloc, text) {
-        Ok(id) => Ok(id),
-        Err(fault) => Err(Stopped::by(place, fault, shape_of_text(text, 100))),
-    }
+    UpstreamId::new(alloc, text).map_err(|fault| Stopped::by(
+        place,
+        fault,
+        shape_of_text(text, 100),
+    ))
 }
 
 /// What makes an element a version.
@@ -54,19 +54,15 @@ fn event(alloc: Global, value: &Value) -> Result<(), Stopped>
     intervals_of(alloc, value)
 }
 
-fn program(alloc: Global, value: &Value) -> Result<(), Stopped>
-    ensures { FindsAt (λ x. x) result (body_at Kind.Program (view value.now)) }
-{
-    needed_at::<Name>(alloc, value, Part::ProgramName.of_object())?;
-    Ok(())
-}
-
 /// What an object of that kind says.
 pub(crate) fn body(alloc: Global, kind: Kind, value: &Value) -> Result<(), Stopped>
     ensures { FindsAt (λ x. x) result (body_at kind (view value.now)) }
 {
     match kind {
-        Kind::Program => program(alloc, value),
+        Kind::Program => {
+            needed_at::<Name>(alloc, value, Part::ProgramName.of_object())?;
+            Ok(())
+        }
         Kind::Event => event(alloc, value),
     }
 }

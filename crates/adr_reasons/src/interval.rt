@@ -64,25 +64,19 @@ fn each_interval(alloc: Global, values: &[Value]) -> Result<(), Stopped>
     Ok(())
 }
 
-#[tactic(auto, unfolding(crate::specs::Bodies::intervals_at))]
-fn intervals(alloc: Global, value: &Value) -> Result<(), Stopped>
-    ensures { FindsAt (λ x. x) result (intervals_at (view value.now)) }
-{
-    let place = Part::Intervals.of_object();
-    let values = objects_at(value, place)?;
-    if values.len() > 1000 {
-        return Err(Stopped::misshapen(place, Shape::TooMany));
-    }
-    each_interval(alloc, values)
-}
-
 /// The intervals of an event, where it lists any.
+#[tactic(auto, unfolding(crate::specs::Bodies::intervals_at))]
 pub(crate) fn intervals_of(alloc: Global, event: &Value) -> Result<(), Stopped>
     ensures { FindsAt (λ x. x) result
         (if_there (member_of (codes "intervals") (view event.now)) intervals_at) }
 {
-    match member(event, "intervals") {
-        Some(found) => intervals(alloc, found),
-        None => Ok(()),
+    let Some(found) = member(event, "intervals") else {
+        return Ok(());
+    };
+    let place = Part::Intervals.of_object();
+    let values = objects_at(found, place)?;
+    if values.len() > 1000 {
+        return Err(Stopped::misshapen(place, Shape::TooMany));
     }
+    each_interval(alloc, values)
 }

@@ -18,7 +18,6 @@ mod stopped;
 mod target;
 #[cfg(test)]
 mod tests;
-mod typed;
 
 pub use adr_objects::{Kind, Reason, Text};
 pub use defect::Defect;

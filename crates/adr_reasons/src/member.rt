@@ -51,10 +51,7 @@ fn stop(alloc: Global, value: &Value, place: Place, fault: Fault) -> Stopped
 pub(crate) fn read_at<T: FromJson>(alloc: Global, value: &Value, place: Place) -> Result<T, Stopped>
     ensures { FindsAt (λ x. x) result (placed place (T.of (view value.now))) }
 {
-    match T::from_json(alloc, value) {
-        Ok(found) => Ok(found),
-        Err(fault) => Err(stop(alloc, value, place, fault)),
-    }
+    T::from_json(alloc, value).map_err(|fault| stop(alloc, value, place, fault))
 }
 
 /// A member that has to be there.
@@ -91,10 +88,7 @@ pub(crate) fn text_at<'v>(value: &'v Value, place: Place) -> Result<&'v str, Sto
     ensures { FindsAt (λ t. t.now) result (needed_at place text_of (view value.now)) }
 {
     match member(value, place.part.name()) {
-        Some(found) => match text(found) {
-            Ok(text) => Ok(text),
-            Err(fault) => Err(Stopped::by(place, fault, Shape::NotText)),
-        },
+        Some(found) => text(found).map_err(|fault| Stopped::by(place, fault, Shape::NotText)),
         None => Err(Stopped::misshapen(place, Shape::Missing)),
     }
 }
@@ -104,8 +98,5 @@ pub(crate) fn text_at<'v>(value: &'v Value, place: Place) -> Result<&'v str, Sto
 pub(crate) fn objects_at(value: &Value, place: Place) -> Result<&[Value], Stopped>
     ensures { FindsAt (λ vs. map view vs.now) result (placed place (objects_in (view value.now))) }
 {
-    match objects(value) {
-        Ok(values) => Ok(values),
-        Err(fault) => Err(Stopped::by(place, fault, Shape::NotObjects)),
-    }
+    objects(value).map_err(|fault| Stopped::by(place, fault, Shape::NotObjects))
 }

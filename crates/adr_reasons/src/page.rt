@@ -2,9 +2,9 @@
 ghost use Rattle.std.specs.Prelude.{◌≡◌, map, IfOk};
 ghost use Rattle.std.specs.List.{filter_map};
 ghost use Rattle.serde_json.specs.View.{view};
-ghost use Rattle.adr_text.specs.Fields.{items_in};
+ghost use Rattle.adr_text.specs.Faults.{Finds};
 ghost use Rattle.adr_schema.specs.Pages.{page_of};
-ghost use Rattle.adr_reasons.specs.Elements.{fault_in, seen, faults_among, faults_on, AddUpTo};
+ghost use Rattle.adr_reasons.specs.Elements.{fault_in, seen, faults_listed, faults_on, AddUpTo};
 
 use crate::element::object_fault;
 use crate::fault::ObjectFault;
@@ -26,25 +26,11 @@ fn each_fault(alloc: Global, kind: Kind, values: &[Value]) -> Result<Vec<ObjectF
     Ok(faults)
 }
 
-// Of the elements that a value lists, and none where it is no list.
-fn faults_listed(alloc: Global, kind: Kind, value: &Value) -> Result<Vec<ObjectFault>, AllocError>
-    ensures { IfOk result (λ v. map seen v.items ≡ faults_among kind (items_in (view value.now))) }
+// Of the elements that a value lists.
+fn faults_listed(alloc: Global, kind: Kind, value: &Value) -> Result<Vec<ObjectFault>, Fault>
+    ensures { Finds (λ v. map seen v.items) result (faults_listed kind (view value.now)) }
 {
-    match list(value) {
-        Ok(values) => each_fault(alloc, kind, values),
-        Err(Fault::OutOfMemory) => Err(AllocError),
-        Err(_) => Ok(Vec::new(alloc)),
-    }
-}
-
-fn faults_on(alloc: Global, kind: Kind, body: &[u8]) -> Result<Vec<ObjectFault>, AllocError>
-    ensures { IfOk result (λ v. map seen v.items ≡ faults_on kind body.now) }
-{
-    match read_value(alloc, body) {
-        Ok(value) => faults_listed(alloc, kind, &value),
-        Err(Fault::OutOfMemory) => Err(AllocError),
-        Err(_) => Ok(Vec::new(alloc)),
-    }
+    Ok(each_fault(alloc, kind, list(value)?)?)
 }
 
 /// Why elements of a page of objects of that kind are skipped or kept unread, each that is, in the page's
@@ -58,5 +44,9 @@ pub fn faults_on_page(
     ensures faults { IfOk result (λ v. map seen v.items ≡ faults_on kind body.now) }
     ensures add_up { IfOk result (λ v. AddUpTo (map (λ f. f.fate) v.items) (page_of kind body.now)) }
 {
-    faults_on(alloc, kind, body)
+    match read_value(alloc, body).and_then(|value| faults_listed(alloc, kind, &value)) {
+        Ok(faults) => Ok(faults),
+        Err(Fault::OutOfMemory) => Err(AllocError),
+        Err(_) => Ok(Vec::new(alloc)),
+    }
 }

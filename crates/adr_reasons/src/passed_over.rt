@@ -1,15 +1,12 @@
 //! The targets of an event that are passed over, since they name no resources.
-ghost use Rattle.std.specs.Prelude.{◌≡◌, codes, map, IfOk, option_map};
-ghost use Rattle.std.specs.List.{list_any};
+ghost use Rattle.std.specs.Prelude.{◌≡◌, map, IfOk};
 ghost use Rattle.serde_json.specs.View.{view};
-ghost use Rattle.adr_schema.specs.Events.{resource_target};
 ghost use Rattle.adr_reasons.specs.Elements.{id_told};
 ghost use Rattle.adr_reasons.specs.Targets.{targets_of, type_of_target, passed_over, goes_to_everybody};
 
 use crate::element::shown_id;
 use crate::fault::ShownId;
-use crate::target::is_resource_target;
-use crate::typed::{is_of_type, typed};
+use adr_schema::{is_of_type, is_resource_target, names_resources, typed};
 use adr_text::{Fault, member};
 use serde_json::Value;
 use std::alloc::{AllocError, Global};
@@ -93,12 +90,6 @@ fn targets_of(event: &Value) -> Result<&[Value], AllocError>
         },
         None => Ok(&[]),
     }
-}
-
-fn names_resources(targets: &[Value]) -> bool
-    ensures { result ≡ list_any (λ t. resource_target (view t)) targets.now }
-{
-    targets.iter().any(|t| is_resource_target(t))
 }
 
 // Those that do not name resources.

@@ -11,8 +11,8 @@ use crate::flaw::{Flaw, Shape};
 use crate::member::read_at;
 use crate::place::{Part, Place};
 use crate::stopped::Stopped;
-use crate::typed::{only_of_type, typed, value_of, values_of};
 use adr_objects::Setpoint;
+use adr_schema::{only_of_type, typed, value_of, values_of};
 use adr_text::{Fault, member};
 use serde_json::Value;
 use std::alloc::Global;
@@ -22,10 +22,7 @@ use std::alloc::Global;
 fn typed_at(value: &Value, place: Place) -> Result<&[Value], Stopped>
     ensures { FindsAt (λ vs. map view vs.now) result (placed place (typed_in (view value.now))) }
 {
-    match typed(value) {
-        Ok(values) => Ok(values),
-        Err(fault) => Err(Stopped::by(place, fault, Shape::NotTyped)),
-    }
+    typed(value).map_err(|fault| Stopped::by(place, fault, Shape::NotTyped))
 }
 
 // The only payload with a setpoint, where there is one.
@@ -34,10 +31,11 @@ fn only_at(payloads: &[Value], place: Place) -> Result<Option<&Value>, Stopped>
     ensures { FindsAt (option_map (λ v. view v.now)) result
         (placed place (only_one (filter is_dispatch (map view payloads.now)))) }
 {
-    match only_of_type(payloads, "DISPATCH_SETPOINT") {
-        Ok(only) => Ok(only),
-        Err(fault) => Err(Stopped::by(place, fault, Shape::NoValues)),
-    }
+    only_of_type(payloads, "DISPATCH_SETPOINT").map_err(|fault| Stopped::by(
+        place,
+        fault,
+        Shape::NoValues,
+    ))
 }
 
 // The fault with which a payload has not one value.
@@ -55,10 +53,7 @@ fn stop(payload: &Value, place: Place, fault: Fault) -> Stopped
 fn value_at(payload: &Value, place: Place) -> Result<&Value, Stopped>
     ensures { FindsAt (λ v. view v.now) result (placed place (value_of (view payload.now))) }
 {
-    match value_of(payload) {
-        Ok(value) => Ok(value),
-        Err(fault) => Err(stop(payload, place, fault)),
-    }
+    value_of(payload).map_err(|fault| stop(payload, place, fault))
 }
 
 // The setpoint that payloads say, where they say one.
@@ -73,21 +68,15 @@ fn setpoint_at(alloc: Global, payloads: &[Value], number: usize) -> Result<(), S
     Ok(())
 }
 
-#[tactic(auto, unfolding(crate::specs::Bodies::payloads_at))]
-fn payloads(alloc: Global, number: usize, value: &Value) -> Result<(), Stopped>
-    ensures { FindsAt (λ x. x) result (payloads_at number (view value.now)) }
-{
-    let payloads = typed_at(value, Part::Payloads.of_interval(number))?;
-    setpoint_at(alloc, payloads, number)
-}
-
 /// The payloads of the interval of that number, where it has any.
+#[tactic(auto, unfolding(crate::specs::Bodies::payloads_at))]
 pub(crate) fn payloads_of(alloc: Global, number: usize, interval: &Value) -> Result<(), Stopped>
     ensures { FindsAt (λ x. x) result
         (if_there (member_of (codes "payloads") (view interval.now)) (payloads_at number)) }
 {
-    match member(interval, "payloads") {
-        Some(found) => payloads(alloc, number, found),
-        None => Ok(()),
-    }
+    let Some(found) = member(interval, "payloads") else {
+        return Ok(());
+    };
+    let payloads = typed_at(found, Part::Payloads.of_interval(number))?;
+    setpoint_at(alloc, payloads, number)
 }

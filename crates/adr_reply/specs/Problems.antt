@@ -10,6 +10,7 @@ use Rattle.adr_reply.specs.declared.reply.Extra.{Extra}
 use Rattle.adr_reply.specs.declared.reply.Extra.TheVariants.{Nothing, Challenge, Allow}
 use Rattle.adr_reply.specs.Replies.{ReplyParts}
 
+-- the status of a problem: that of its refusal, or 400, 413, 501, 401, 404 or 405
 abbrev pub problem_status : Problem → ℕ
 problem_status (Refused refusal) = status_of refusal
 problem_status BadRequest = 400
@@ -19,6 +20,7 @@ problem_status Unauthorized = 401
 problem_status NoPath = 404
 problem_status (NoMethod methods) = 405
 
+-- the field that a reply has besides: a challenge where the token isn't known, the methods where this one isn't there
 abbrev pub problem_extra : Problem → Extra
 problem_extra Unauthorized = Challenge
 problem_extra (NoMethod methods) = Allow methods

@@ -4,7 +4,7 @@ ghost use Rattle.adr_state.specs.Resources.{resource_with_id};
 ghost use Rattle.adr_state.specs.ShownIds.{resource_named};
 ghost use Rattle.adr_state.specs.Participants.{as_participant, participant_of};
 ghost use Rattle.adr_view.specs.Reports.{is_shown_to, reported_of, reported_by, reported_in, reported};
-ghost use Rattle.adr_sql.specs.Calls.{Stays};
+ghost use Rattle.adr_sql.specs.Calls.{LeavesLent};
 ghost use Rattle.adr_db.specs.Calls.{Finds, IsOfStore};
 
 use adr_db_mirror::read_known;
@@ -31,8 +31,7 @@ fn resource_with_id<S: Alter>(
     tx: &mut Transaction<'_, S>,
     id: &ObjectId,
 ) -> Result<Option<(Number, Resource)>, Refusal>
-    ensures same_reference { tx.new.conn.ghost_name ≡ tx.old.conn.ghost_name }
-    ensures stays { Stays S.Store tx.old.conn.now tx.new.conn.now result }
+    ensures lent { LeavesLent S.Store tx.old.conn tx.new.conn result }
     ensures finds { Finds S.Store tx.old.conn.now tx.new.conn.now (λ kept found. found ≡ resource_with_id id.now kept.portfolio) result }
     ensures refused { IfErr result IsOfStore }
 {
@@ -49,8 +48,7 @@ pub(crate) fn resource_named<S: Alter>(
     tx: &mut Transaction<'_, S>,
     text: &str,
 ) -> Result<Option<(Number, Resource)>, Refusal>
-    ensures same_reference { tx.new.conn.ghost_name ≡ tx.old.conn.ghost_name }
-    ensures stays { Stays S.Store tx.old.conn.now tx.new.conn.now result }
+    ensures lent { LeavesLent S.Store tx.old.conn tx.new.conn result }
     ensures finds { Finds S.Store tx.old.conn.now tx.new.conn.now (λ kept found. found ≡ resource_named kept.portfolio text.now) result }
     ensures refused { IfErr result IsOfStore }
 {
@@ -77,8 +75,7 @@ fn is_enrolled<S: Alter>(
     number: Number,
     resource: &Resource,
 ) -> Result<bool, Refusal>
-    ensures same_reference { tx.new.conn.ghost_name ≡ tx.old.conn.ghost_name }
-    ensures stays { Stays S.Store tx.old.conn.now tx.new.conn.now result }
+    ensures lent { LeavesLent S.Store tx.old.conn tx.new.conn result }
     ensures finds { Finds S.Store tx.old.conn.now tx.new.conn.now (λ kept yes. yes ≡ is_some (as_participant kept.portfolio program.now (number, resource.now))) result }
     ensures refused { IfErr result IsOfStore }
 {
@@ -96,8 +93,7 @@ fn takes_part<S: Alter>(
     number: Number,
     resource: &Resource,
 ) -> Result<bool, Refusal>
-    ensures same_reference { tx.new.conn.ghost_name ≡ tx.old.conn.ghost_name }
-    ensures stays { Stays S.Store tx.old.conn.now tx.new.conn.now result }
+    ensures lent { LeavesLent S.Store tx.old.conn tx.new.conn result }
     ensures finds { Finds S.Store tx.old.conn.now tx.new.conn.now (λ kept yes. yes ≡ is_some (participant_of kept.portfolio event.now (number, resource.now))) result }
     ensures refused { IfErr result IsOfStore }
 {
@@ -115,8 +111,7 @@ fn is_shown_to<S: Alter>(
     number: Number,
     resource: &Resource,
 ) -> Result<bool, Refusal>
-    ensures same_reference { tx.new.conn.ghost_name ≡ tx.old.conn.ghost_name }
-    ensures stays { Stays S.Store tx.old.conn.now tx.new.conn.now result }
+    ensures lent { LeavesLent S.Store tx.old.conn tx.new.conn result }
     ensures finds { Finds S.Store tx.old.conn.now tx.new.conn.now (λ kept yes. yes ≡ is_shown_to kept.portfolio event.now (number, resource.now)) result }
     ensures refused { IfErr result IsOfStore }
 {
@@ -151,8 +146,7 @@ fn reported_of<S: Alter>(
     number: Number,
     resource: &Resource,
 ) -> Result<Option<Reported>, Refusal>
-    ensures same_reference { tx.new.conn.ghost_name ≡ tx.old.conn.ghost_name }
-    ensures stays { Stays S.Store tx.old.conn.now tx.new.conn.now result }
+    ensures lent { LeavesLent S.Store tx.old.conn tx.new.conn result }
     ensures finds { Finds S.Store tx.old.conn.now tx.new.conn.now (λ kept found. found ≡ reported_of kept.portfolio (number, resource.now) id.now event.now) result }
     ensures refused { IfErr result IsOfStore }
 {
@@ -171,8 +165,7 @@ fn reported_by<S: Alter>(
     number: Number,
     resource: &Resource,
 ) -> Result<Option<Reported>, Refusal>
-    ensures same_reference { tx.new.conn.ghost_name ≡ tx.old.conn.ghost_name }
-    ensures stays { Stays S.Store tx.old.conn.now tx.new.conn.now result }
+    ensures lent { LeavesLent S.Store tx.old.conn tx.new.conn result }
     ensures finds { Finds S.Store tx.old.conn.now tx.new.conn.now (λ kept found. found ≡ reported_by kept.mirror kept.portfolio id.now (number, resource.now)) result }
     ensures refused { IfErr result IsOfStore }
 {
@@ -191,8 +184,7 @@ fn reported_in<S: Alter>(
     resource: &str,
     event: &str,
 ) -> Result<Option<Reported>, Refusal>
-    ensures same_reference { tx.new.conn.ghost_name ≡ tx.old.conn.ghost_name }
-    ensures stays { Stays S.Store tx.old.conn.now tx.new.conn.now result }
+    ensures lent { LeavesLent S.Store tx.old.conn tx.new.conn result }
     ensures finds { Finds S.Store tx.old.conn.now tx.new.conn.now (λ kept found. found ≡ reported_in kept.mirror kept.portfolio resource.now event.now) result }
     ensures refused { IfErr result IsOfStore }
 {
@@ -211,8 +203,7 @@ pub(crate) fn reported<S: Alter>(
     tx: &mut Transaction<'_, S>,
     id: &ObjectId,
 ) -> Result<Option<Reported>, Refusal>
-    ensures same_reference { tx.new.conn.ghost_name ≡ tx.old.conn.ghost_name }
-    ensures stays { Stays S.Store tx.old.conn.now tx.new.conn.now result }
+    ensures lent { LeavesLent S.Store tx.old.conn tx.new.conn result }
     ensures finds { Finds S.Store tx.old.conn.now tx.new.conn.now (λ kept found. found ≡ reported kept.mirror kept.portfolio id.now) result }
     ensures refused { IfErr result IsOfStore }
 {

@@ -5,11 +5,10 @@ ghost use Rattle.adr_text.specs.declared.refusal.Refusal.TheVariants.{Forbidden,
 ghost use Rattle.adr_state.specs.Names.{is_full};
 ghost use Rattle.adr_state.specs.Portfolios.{with_report};
 ghost use Rattle.adr_view.specs.Reports.{kept_report, report_on, report_with_id, report_made, report_post, report_put, report_delete};
-ghost use Rattle.adr_sql.specs.Calls.{Stays};
+ghost use Rattle.adr_sql.specs.Calls.{LeavesLent};
 ghost use Rattle.adr_db.specs.Kept.{with_portfolio};
-ghost use Rattle.adr_db.specs.Calls.{Turns, Finds, IsOfStore};
+ghost use Rattle.adr_db.specs.Calls.{Turns, Finds, IsOfStore, IsOneOf};
 ghost use Rattle.adr_db.specs.BaseCalls.{Carries, Refuses};
-ghost use Rattle.adr_portfolio.specs.Refusals.{IsOneOf};
 ghost use Rattle.adr_reports.specs.Decided.{FindsOr, Decides, put_again, replaced, removed};
 
 use crate::on::reported;
@@ -28,8 +27,7 @@ fn report_on<S: Alter>(
     tx: &mut Transaction<'_, S>,
     report: &ReportIn,
 ) -> Result<Reported, Refusal>
-    ensures same_reference { tx.new.conn.ghost_name ≡ tx.old.conn.ghost_name }
-    ensures stays { Stays S.Store tx.old.conn.now tx.new.conn.now result }
+    ensures lent { LeavesLent S.Store tx.old.conn tx.new.conn result }
     ensures finds { FindsOr S.Store tx.old.conn.now tx.new.conn.now (λ kept. report_on report.now kept.mirror kept.portfolio) result }
     ensures refuses { Refuses S.Store tx.old.conn.now tx.new.conn.now (λ kept. report_on report.now kept.mirror kept.portfolio) result }
     ensures refused { IfErr result (IsOneOf (NotFound ∷ ResourceNotOfEvent ∷ [])) }
@@ -45,8 +43,7 @@ fn report_on<S: Alter>(
 
 // Whether there are as many as may be.
 fn is_full<S: Alter>(tx: &mut Transaction<'_, S>, limits: &Limits) -> Result<bool, Refusal>
-    ensures same_reference { tx.new.conn.ghost_name ≡ tx.old.conn.ghost_name }
-    ensures stays { Stays S.Store tx.old.conn.now tx.new.conn.now result }
+    ensures lent { LeavesLent S.Store tx.old.conn tx.new.conn result }
     ensures finds { Finds S.Store tx.old.conn.now tx.new.conn.now (λ kept full. full ≡ is_full limits.now.reports kept.portfolio.reports) result }
     ensures refused { IfErr result IsOfStore }
 {
@@ -62,8 +59,7 @@ fn put_kept<S: Alter>(
     on: &Reported,
     report: &ReportIn,
 ) -> Result<(Number, Report), Refusal>
-    ensures same_reference { tx.new.conn.ghost_name ≡ tx.old.conn.ghost_name }
-    ensures stays { Stays S.Store tx.old.conn.now tx.new.conn.now result }
+    ensures lent { LeavesLent S.Store tx.old.conn tx.new.conn result }
     ensures turns { Turns S.Store tx.old.conn.now tx.new.conn.now (with_portfolio (with_report number (kept_report revision on.now report.now))) (λ kept put. put ≡ (number, kept_report revision on.now report.now)) result }
     ensures refused { IfErr result IsOfStore }
 {
@@ -80,8 +76,7 @@ fn make<S: Alter>(
     number: Number,
     report: &ReportIn,
 ) -> Result<(Number, Report), Refusal>
-    ensures same_reference { tx.new.conn.ghost_name ≡ tx.old.conn.ghost_name }
-    ensures stays { Stays S.Store tx.old.conn.now tx.new.conn.now result }
+    ensures lent { LeavesLent S.Store tx.old.conn tx.new.conn result }
     ensures decides { Decides S.Store tx.old.conn.now tx.new.conn.now (report_made limits.now number report.now) result }
     ensures refuses { Refuses S.Store tx.old.conn.now tx.new.conn.now (λ kept. report_made limits.now number report.now kept.mirror kept.portfolio) result }
     ensures refused { IfErr result (IsOneOf (NotFound ∷ ResourceNotOfEvent ∷ LimitReached ∷ [])) }
@@ -106,8 +101,7 @@ pub fn post<S: Alter>(
     number: Number,
     report: &ReportIn,
 ) -> Result<(Number, Report), Refusal>
-    ensures same_reference { tx.new.conn.ghost_name ≡ tx.old.conn.ghost_name }
-    ensures stays { Stays S.Store tx.old.conn.now tx.new.conn.now result }
+    ensures lent { LeavesLent S.Store tx.old.conn tx.new.conn result }
     ensures decides { Decides S.Store tx.old.conn.now tx.new.conn.now (report_post limits.now sight number report.now) result }
     ensures refuses { Refuses S.Store tx.old.conn.now tx.new.conn.now (λ kept. report_post limits.now sight number report.now kept.mirror kept.portfolio) result }
     ensures refused { IfErr result (IsOneOf (Forbidden ∷ NotFound ∷ ResourceNotOfEvent ∷ LimitReached ∷ [])) }
@@ -135,8 +129,7 @@ fn report_with_id<S: Alter>(
     tx: &mut Transaction<'_, S>,
     id: &ObjectId,
 ) -> Result<Option<(Number, Report)>, Refusal>
-    ensures same_reference { tx.new.conn.ghost_name ≡ tx.old.conn.ghost_name }
-    ensures stays { Stays S.Store tx.old.conn.now tx.new.conn.now result }
+    ensures lent { LeavesLent S.Store tx.old.conn tx.new.conn result }
     ensures finds { Finds S.Store tx.old.conn.now tx.new.conn.now (λ kept found. found ≡ report_with_id id.now kept.portfolio) result }
     ensures refused { IfErr result IsOfStore }
 {
@@ -155,8 +148,7 @@ fn put_at<S: Alter>(
     number: Number,
     report: &ReportIn,
 ) -> Result<(Number, Report), Refusal>
-    ensures same_reference { tx.new.conn.ghost_name ≡ tx.old.conn.ghost_name }
-    ensures stays { Stays S.Store tx.old.conn.now tx.new.conn.now result }
+    ensures lent { LeavesLent S.Store tx.old.conn tx.new.conn result }
     ensures decides { Decides S.Store tx.old.conn.now tx.new.conn.now (put_again revision number report.now) result }
     ensures refuses { Refuses S.Store tx.old.conn.now tx.new.conn.now (λ kept. put_again revision number report.now kept.mirror kept.portfolio) result }
     ensures refused { IfErr result (IsOneOf (NotFound ∷ ResourceNotOfEvent ∷ [])) }
@@ -174,8 +166,7 @@ fn put_found<S: Alter>(
     found: Option<&(Number, Report)>,
     report: &ReportIn,
 ) -> Result<(Number, Report), Refusal>
-    ensures same_reference { tx.new.conn.ghost_name ≡ tx.old.conn.ghost_name }
-    ensures stays { Stays S.Store tx.old.conn.now tx.new.conn.now result }
+    ensures lent { LeavesLent S.Store tx.old.conn tx.new.conn result }
     ensures decides { Decides S.Store tx.old.conn.now tx.new.conn.now (replaced sight revision (option_copied found.entry) report.now) result }
     ensures refuses { Refuses S.Store tx.old.conn.now tx.new.conn.now (λ kept. replaced sight revision (option_copied found.entry) report.now kept.mirror kept.portfolio) result }
     ensures refused { IfErr result (IsOneOf (Forbidden ∷ NotFound ∷ ResourceNotOfEvent ∷ [])) }
@@ -202,8 +193,7 @@ pub fn put<S: Alter>(
     id: &ObjectId,
     report: &ReportIn,
 ) -> Result<(Number, Report), Refusal>
-    ensures same_reference { tx.new.conn.ghost_name ≡ tx.old.conn.ghost_name }
-    ensures stays { Stays S.Store tx.old.conn.now tx.new.conn.now result }
+    ensures lent { LeavesLent S.Store tx.old.conn tx.new.conn result }
     ensures decides { Decides S.Store tx.old.conn.now tx.new.conn.now (report_put sight revision id.now report.now) result }
     ensures refuses { Refuses S.Store tx.old.conn.now tx.new.conn.now (λ kept. report_put sight revision id.now report.now kept.mirror kept.portfolio) result }
     ensures refused { IfErr result (IsOneOf (Forbidden ∷ NotFound ∷ ResourceNotOfEvent ∷ [])) }
@@ -217,8 +207,7 @@ fn remove<S: Alter>(
     tx: &mut Transaction<'_, S>,
     found: Option<(Number, Report)>,
 ) -> Result<(Number, Report), Refusal>
-    ensures same_reference { tx.new.conn.ghost_name ≡ tx.old.conn.ghost_name }
-    ensures stays { Stays S.Store tx.old.conn.now tx.new.conn.now result }
+    ensures lent { LeavesLent S.Store tx.old.conn tx.new.conn result }
     ensures carries { Carries S.Store tx.old.conn.now tx.new.conn.now (removed found) result }
     ensures refuses { Refuses S.Store tx.old.conn.now tx.new.conn.now (λ kept. removed found kept.portfolio) result }
     ensures refused { IfErr result (IsOneOf (NotFound ∷ [])) }
@@ -238,8 +227,7 @@ pub fn delete<S: Alter>(
     sight: Sight,
     id: &ObjectId,
 ) -> Result<(Number, Report), Refusal>
-    ensures same_reference { tx.new.conn.ghost_name ≡ tx.old.conn.ghost_name }
-    ensures stays { Stays S.Store tx.old.conn.now tx.new.conn.now result }
+    ensures lent { LeavesLent S.Store tx.old.conn tx.new.conn result }
     ensures carries { Carries S.Store tx.old.conn.now tx.new.conn.now (report_delete sight id.now) result }
     ensures refuses { Refuses S.Store tx.old.conn.now tx.new.conn.now (λ kept. report_delete sight id.now kept.portfolio) result }
     ensures refused { IfErr result (IsOneOf (Forbidden ∷ NotFound ∷ [])) }

@@ -1,13 +1,12 @@
 //! The roll-up of an upstream event, from the tables.
 ghost use Rattle.std.specs.Prelude.{◌≡◌, map, IfOk, IfErr};
 ghost use Rattle.adr_view.specs.Rollups.{reporters, rollup_for, rollup_of, rollup_at};
-ghost use Rattle.adr_sql.specs.Calls.{Stays};
+ghost use Rattle.adr_sql.specs.Calls.{LeavesLent};
 ghost use Rattle.adr_db.specs.Calls.{Finds, IsOfStore};
 
 use adr_db_mirror::read_known;
-use adr_db_portfolio::read_reports_of;
+use adr_db_portfolio::{named_participants, read_reports_of};
 use adr_objects::{EventBody, Number, Rollup};
-use adr_portfolio::named_participants;
 use adr_state::{Participant, Report};
 use adr_text::{ObjectId, Refusal, Rows};
 use adr_view::{event_body, event_key, reporters, rollup_for};
@@ -50,8 +49,7 @@ fn event_rollup<S: Alter>(
     id: &ObjectId,
     event: &EventBody,
 ) -> Result<Option<Rollup>, Refusal>
-    ensures same_reference { tx.new.conn.ghost_name ≡ tx.old.conn.ghost_name }
-    ensures stays { Stays S.Store tx.old.conn.now tx.new.conn.now result }
+    ensures lent { LeavesLent S.Store tx.old.conn tx.new.conn result }
     ensures finds { Finds S.Store tx.old.conn.now tx.new.conn.now (λ kept rollup. rollup ≡ rollup_of kept.portfolio id.now event.now) result }
     ensures refused { IfErr result IsOfStore }
 {
@@ -71,8 +69,7 @@ pub fn rollup<S: Alter>(
     tx: &mut Transaction<'_, S>,
     event: &ObjectId,
 ) -> Result<Option<Rollup>, Refusal>
-    ensures same_reference { tx.new.conn.ghost_name ≡ tx.old.conn.ghost_name }
-    ensures stays { Stays S.Store tx.old.conn.now tx.new.conn.now result }
+    ensures lent { LeavesLent S.Store tx.old.conn tx.new.conn result }
     ensures finds { Finds S.Store tx.old.conn.now tx.new.conn.now (λ kept rollup. rollup ≡ rollup_at kept.mirror kept.portfolio event.now) result }
     ensures refused { IfErr result IsOfStore }
 {

@@ -5,7 +5,7 @@ ghost use Rattle.std.specs.Ordering.{nat_cmp};
 ghost use Rattle.adr_state.specs.Keys.{at};
 ghost use Rattle.adr_state.specs.ShownIds.{resource_named};
 ghost use Rattle.adr_view.specs.Reports.{sees_resource, resource_of_event, may_report};
-ghost use Rattle.adr_sql.specs.Calls.{Stays};
+ghost use Rattle.adr_sql.specs.Calls.{LeavesLent};
 ghost use Rattle.adr_db.specs.Calls.{Finds, IsOfStore};
 ghost use Rattle.adr_reports.specs.Decided.{resource_of};
 
@@ -44,8 +44,7 @@ fn resource_in<S: Alter>(
     tx: &mut Transaction<'_, S>,
     text: &str,
 ) -> Result<Option<Resource>, Refusal>
-    ensures same_reference { tx.new.conn.ghost_name ≡ tx.old.conn.ghost_name }
-    ensures stays { Stays S.Store tx.old.conn.now tx.new.conn.now result }
+    ensures lent { LeavesLent S.Store tx.old.conn tx.new.conn result }
     ensures finds { Finds S.Store tx.old.conn.now tx.new.conn.now (λ kept found. found ≡ option_map (λ r. r.1) (resource_named kept.portfolio text.now)) result }
     ensures refused { IfErr result IsOfStore }
 {
@@ -59,8 +58,7 @@ fn resource_of_event<S: Alter>(
     tx: &mut Transaction<'_, S>,
     id: &ObjectId,
 ) -> Result<Option<Resource>, Refusal>
-    ensures same_reference { tx.new.conn.ghost_name ≡ tx.old.conn.ghost_name }
-    ensures stays { Stays S.Store tx.old.conn.now tx.new.conn.now result }
+    ensures lent { LeavesLent S.Store tx.old.conn tx.new.conn result }
     ensures finds { Finds S.Store tx.old.conn.now tx.new.conn.now (λ kept found. found ≡ resource_of_event id.now kept.portfolio) result }
     ensures refused { IfErr result IsOfStore }
 {
@@ -77,8 +75,7 @@ pub(crate) fn may_report<S: Alter>(
     sight: Sight,
     report: &ReportIn,
 ) -> Result<bool, Refusal>
-    ensures same_reference { tx.new.conn.ghost_name ≡ tx.old.conn.ghost_name }
-    ensures stays { Stays S.Store tx.old.conn.now tx.new.conn.now result }
+    ensures lent { LeavesLent S.Store tx.old.conn tx.new.conn result }
     ensures finds { Finds S.Store tx.old.conn.now tx.new.conn.now (λ kept may. may ≡ may_report sight report.now kept.portfolio) result }
     ensures refused { IfErr result IsOfStore }
 {
@@ -96,8 +93,7 @@ fn sees_number<S: Alter>(
     sight: Sight,
     number: Number,
 ) -> Result<bool, Refusal>
-    ensures same_reference { tx.new.conn.ghost_name ≡ tx.old.conn.ghost_name }
-    ensures stays { Stays S.Store tx.old.conn.now tx.new.conn.now result }
+    ensures lent { LeavesLent S.Store tx.old.conn tx.new.conn result }
     ensures finds { Finds S.Store tx.old.conn.now tx.new.conn.now (λ kept sees. sees ≡ sees_resource sight (at nat_cmp number kept.portfolio.resources)) result }
     ensures refused { IfErr result IsOfStore }
 {
@@ -115,8 +111,7 @@ pub(crate) fn may_change<S: Alter>(
     sight: Sight,
     found: Option<&(Number, Report)>,
 ) -> Result<bool, Refusal>
-    ensures same_reference { tx.new.conn.ghost_name ≡ tx.old.conn.ghost_name }
-    ensures stays { Stays S.Store tx.old.conn.now tx.new.conn.now result }
+    ensures lent { LeavesLent S.Store tx.old.conn tx.new.conn result }
     ensures finds { Finds S.Store tx.old.conn.now tx.new.conn.now (λ kept may. may ≡ sees_resource sight (resource_of (option_copied found.entry) kept.portfolio)) result }
     ensures refused { IfErr result IsOfStore }
 {
@@ -135,8 +130,7 @@ pub(crate) fn may_put<S: Alter>(
     found: Option<&(Number, Report)>,
     report: &ReportIn,
 ) -> Result<bool, Refusal>
-    ensures same_reference { tx.new.conn.ghost_name ≡ tx.old.conn.ghost_name }
-    ensures stays { Stays S.Store tx.old.conn.now tx.new.conn.now result }
+    ensures lent { LeavesLent S.Store tx.old.conn tx.new.conn result }
     ensures finds { Finds S.Store tx.old.conn.now tx.new.conn.now (λ kept may. may ≡ (sees_resource sight (resource_of (option_copied found.entry) kept.portfolio) && may_report sight report.now kept.portfolio)) result }
     ensures refused { IfErr result IsOfStore }
 {

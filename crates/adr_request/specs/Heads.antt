@@ -18,7 +18,7 @@ pub record HeadAt (bytes : List ℕ) (h : RequestHead) (rest : List ℕ) : Type 
   pub within : length (print_request h) ≤ 16384
   pub few : length h.fields ≤ 64
 
--- they begin with no such head
+-- the bytes begin with no head of at most 16 KiB and 64 fields
 abbrev pub HasNoHead : List ℕ → Type 0
 HasNoHead bytes = (h : RequestHead) (rest : List ℕ) → ¬ (HeadAt bytes h rest)
 
@@ -35,6 +35,7 @@ pub record HeadParts : Type 0 where
   pub token : Option (List ℕ)
   pub extent : Extent
 
+-- what is used of a head, as the code keeps it: its method, its target, its token, and where the body ends
 abbrev pub head_parts : Head → HeadParts
 head_parts head = record { method = head.method.items; target = head.target.items; token = option_map (λ v. v.items) head.token; extent = head.extent }
 
@@ -44,7 +45,7 @@ fits_version minor fields =
     if minor == 0 then length (values (codes "transfer-encoding") fields) == 0
     else length (values (codes "host") fields) == 1
 
--- where the body ends, which has at most 1 MiB
+-- where the body ends, of at most 1 MiB where its length is said; malformed where the fields don't fit the version
 unfoldable pub request_extent : ℕ → List (List ℕ × List ℕ) → Result Extent MessageFault
 request_extent minor fields = if fits_version minor fields then extent_in 1048576 fields else Err Malformed
 
@@ -53,6 +54,7 @@ abbrev pub head_with : RequestHead → Result Extent MessageFault → Result Hea
 head_with h (Ok extent) = Ok (record { method = h.method; target = h.target; token = token_in (map name_and_value h.fields); extent = extent })
 head_with h (Err f) = Err f
 
+-- what is used of a head, or the fault of where its body ends
 abbrev pub head_in : RequestHead → Result HeadParts MessageFault
 head_in h = head_with h (request_extent h.minor (map name_and_value h.fields))
 
@@ -60,7 +62,7 @@ head_in h = head_with h (request_extent h.minor (map name_and_value h.fields))
 abbrev pub IsHead : List ℕ → HeadParts → List ℕ → Type 0
 IsHead bytes head rest = (h : RequestHead) × HeadAt bytes h rest × (head_in h ≡ Ok head)
 
--- the bytes begin with no head, or with one that is refused
+-- the bytes begin with no head, which is malformed, or with one that is refused
 abbrev pub IsRefusedHead : List ℕ → MessageFault → Type 0
 IsRefusedHead bytes f =
     (HasNoHead bytes × (f ≡ Malformed)) ⊎ ((h : RequestHead) × (rest : List ℕ) × HeadAt bytes h rest × (head_in h ≡ Err f))

@@ -12,7 +12,8 @@ use Rattle.adr_request.specs.declared.request.HttpRequest.{HttpRequest}
 abbrev pub most_reads : ℕ
 most_reads = 16_777_216
 
--- what the body is, where the bytes are those after the head
+-- what the body is, where the bytes are those after the head: empty where its end is unsaid, else by its length, or
+-- in chunks of at most 1 MiB together
 abbrev pub IsBody : Extent → List ℕ → Result (List ℕ) MessageFault → Type 0
 IsBody Unsaid bytes read = read ≡ Ok []
 IsBody (Length n) bytes read = read ≡ body_of_length n bytes
@@ -25,6 +26,7 @@ pub record RequestParts : Type 0 where
   pub token : Option (List ℕ)
   pub body : List ℕ
 
+-- a request as the code keeps it, by its parts
 abbrev pub request_parts : HttpRequest → RequestParts
 request_parts r = record { method = r.method.items; target = r.target.items; token = option_map (λ v. v.items) r.token; body = r.body.items }
 
@@ -33,7 +35,7 @@ abbrev pub request_with : HeadParts → Result (List ℕ) MessageFault → Resul
 request_with head (Ok body) = Ok (record { method = head.method; target = head.target; token = head.token; body = body })
 request_with head (Err f) = Err f
 
--- A head goes first, with its faults, and then the body.
+-- what bytes are as a request: a head goes first, with its faults, and then the body, with its own
 pub data IsRequest (bytes : List ℕ) : Result RequestParts MessageFault → Type 0 where
   -- there is no head, or it is refused
   refused : (f : MessageFault) → IsRefusedHead bytes f → IsRequest bytes (Err f)

@@ -1,279 +1,193 @@
 -- A path is found under its text, and under no other.
-use Rattle.std.proofs.Common.{◌≡◌, ℕ, zero, suc, inl, inr, List, [], ◌∷◌, ◌++◌, length, map, Bool, true, false, cond, ◌&&◌, nat_lt, refl, sym, ap, subst, ◌∙◌, arith, codes, Option, Some, None, option_map, append-nil, bytes_eq, IsTrue}
+use Rattle.std.proofs.Common.{◌≡◌, ℕ, suc, ◌<◌, inl, inr, List, [], ◌∷◌, length, map, Bool, true, false, cond, refl, sym, ap, subst, ◌∙◌, arith, Option, Some, None, option_map, bytes_eq, IsTrue, ◌==◌}
 use Rattle.std.specs.List.{All}
-use Rattle.std.proofs.lemmas.List.Elements.{All-head, All-tail}
+use Rattle.std.proofs.lemmas.List.Elements.{All-nil, All-cons, All-head, All-tail}
 use Rattle.std.proofs.lemmas.Slice.Eq.{bytes_eq-Decides}
+use Rattle.matchit.specs.Seek.{has_slash}
 use Rattle.adr_wire.specs.Cuts.{parts}
 use Rattle.adr_text.specs.Ids.{is_id}
+use Rattle.adr_routes.specs.declared.place.Root.TheVariants.{Programs}
+use Rattle.adr_routes.specs.declared.place.One.TheVariants.{Program}
+use Rattle.adr_routes.specs.declared.place.Two.TheVariants.{Resource}
 use Rattle.adr_routes.specs.declared.place.Place.{Place}
-use Rattle.adr_routes.specs.declared.place.Place.TheVariants as place
+use Rattle.adr_routes.specs.declared.place.Place.TheVariants.{Root, One, Two}
 use Rattle.adr_routes.specs.declared.path.Path.{Path}
-use Rattle.adr_routes.specs.declared.path.Path.TheVariants.{Programs, Program, Events, Event, Reports, Report, Rollup, Subs, Sub, Notifications, Outbox, Vens, Ven, Resources, Resource, Shares, Share}
+use Rattle.adr_routes.specs.declared.path.Path.TheVariants.{At, Of, Under}
 use Rattle.adr_routes.specs.Words.{id_from}
 use Rattle.adr_routes.specs.Places.{text_of, entry_of, entries_of, all_places, table}
-use Rattle.adr_routes.specs.Shapes.{Part, word, any, part_fits, fits, shape_of, names_in, entry_in, value_of}
-use Rattle.adr_routes.specs.Paths.{two_ids, path_at, names_at, path_in, place_in, path_of}
-use Rattle.adr_routes.specs.Laws.{text_at, ids_of, HasIds, EveryPathIsFound, NoOtherTextIsFound}
-use Rattle.adr_routes.proofs.Shapes.{joined, joined_parts, parts_one, parts_more}
-use Rattle.adr_routes.proofs.TableRows.{Among, the_entry}
+use Rattle.adr_routes.specs.Shapes.{Part, word, any, part_of, part_fits, fits, shape_of, names_in, filled, joined, entry_in, value_of}
+use Rattle.adr_routes.specs.Paths.{place_of, two_ids, path_at, names_at, path_in, place_in, path_of}
+use Rattle.adr_routes.specs.Laws.{ids_of, HasIds, text_at, EveryPathIsFound, NoOtherTextIsFound}
+use Rattle.adr_routes.proofs.Shapes.{both, AreSlashFree, parts_free, some_parts, joined_parts, parts_joined}
+use Rattle.adr_routes.proofs.TableRows.{Among, the_entry, some_mapped}
 use Rattle.adr_routes.proofs.PlaceTable.{table_apart}
 use Rattle.adr_routes.proofs.IdTexts.{id_free, id_some, id_read, read_id}
 
+abbrev IsId : List ℕ → Type 0
+IsId id = IsTrue (is_id id)
+
+-- ---- the table
+
+-- how many ids a shape has room for
+abbrev braces : List Part → ℕ
+braces [] = 0
+braces (word w ∷ ps) = braces ps
+braces (any ∷ ps) = suc (braces ps)
+
+abbrev arity : Place → ℕ
+arity (Root root) = 0
+arity (One one) = 1
+arity (Two two) = 2
+
+braces_are : (p : Place) → braces (shape_of (text_of p)) ≡ arity p
+braces_are (Root Programs) = refl
+braces_are (One Program) = refl
+braces_are (Two Resource) = refl
+braces_are _ = refl
+
+-- each place is found under its own text
+own_text : (p : Place) → place_in (text_of p) ≡ Some p
+unfolding place_in
+own_text (Root Programs) = refl
+own_text (One Program) = refl
+own_text (Two Resource) = refl
+own_text _ = refl
+
+-- what is found is of the table, and fits
+fitting : (places : List Place) (ss : List (List ℕ)) (p : Place) → value_of (entry_in (entries_of places) ss) ≡ Some p
+    → Among (entry_of p) (entries_of places) × (fits (shape_of (text_of p)) ss ≡ true)
+fitting [] ss p e = absurd cc
+fitting (q ∷ rest) ss p e = by (fits (shape_of (text_of q)) ss) refl (fitting rest ss p) e
+  where
+    Is : Place → Type 0
+    Is r = Among (entry_of r) (entries_of (q ∷ rest)) × (fits (shape_of (text_of r)) ss ≡ true)
+
+    by : (v : Bool) → fits (shape_of (text_of q)) ss ≡ v
+        → (value_of (entry_in (entries_of rest) ss) ≡ Some p → Among (entry_of p) (entries_of rest) × (fits (shape_of (text_of p)) ss ≡ true))
+        → value_of (cond v (Some (entry_of q)) (entry_in (entries_of rest) ss)) ≡ Some p → Is p
+    by true f ih h =
+        let same : q ≡ p = cc in
+        subst Is same (inl refl, f)
+    by false f ih h = let there = ih h in (inr there.0, there.1)
+
 -- ---- a path is found under its text
 
-among : (p : Place) → Among (entry_of p) table
-among place.Programs = inl refl
-among place.Program = inr (inl refl)
-among place.Events = inr (inr (inl refl))
-among place.Event = inr (inr (inr (inl refl)))
-among place.Reports = inr (inr (inr (inr (inl refl))))
-among place.Report = inr (inr (inr (inr (inr (inl refl)))))
-among place.Rollup = inr (inr (inr (inr (inr (inr (inl refl))))))
-among place.Subs = inr (inr (inr (inr (inr (inr (inr (inl refl)))))))
-among place.Sub = inr (inr (inr (inr (inr (inr (inr (inr (inl refl))))))))
-among place.Notifications = inr (inr (inr (inr (inr (inr (inr (inr (inr (inl refl)))))))))
-among place.Outbox = inr (inr (inr (inr (inr (inr (inr (inr (inr (inr (inl refl))))))))))
-among place.Vens = inr (inr (inr (inr (inr (inr (inr (inr (inr (inr (inr (inl refl)))))))))))
-among place.Ven = inr (inr (inr (inr (inr (inr (inr (inr (inr (inr (inr (inr (inl refl))))))))))))
-among place.Resources = inr (inr (inr (inr (inr (inr (inr (inr (inr (inr (inr (inr (inr (inl refl)))))))))))))
-among place.Resource = inr (inr (inr (inr (inr (inr (inr (inr (inr (inr (inr (inr (inr (inr (inl refl))))))))))))))
-among place.Shares = inr (inr (inr (inr (inr (inr (inr (inr (inr (inr (inr (inr (inr (inr (inr (inl refl)))))))))))))))
-among place.Share = inr (inr (inr (inr (inr (inr (inr (inr (inr (inr (inr (inr (inr (inr (inr (inr (inl refl))))))))))))))))
+-- a shape that is filled fits, and has the names that it was filled with
+abbrev Fills : List Part → List (List ℕ) → Type 0
+Fills ps ids = AreSlashFree (filled ps ids) × (fits ps (filled ps ids) ≡ true) × (names_in ps (filled ps ids) ≡ ids)
 
-found_at : (p : Place) (text : List ℕ) (ss : List (List ℕ)) (path : Path) → parts 47 text ≡ ss → fits (shape_of (text_of p)) ss ≡ true
-    → path_at p (map id_from (names_in (shape_of (text_of p)) ss)) ≡ Some path → path_of text ≡ Some path
+word_fills : (w : List ℕ) (ps : List Part) (ids : List (List ℕ)) → has_slash w ≡ false → Fills ps ids → Fills (word w ∷ ps) ids
+word_fills w ps ids free h = ((free, h.0), rw ((bytes_eq-Decides w w).1 refl) h.1, h.2)
+
+id_fills : (id : List ℕ) (ps : List Part) (ids : List (List ℕ)) → is_id id ≡ true → Fills ps ids → Fills (any ∷ ps) (id ∷ ids)
+id_fills id ps ids is h = ((id_free id is, h.0), rw (id_some id is) h.1, ap (λ z. id ∷ z) h.2)
+
+fills : (ts ids : List (List ℕ)) → AreSlashFree ts → length ids ≡ braces (map part_of ts) → All IsId ids → Fills (map part_of ts) ids
+fills [] [] free n good = (tt, refl, refl)
+fills [] (id ∷ ids) free n good = absurd (omega (arith, n))
+fills ([] ∷ ts) ids free n good = word_fills [] (map part_of ts) ids refl (fills ts ids free.1 n good)
+fills ((b ∷ rest) ∷ ts) ids free n good = by (b == 123) ids (λ ids. fills ts ids free.1) n good
+  where
+    ps : List Part
+    ps = map part_of ts
+
+    by : (v : Bool) (ids : List (List ℕ)) → ((ids : List (List ℕ)) → length ids ≡ braces ps → All IsId ids → Fills ps ids)
+        → length ids ≡ braces (cond v any (word (b ∷ rest)) ∷ ps) → All IsId ids → Fills (cond v any (word (b ∷ rest)) ∷ ps) ids
+    by false ids ih n good = word_fills (b ∷ rest) ps ids free.0 (ih ids n good)
+    by true [] ih n good = absurd (omega (arith, n))
+    by true (id ∷ ids) ih n good = id_fills id ps ids (All-head IsId id ids good) (ih ids (omega (arith, n)) (All-tail IsId id ids good))
+
+some_fit : (ps : List Part) (ss : List (List ℕ)) → 0 < length ps → fits ps ss ≡ true → 0 < length ss
+some_fit [] ss some e = absurd (omega (arith, some))
+some_fit (p ∷ ps) [] some e = absurd cc
+some_fit (p ∷ ps) (s ∷ ss) some e = omega arith
+
+found_at : (p : Place) (ids : List (List ℕ)) (path : Path) → length ids ≡ arity p → All IsId ids → path_at p (map id_from ids) ≡ Some path
+    → path_of (joined (filled (shape_of (text_of p)) ids)) ≡ Some path
 unfolding path_of place_in
-found_at p text ss path cut fit is =
-    let entry : entry_in table (parts 47 text) ≡ Some (entry_of p) = ap (entry_in table) cut ∙ the_entry table (entry_of p) ss table_apart (among p) fit in
-    ap (λ e. path_in (value_of e) text) entry
-    ∙ ap (λ s. path_at p (map id_from (names_in (shape_of (text_of p)) s))) cut ∙ is
-
-one_fit : (v : Bool) → v ≡ true → (v && true) ≡ true
-one_fit v e = rw e refl
-
-two_fit : (v w : Bool) → v ≡ true → w ≡ true → (v && (w && true)) ≡ true
-two_fit v w e f = rw (e, f) refl
+found_at p ids path n good is =
+    let text : List ℕ = text_of p in
+    let shape : List Part = shape_of text in
+    let ss : List (List ℕ) = filled shape ids in
+    let h = fills (parts 47 text) ids (parts_free text) (n ∙ sym (braces_are p)) good in
+    let cut : parts 47 (joined ss) ≡ ss = parts_joined ss (some_fit shape ss (some_mapped (parts 47 text) (some_parts text)) h.1) h.0 in
+    let among = (fitting all_places (parts 47 text) p (own_text p)).0 in
+    let entry : entry_in table (parts 47 (joined ss)) ≡ Some (entry_of p) = ap (entry_in table) cut ∙ the_entry table (entry_of p) ss table_apart among h.1 in
+    ap (λ e. path_in (value_of e) (joined ss)) entry
+    ∙ ap (λ given. path_at p (map id_from (names_in shape given))) cut
+    ∙ ap (λ names. path_at p (map id_from names)) h.2
+    ∙ is
 
 two_read : (a b : List ℕ) → is_id a ≡ true → is_id b ≡ true → two_ids (id_from a ∷ id_from b ∷ []) ≡ Some (a, b)
 two_read a b e f =
     ap (λ o. two_ids (o ∷ id_from b ∷ [])) (id_read a e) ∙ ap (λ o. two_ids (Some a ∷ o ∷ [])) (id_read b f)
 
-first_is : (a : List ℕ) (rest : List (List ℕ)) → All (λ id. IsTrue (is_id id)) (a ∷ rest) → is_id a ≡ true
-first_is a rest h = All-head (λ id. IsTrue (is_id id)) a rest h
-
-second_is : (a b : List ℕ) → All (λ id. IsTrue (is_id id)) (a ∷ b ∷ []) → is_id b ≡ true
-second_is a b h = All-head (λ id. IsTrue (is_id id)) b [] (All-tail (λ id. IsTrue (is_id id)) a (b ∷ []) h)
-
 pub every_path : EveryPathIsFound
-every_path Programs h = found_at place.Programs (codes "/programs") ([] ∷ codes "programs" ∷ []) Programs refl refl refl
-every_path (Program id) h =
-    let is = first_is id [] h in
-    found_at place.Program (codes "/programs/" ++ id) ([] ∷ codes "programs" ∷ id ∷ []) (Program id)
-    (ap (λ z. [] ∷ codes "programs" ∷ z) (parts_one id (id_free id is)))
-    (one_fit (nat_lt 0 (length id)) (id_some id is))
-    (ap (option_map (λ i. Program i)) (id_read id is))
-every_path Events h = found_at place.Events (codes "/events") ([] ∷ codes "events" ∷ []) Events refl refl refl
-every_path (Event id) h =
-    let is = first_is id [] h in
-    found_at place.Event (codes "/events/" ++ id) ([] ∷ codes "events" ∷ id ∷ []) (Event id)
-    (ap (λ z. [] ∷ codes "events" ∷ z) (parts_one id (id_free id is)))
-    (one_fit (nat_lt 0 (length id)) (id_some id is))
-    (ap (option_map (λ i. Event i)) (id_read id is))
-every_path Reports h = found_at place.Reports (codes "/reports") ([] ∷ codes "reports" ∷ []) Reports refl refl refl
-every_path (Report id) h =
-    let is = first_is id [] h in
-    found_at place.Report (codes "/reports/" ++ id) ([] ∷ codes "reports" ∷ id ∷ []) (Report id)
-    (ap (λ z. [] ∷ codes "reports" ∷ z) (parts_one id (id_free id is)))
-    (one_fit (nat_lt 0 (length id)) (id_some id is))
-    (ap (option_map (λ i. Report i)) (id_read id is))
-every_path (Rollup id) h =
-    let is = first_is id [] h in
-    found_at place.Rollup (codes "/rollups/" ++ id) ([] ∷ codes "rollups" ∷ id ∷ []) (Rollup id)
-    (ap (λ z. [] ∷ codes "rollups" ∷ z) (parts_one id (id_free id is)))
-    (one_fit (nat_lt 0 (length id)) (id_some id is))
-    (ap (option_map (λ i. Rollup i)) (id_read id is))
-every_path Subs h = found_at place.Subs (codes "/subscriptions") ([] ∷ codes "subscriptions" ∷ []) Subs refl refl refl
-every_path (Sub id) h =
-    let is = first_is id [] h in
-    found_at place.Sub (codes "/subscriptions/" ++ id) ([] ∷ codes "subscriptions" ∷ id ∷ []) (Sub id)
-    (ap (λ z. [] ∷ codes "subscriptions" ∷ z) (parts_one id (id_free id is)))
-    (one_fit (nat_lt 0 (length id)) (id_some id is))
-    (ap (option_map (λ i. Sub i)) (id_read id is))
-every_path Notifications h = found_at place.Notifications (codes "/notifications") ([] ∷ codes "notifications" ∷ []) Notifications refl refl refl
-every_path Outbox h = found_at place.Outbox (codes "/outbox") ([] ∷ codes "outbox" ∷ []) Outbox refl refl refl
-every_path Vens h = found_at place.Vens (codes "/vens") ([] ∷ codes "vens" ∷ []) Vens refl refl refl
-every_path (Ven id) h =
-    let is = first_is id [] h in
-    found_at place.Ven (codes "/vens/" ++ id) ([] ∷ codes "vens" ∷ id ∷ []) (Ven id)
-    (ap (λ z. [] ∷ codes "vens" ∷ z) (parts_one id (id_free id is)))
-    (one_fit (nat_lt 0 (length id)) (id_some id is))
-    (ap (option_map (λ i. Ven i)) (id_read id is))
-every_path (Resources ven) h =
-    let is = first_is ven [] h in
-    found_at place.Resources (codes "/vens/" ++ (ven ++ codes "/resources")) ([] ∷ codes "vens" ∷ ven ∷ codes "resources" ∷ []) (Resources ven)
-    (ap (λ z. [] ∷ codes "vens" ∷ z) (parts_more ven (codes "resources") (id_free ven is)))
-    (one_fit (nat_lt 0 (length ven)) (id_some ven is))
-    (ap (option_map (λ i. Resources i)) (id_read ven is))
-every_path (Resource ven id) h =
-    let is_ven = first_is ven (id ∷ []) h in
-    let is = second_is ven id h in
-    found_at place.Resource (codes "/vens/" ++ (ven ++ (codes "/resources/" ++ id))) ([] ∷ codes "vens" ∷ ven ∷ codes "resources" ∷ id ∷ []) (Resource ven id)
-    (ap (λ z. [] ∷ codes "vens" ∷ z) (parts_more ven (codes "resources/" ++ id) (id_free ven is_ven) ∙ ap (λ z. ven ∷ codes "resources" ∷ z) (parts_one id (id_free id is))))
-    (two_fit (nat_lt 0 (length ven)) (nat_lt 0 (length id)) (id_some ven is_ven) (id_some id is))
-    (ap (option_map (λ both. Resource both.0 both.1)) (two_read ven id is_ven is))
-every_path (Shares id) h =
-    let is = first_is id [] h in
-    found_at place.Shares (codes "/shares/" ++ id) ([] ∷ codes "shares" ∷ id ∷ []) (Shares id)
-    (ap (λ z. [] ∷ codes "shares" ∷ z) (parts_one id (id_free id is)))
-    (one_fit (nat_lt 0 (length id)) (id_some id is))
-    (ap (option_map (λ i. Shares i)) (id_read id is))
-every_path (Share program resource) h =
-    let is_program = first_is program (resource ∷ []) h in
-    let is = second_is program resource h in
-    found_at place.Share (codes "/shares/" ++ (program ++ (codes "/" ++ resource))) ([] ∷ codes "shares" ∷ program ∷ resource ∷ []) (Share program resource)
-    (ap (λ z. [] ∷ codes "shares" ∷ z) (parts_more program resource (id_free program is_program) ∙ ap (λ z. program ∷ z) (parts_one resource (id_free resource is))))
-    (two_fit (nat_lt 0 (length program)) (nat_lt 0 (length resource)) (id_some program is_program) (id_some resource is))
-    (ap (option_map (λ both. Share both.0 both.1)) (two_read program resource is_program is))
+every_path (At root) good = found_at (Root root) [] (At root) refl good refl
+every_path (Of one id) good = found_at (One one) (id ∷ []) (Of one id) refl good (ap (option_map (λ i. Of one i)) (id_read id (All-head IsId id [] good)))
+every_path (Under two a b) good =
+    let b_is = All-head IsId b [] (All-tail IsId a (b ∷ []) good) in
+    found_at (Two two) (a ∷ b ∷ []) (Under two a b) refl good (ap (option_map (λ ids. Under two ids.0 ids.1)) (two_read a b (All-head IsId a (b ∷ []) good) b_is))
 
 -- ---- a text that is found is its path's
 
--- the shape with these names where it has any
-abbrev filled : List Part → List (List ℕ) → List (List ℕ)
-filled [] names = []
-filled (word w ∷ ps) names = w ∷ filled ps names
-filled (any ∷ ps) [] = []
-filled (any ∷ ps) (n ∷ names) = n ∷ filled ps names
-
-both : (a b : Bool) → (a && b) ≡ true → (a ≡ true) × (b ≡ true)
-both true b e = (refl, e)
-both false b e = absurd cc
-
-filled_again : (ps : List Part) (ss : List (List ℕ)) → fits ps ss ≡ true → filled ps (names_in ps ss) ≡ ss
-filled_again [] [] e = refl
-filled_again [] (s ∷ ss) e = absurd cc
-filled_again (p ∷ ps) [] e = absurd cc
-filled_again (word w ∷ ps) (s ∷ ss) e =
+again : (ps : List Part) (ss : List (List ℕ)) → fits ps ss ≡ true → (filled ps (names_in ps ss) ≡ ss) × (length (names_in ps ss) ≡ braces ps)
+again [] [] e = (refl, refl)
+again [] (s ∷ ss) e = absurd cc
+again (p ∷ ps) [] e = absurd cc
+again (word w ∷ ps) (s ∷ ss) e =
     let h = both (bytes_eq w s) (fits ps ss) e in
-    ap (λ x. x ∷ filled ps (names_in ps ss)) ((bytes_eq-Decides w s).0 h.0) ∙ ap (λ z. s ∷ z) (filled_again ps ss h.1)
-filled_again (any ∷ ps) (s ∷ ss) e =
-    let h = both (part_fits any s) (fits ps ss) e in
-    ap (λ z. s ∷ z) (filled_again ps ss h.1)
+    let rest = again ps ss h.1 in
+    (ap (λ x. x ∷ filled ps (names_in ps ss)) ((bytes_eq-Decides w s).0 h.0) ∙ ap (λ z. s ∷ z) rest.0, rest.1)
+again (any ∷ ps) (s ∷ ss) e =
+    let rest = again ps ss (both (part_fits any s) (fits ps ss) e).1 in
+    (ap (λ z. s ∷ z) rest.0, ap (λ n. suc n) rest.1)
 
-entry_fits : (places : List Place) (ss : List (List ℕ)) (p : Place) → value_of (entry_in (entries_of places) ss) ≡ Some p → fits (shape_of (text_of p)) ss ≡ true
-entry_fits [] ss p e = absurd cc
-entry_fits (q ∷ rest) ss p e = by (fits (shape_of (text_of q)) ss) refl (λ f. entry_fits rest ss p f) e
+-- the path is of this place, and of these names, which are ids
+abbrev IsMade : Place → List (List ℕ) → Path → Type 0
+IsMade p names path = (place_of path ≡ p) × (ids_of path ≡ names) × All IsId names
+
+made : (p : Place) (names : List (List ℕ)) (path : Path) → length names ≡ arity p → path_at p (map id_from names) ≡ Some path → IsMade p names path
+made (Root root) [] path n e =
+    let same : At root ≡ path = cc in
+    subst (IsMade (Root root) []) same (refl, refl, All-nil IsId)
+made (One one) (a ∷ []) path n e = by (id_from a) refl e
   where
-    by : (v : Bool) → fits (shape_of (text_of q)) ss ≡ v → (value_of (entry_in (entries_of rest) ss) ≡ Some p → fits (shape_of (text_of p)) ss ≡ true)
-        → value_of (cond v (Some (entry_of q)) (entry_in (entries_of rest) ss)) ≡ Some p → fits (shape_of (text_of p)) ss ≡ true
-    by true f ih h =
-        let same : q ≡ p = cc in
-        let P : Place → Type 0 = λ r. fits (shape_of (text_of r)) ss ≡ true in
-        subst P same f
-    by false f ih h = ih h
-
--- what is written, if the path is this one
-abbrev IsWritten : List ℕ → Path → Type 0
-IsWritten text path = (text ≡ text_at path) × HasIds path
-
-no_ids : (P : List ℕ → Type 0) → All P []
-no_ids P k d below = absurd (omega (arith, below))
-
-one_more_id : (P : List ℕ → Type 0) (a : List ℕ) (rest : List (List ℕ)) → P a → All P rest → All P (a ∷ rest)
-one_more_id P a rest h all zero d below = h
-one_more_id P a rest h all (suc k) d below = all k d (omega (arith, below))
-
-plain : (made path : Path) (text : List ℕ) → text ≡ text_at made → HasIds made → Some made ≡ Some path → IsWritten text path
-plain made path text is ids e =
-    let same : made ≡ path = cc in
-    subst (IsWritten text) same (is, ids)
-
-one_made : (made : List ℕ → Path) (name : List ℕ) (path : Path) (text : List ℕ)
-    → ((id : List ℕ) → is_id id ≡ true → id ≡ name → IsWritten text (made id))
-    → option_map made (id_from name) ≡ Some path → IsWritten text path
-one_made made name path text good e = by (id_from name) refl e
-  where
-    by : (o : Option (List ℕ)) → id_from name ≡ o → option_map made o ≡ Some path → IsWritten text path
+    by : (x : Option (List ℕ)) → id_from a ≡ x → option_map (λ id. Of one id) x ≡ Some path → IsMade (One one) (a ∷ []) path
     by None f h = absurd cc
     by (Some id) f h =
-        let r = read_id name id f in
-        let same : made id ≡ path = cc in
-        subst (IsWritten text) same (good id (ap is_id r.0 ∙ r.1) r.0)
-
-one_written : (made : List ℕ → Path) (name : List ℕ) (path : Path) (text : List ℕ)
-    → ((id : List ℕ) → ids_of (made id) ≡ id ∷ []) → text ≡ text_at (made name)
-    → option_map made (id_from name) ≡ Some path → IsWritten text path
-one_written made name path text ids is e =
-    one_made made name path text (λ id h same. (
-      is ∙ ap (λ n. text_at (made n)) (sym same),
-      subst (All (λ i. IsTrue (is_id i))) (sym (ids id)) (one_more_id (λ i. IsTrue (is_id i)) id [] h (no_ids (λ i. IsTrue (is_id i)))),
-    )) e
-
-two_written : (made : List ℕ → List ℕ → Path) (a b : List ℕ) (path : Path) (text : List ℕ)
-    → ((x y : List ℕ) → ids_of (made x y) ≡ x ∷ y ∷ []) → text ≡ text_at (made a b)
-    → option_map (λ p. made p.0 p.1) (two_ids (id_from a ∷ id_from b ∷ [])) ≡ Some path → IsWritten text path
-two_written made a b path text ids is e = by (id_from a) (id_from b) refl refl e
+        let r = read_id a id f in
+        let same : Of one id ≡ path = cc in
+        subst (IsMade (One one) (a ∷ [])) same (refl, ap (λ i. i ∷ []) r.0, All-cons IsId a [] r.1 (All-nil IsId))
+made (Two two) (a ∷ b ∷ []) path n e = by (id_from a) (id_from b) refl refl e
   where
-    P : List ℕ → Type 0
-    P i = IsTrue (is_id i)
-
-    by : (o p : Option (List ℕ)) → id_from a ≡ o → id_from b ≡ p → option_map (λ p. made p.0 p.1) (two_ids (o ∷ p ∷ [])) ≡ Some path → IsWritten text path
-    by None p f g h = absurd cc
-    by (Some x) None f g h = absurd cc
-    by (Some x) (Some y) f g h =
-        let r = read_id a x f in
-        let s = read_id b y g in
-        let same : made x y ≡ path = cc in
-        subst (IsWritten text) same (
-          is ∙ ap (λ n. text_at (made n b)) (sym r.0) ∙ ap (λ n. text_at (made x n)) (sym s.0),
-          subst (All P) (sym (ids x y)) (one_more_id P x (y ∷ []) (ap is_id r.0 ∙ r.1) (one_more_id P y [] (ap is_id s.0 ∙ s.1) (no_ids P))),
+    by : (x y : Option (List ℕ)) → id_from a ≡ x → id_from b ≡ y → option_map (λ ids. Under two ids.0 ids.1) (two_ids (x ∷ y ∷ [])) ≡ Some path
+        → IsMade (Two two) (a ∷ b ∷ []) path
+    by None y f g h = absurd cc
+    by (Some i) None f g h = absurd cc
+    by (Some i) (Some j) f g h =
+        let r = read_id a i f in
+        let s = read_id b j g in
+        let same : Under two i j ≡ path = cc in
+        subst (IsMade (Two two) (a ∷ b ∷ [])) same (
+          refl,
+          ap (λ x. x ∷ j ∷ []) r.0 ∙ ap (λ y. a ∷ y ∷ []) s.0,
+          All-cons IsId a (b ∷ []) r.1 (All-cons IsId b [] s.1 (All-nil IsId)),
         )
-
-one_missing : (made : List ℕ × List ℕ → Path) (a : List ℕ) (path : Path) → option_map made (two_ids (id_from a ∷ [])) ≡ Some path → ⊥
-one_missing made a path e = by (id_from a) e
-  where
-    by : (o : Option (List ℕ)) → option_map made (two_ids (o ∷ [])) ≡ Some path → ⊥
-    by None h = cc
-    by (Some x) h = cc
-
-written : (p : Place) (names : List (List ℕ)) (path : Path) → path_at p (map id_from names) ≡ Some path → IsWritten (joined (filled (shape_of (text_of p)) names)) path
-written place.Programs names path e = plain Programs path _ refl (no_ids (λ i. IsTrue (is_id i))) e
-written place.Program [] path e = absurd cc
-written place.Program (a ∷ rest) path e = one_written (λ i. Program i) a path _ (λ id. refl) (ap (λ z. codes "/programs/" ++ z) (append-nil a)) e
-written place.Events names path e = plain Events path _ refl (no_ids (λ i. IsTrue (is_id i))) e
-written place.Event [] path e = absurd cc
-written place.Event (a ∷ rest) path e = one_written (λ i. Event i) a path _ (λ id. refl) (ap (λ z. codes "/events/" ++ z) (append-nil a)) e
-written place.Reports names path e = plain Reports path _ refl (no_ids (λ i. IsTrue (is_id i))) e
-written place.Report [] path e = absurd cc
-written place.Report (a ∷ rest) path e = one_written (λ i. Report i) a path _ (λ id. refl) (ap (λ z. codes "/reports/" ++ z) (append-nil a)) e
-written place.Rollup [] path e = absurd cc
-written place.Rollup (a ∷ rest) path e = one_written (λ i. Rollup i) a path _ (λ id. refl) (ap (λ z. codes "/rollups/" ++ z) (append-nil a)) e
-written place.Subs names path e = plain Subs path _ refl (no_ids (λ i. IsTrue (is_id i))) e
-written place.Sub [] path e = absurd cc
-written place.Sub (a ∷ rest) path e = one_written (λ i. Sub i) a path _ (λ id. refl) (ap (λ z. codes "/subscriptions/" ++ z) (append-nil a)) e
-written place.Notifications names path e = plain Notifications path _ refl (no_ids (λ i. IsTrue (is_id i))) e
-written place.Outbox names path e = plain Outbox path _ refl (no_ids (λ i. IsTrue (is_id i))) e
-written place.Vens names path e = plain Vens path _ refl (no_ids (λ i. IsTrue (is_id i))) e
-written place.Ven [] path e = absurd cc
-written place.Ven (a ∷ rest) path e = one_written (λ i. Ven i) a path _ (λ id. refl) (ap (λ z. codes "/vens/" ++ z) (append-nil a)) e
-written place.Resources [] path e = absurd cc
-written place.Resources (a ∷ rest) path e = one_written (λ i. Resources i) a path _ (λ id. refl) refl e
-written place.Resource [] path e = absurd cc
-written place.Resource (a ∷ []) path e = absurd (one_missing (λ both. Resource both.0 both.1) a path e)
-written place.Resource (a ∷ b ∷ rest) path e = two_written (λ i j. Resource i j) a b path _ (λ x y. refl) (ap (λ z. codes "/vens/" ++ (a ++ (codes "/resources/" ++ z))) (append-nil b)) e
-written place.Shares [] path e = absurd cc
-written place.Shares (a ∷ rest) path e = one_written (λ i. Shares i) a path _ (λ id. refl) (ap (λ z. codes "/shares/" ++ z) (append-nil a)) e
-written place.Share [] path e = absurd cc
-written place.Share (a ∷ []) path e = absurd (one_missing (λ both. Share both.0 both.1) a path e)
-written place.Share (a ∷ b ∷ rest) path e = two_written (λ i j. Share i j) a b path _ (λ x y. refl) (ap (λ z. codes "/shares/" ++ (a ++ (codes "/" ++ z))) (append-nil b)) e
+made _ _ path n e = absurd (omega (arith, n))
 
 pub no_other_text : NoOtherTextIsFound
 unfolding path_of place_in
 no_other_text text path e = by (place_in text) refl e
   where
-    by : (o : Option Place) → place_in text ≡ o → path_in o text ≡ Some path → IsWritten text path
+    by : (o : Option Place) → place_in text ≡ o → path_in o text ≡ Some path → (text ≡ text_at path) × HasIds path
     by None f h = absurd cc
     by (Some p) f h =
-        let fit = entry_fits all_places (parts 47 text) p f in
-        let again : joined (filled (shape_of (text_of p)) (names_at p text)) ≡ text = ap joined (filled_again (shape_of (text_of p)) (parts 47 text) fit) ∙ joined_parts text in
-        let P : List ℕ → Type 0 = λ t. IsWritten t path in
-        subst P again (written p (names_at p text) path h)
+        let back = again (shape_of (text_of p)) (parts 47 text) (fitting all_places (parts 47 text) p f).1 in
+        let m = made p (names_at p text) path (back.1 ∙ braces_are p) h in
+        let written : text_at path ≡ text =
+        ap (λ q. joined (filled (shape_of (text_of q)) (ids_of path))) m.0
+        ∙ ap (λ ids. joined (filled (shape_of (text_of p)) ids)) m.1
+        ∙ ap joined back.0
+        ∙ joined_parts text in
+        (sym written, subst (All IsId) (sym m.1) m.2)

@@ -9,10 +9,7 @@ use Rattle.std.specs.Result.{result_ok}
 use Rattle.adr_text.specs.Ids.{is_id_byte, is_id, max_id, id_of}
 use Rattle.adr_text.specs.declared.refusal.Refusal.TheVariants.{BadShape}
 use Rattle.adr_routes.specs.Words.{text_from, id_from}
-
-both : (a b : Bool) → (a && b) ≡ true → (a ≡ true) × (b ≡ true)
-both true b e = (refl, e)
-both false b e = absurd cc
+use Rattle.adr_routes.proofs.Shapes.{both}
 
 byte_small : (b : ℕ) → is_id_byte b ≡ true → b < 128
 byte_small b e = grind (arith, nat_tests)

@@ -1,5 +1,5 @@
 -- The table of places is a good one, and its router answers by the shapes.
-use Rattle.std.proofs.Common.{◌≡◌, ℕ, ◌+◌, ◌<◌, List, [], ◌∷◌, ◌++◌, length, take, get_or, refl, sym, ◌∙◌, ap, subst, Bool, true, false, ◌&&◌, zero, suc, arith, Option, is_none, Result, Ok, Err, fold}
+use Rattle.std.proofs.Common.{◌≡◌, ℕ, ◌+◌, ◌<◌, List, [], ◌∷◌, ◌++◌, length, take, get_or, refl, sym, ◌∙◌, ap, subst, true, false, zero, suc, arith, Option, is_none, Result, Ok, Err, fold}
 use Rattle.std.proofs.lemmas.List.{take_more, map_push}
 use Rattle.matchit.proofs.OnLiterals.{matchit_on_literals}
 use Rattle.matchit.specs.Rows.{RowsOf}
@@ -11,6 +11,7 @@ use Rattle.adr_routes.specs.Paths.{place_in}
 use Rattle.adr_routes.specs.Tables.{row_added, row_of, rows_of_table, route_of, is_free, is_free_of, all_free}
 use Rattle.adr_routes.specs.Places.{entry_of, entries_of, text_of, table}
 use Rattle.adr_routes.specs.declared.place.Place.{Place}
+use Rattle.adr_routes.proofs.Shapes.{both}
 use Rattle.adr_routes.proofs.TableRows.{all_good, all_apart, places_are}
 
 pub table_good : all_good table ≡ true
@@ -82,10 +83,6 @@ pub free_refusal : (text free : List ℕ) (place : Place) (old new : RowsOf (Rou
 free_refusal text free place old new result e same is_so failed h =
     let P : Result (Unit {0}) InsertError → Type 0 = λ r. InsertsRead (parse_route text) place old new r in
     only_memory text place old new e (ap (is_free old) same ∙ is_so) (subst P failed h)
-
-both : (a b : Bool) → (a && b) ≡ true → (a ≡ true) × (b ≡ true)
-both true b e = (refl, e)
-both false b e = absurd cc
 
 free_from : (ps : List Place) (rows : RowsOf (RouteOf Place)) (i : ℕ) (d : Place) → i < length ps → all_free rows (entries_of ps) ≡ true
     → is_free (fold row_of rows (entries_of (take i ps))) (text_of (get_or ps i d)) ≡ true

@@ -1,13 +1,13 @@
 -- Patterns of shapes: a path fits a shape where the shape's pattern takes it.
-use Rattle.std.proofs.Common.{◌≡◌, ◌≢◌, ℕ, ◌<◌, List, [], ◌∷◌, ◌++◌, length, Bool, true, false, cond, ◌&&◌, refl, sym, ap, subst, ◌∙◌, arith, ◌==◌, nat_lt, append-nil, not}
+use Rattle.std.proofs.Common.{◌≡◌, ◌≢◌, ℕ, ◌<◌, List, [], ◌∷◌, ◌++◌, length, map, Bool, true, false, cond, ◌&&◌, refl, sym, ap, subst, ◌∙◌, arith, ◌==◌, nat_lt, append-nil, not}
 use Rattle.std.specs.Bool.{⊤}
 use Rattle.std.specs.List.{list_all}
 use Rattle.std.proofs.lemmas.Bool.Decides.{nat_tests}
 use Rattle.std.proofs.lemmas.Slice.Eq.{bytes_eq-Decides}
 use Rattle.matchit.specs.Seek.{has_slash}
-use Rattle.std.specs.List.{onto_first}
+use Rattle.std.specs.List.{onto_first, flat_map}
 use Rattle.adr_wire.specs.Cuts.{parts}
-use Rattle.adr_routes.specs.Shapes.{Part, word, any, part_fits, fits}
+use Rattle.adr_routes.specs.Shapes.{Part, word, any, part_fits, fits, joined}
 use Rattle.adr_routes.proofs.Seeking.{Takes, done, byte, run, AtSlash, IsWhole}
 
 -- a shape's pattern
@@ -15,22 +15,15 @@ abbrev pub tokens : Part → List ℕ
 tokens (word w) = w
 tokens any = 256 ∷ []
 
+-- further parts
+abbrev pub more : List (List ℕ) → List ℕ
+more ss = flat_map (λ s. 47 ∷ s) ss
+
 abbrev pub further : List Part → List ℕ
-further [] = []
-further (p ∷ ps) = 47 ∷ (tokens p ++ further ps)
+further ps = more (map tokens ps)
 
 abbrev pub pattern : List Part → List ℕ
-pattern [] = []
-pattern (p ∷ ps) = tokens p ++ further ps
-
--- parts joined again
-abbrev pub more : List (List ℕ) → List ℕ
-more [] = []
-more (s ∷ ss) = 47 ∷ (s ++ more ss)
-
-abbrev pub joined : List (List ℕ) → List ℕ
-joined [] = []
-joined (s ∷ ss) = s ++ more ss
+pattern ps = joined (map tokens ps)
 
 abbrev pub AreSlashFree : List (List ℕ) → Type 0
 AreSlashFree [] = ⊤
@@ -44,7 +37,7 @@ abbrev pub is_word : Part → Bool
 is_word (word w) = list_all is_byte w
 is_word any = true
 
-both : (a b : Bool) → (a && b) ≡ true → (a ≡ true) × (b ≡ true)
+pub both : (a b : Bool) → (a && b) ≡ true → (a ≡ true) × (b ≡ true)
 both true b e = (refl, e)
 both false b e = absurd cc
 
@@ -106,6 +99,11 @@ parts_one (x ∷ s) e = let h = head_not x s e in rw h.0 (ap (onto_first x) (par
 pub parts_more : (s r : List ℕ) → has_slash s ≡ false → parts 47 (s ++ 47 ∷ r) ≡ s ∷ parts 47 r
 parts_more [] r e = refl
 parts_more (x ∷ s) r e = let h = head_not x s e in rw h.0 (ap (onto_first x) (parts_more s r h.1))
+
+pub parts_joined : (ss : List (List ℕ)) → 0 < length ss → AreSlashFree ss → parts 47 (joined ss) ≡ ss
+parts_joined [] some free = absurd (omega (arith, some))
+parts_joined (s ∷ []) some free = ap (parts 47) (append-nil s) ∙ parts_one s free.0
+parts_joined (s ∷ t ∷ ss) some free = parts_more s (joined (t ∷ ss)) free.0 ∙ ap (λ z. s ∷ z) (parts_joined (t ∷ ss) (omega arith) free.1)
 
 -- ---- a path that fits is taken
 

@@ -12,11 +12,7 @@ use Rattle.adr_wire.specs.Cuts.{parts}
 use Rattle.adr_routes.specs.Shapes.{Part, word, any, part_fits, fits, part_of, shape_of, entry_in, value_of, value_in}
 use Rattle.adr_routes.specs.Tables.{row_added, row_of, rows_of_table, route_value, route_of}
 use Rattle.adr_routes.proofs.Seeking.{Has, AreWhole, IsWhole, Takes, found, taken}
-use Rattle.adr_routes.proofs.Shapes.{pattern, is_word, fits_takes, takes_fits, whole_pattern, some_parts}
-
-both : (a b : Bool) → (a && b) ≡ true → (a ≡ true) × (b ≡ true)
-both true b e = (refl, e)
-both false b e = absurd cc
+use Rattle.adr_routes.proofs.Shapes.{both, pattern, is_word, fits_takes, takes_fits, whole_pattern, some_parts}
 
 -- ---- two shapes that no path has
 
@@ -59,7 +55,7 @@ once (p ∷ ps) (q ∷ qs) (s ∷ ss) far x y =
     by rest true e f = part_once p q s e (both (part_fits p s) (fits ps ss) x).0 (both (part_fits q s) (fits qs ss) y).0
     by rest false e f = rest f
 
-some_mapped : (ss : List (List ℕ)) → 0 < length ss → 0 < length (map part_of ss)
+pub some_mapped : (ss : List (List ℕ)) → 0 < length ss → 0 < length (map part_of ss)
 some_mapped [] l = l
 some_mapped (s ∷ ss) l = omega arith
 

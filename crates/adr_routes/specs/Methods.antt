@@ -2,7 +2,7 @@
 use Rattle.std.specs.Prelude.{ℕ, Bool, true, false, List, codes, bytes_eq, if◌then◌else◌}
 use Rattle.adr_routes.specs.declared.methods.Methods.{Methods}
 
--- the word is one of the four, and it is taken
+-- the word is one of the four, GET, POST, PUT or DELETE, and it is taken
 abbrev pub has : Methods → List ℕ → Bool
 has methods method =
     if bytes_eq method (codes "GET") then methods.get

@@ -1,5 +1,6 @@
 -- The shape of a path: how many parts it has between its slashes, and what each may be.
-use Rattle.std.specs.Prelude.{ℕ, Bool, ◌&&◌, ◌==◌, true, false, List, [], ◌∷◌, length, map, nat_lt, if◌then◌else◌, bytes_eq, Option, Some, None}
+use Rattle.std.specs.Prelude.{ℕ, Bool, ◌&&◌, ◌==◌, true, false, List, [], ◌∷◌, ◌++◌, length, map, nat_lt, if◌then◌else◌, bytes_eq, Option, Some, None}
+use Rattle.std.specs.List.{flat_map}
 use Rattle.adr_wire.specs.Cuts.{parts}
 
 -- a part that is this word, or any part that is not empty
@@ -12,11 +13,13 @@ abbrev pub part_of : List ℕ → Part
 part_of [] = word []
 part_of (b ∷ rest) = if b == 123 then any else word (b ∷ rest)
 
+-- the part stands for any that is not empty
 abbrev pub is_any : Part → Bool
 is_any (word w) = false
 is_any any = true
 
--- what stands before the first slash is a part too, so a path that begins with one has an empty first part
+-- the parts of a text between its slashes: what stands before the first slash is a part too, so a path that begins
+-- with one has an empty first part
 abbrev pub shape_of : List ℕ → List Part
 shape_of text = map part_of (parts 47 text)
 
@@ -41,6 +44,18 @@ names_in [] ss = []
 names_in (p ∷ ps) [] = []
 names_in (word w ∷ ps) (s ∷ ss) = names_in ps ss
 names_in (any ∷ ps) (s ∷ ss) = s ∷ names_in ps ss
+
+-- the shape's words, and these where it has any
+abbrev pub filled : List Part → List (List ℕ) → List (List ℕ)
+filled [] names = []
+filled (word w ∷ ps) names = w ∷ filled ps names
+filled (any ∷ ps) [] = []
+filled (any ∷ ps) (n ∷ names) = n ∷ filled ps names
+
+-- the path that has these parts
+abbrev pub joined : List (List ℕ) → List ℕ
+joined [] = []
+joined (s ∷ ss) = s ++ flat_map (λ next. 47 ∷ next) ss
 
 module _ {T : Type 0} where
   -- the first entry of a table whose text has these parts' shape

@@ -13,6 +13,7 @@ module _ {T : Type 0} where
   row_added rows value (Ok s) = placed (s.pattern, route_from s value) rows
   row_added rows value (Err e) = rows
 
+  -- the rows with one text more, where it is read; else as they were
   abbrev pub row_of : RowsOf (RouteOf T) → List ℕ × T → RowsOf (RouteOf T)
   row_of rows entry = row_added rows entry.1 (parse_route entry.0)
 
@@ -33,6 +34,7 @@ module _ {T : Type 0} where
   is_free_of rows (Ok s) = is_none (nearest s.pattern rows)
   is_free_of rows (Err e) = false
 
+  -- a text is read, and stands against no row that is there
   unfoldable pub is_free : RowsOf (RouteOf T) → List ℕ → Bool
   is_free rows text = is_free_of rows (parse_route text)
 

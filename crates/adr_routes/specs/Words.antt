@@ -4,7 +4,7 @@ use Rattle.std.specs.Result.{result_ok}
 use Rattle.std.specs.Str.{is_utf8}
 use Rattle.adr_text.specs.Ids.{id_of}
 
--- the bytes, where they are text
+-- the bytes, where they are text: UTF-8
 unfoldable pub text_from : List ℕ → Option (List ℕ)
 text_from bytes = if is_utf8 bytes then Some bytes else None
 

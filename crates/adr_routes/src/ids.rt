@@ -44,26 +44,8 @@ pub(crate) fn path_at(
     ensures { IfOk result (λ path. path ≡ path_at place (map id_from (map (λ s. s.now) names.now))) }
 {
     match place {
-        Place::Programs => Ok(Some(Path::Programs)),
-        Place::Program => Ok(one_id(alloc, names)?.map(Path::Program)),
-        Place::Events => Ok(Some(Path::Events)),
-        Place::Event => Ok(one_id(alloc, names)?.map(Path::Event)),
-        Place::Reports => Ok(Some(Path::Reports)),
-        Place::Report => Ok(one_id(alloc, names)?.map(Path::Report)),
-        Place::Rollup => Ok(one_id(alloc, names)?.map(Path::Rollup)),
-        Place::Subs => Ok(Some(Path::Subs)),
-        Place::Sub => Ok(one_id(alloc, names)?.map(Path::Sub)),
-        Place::Notifications => Ok(Some(Path::Notifications)),
-        Place::Outbox => Ok(Some(Path::Outbox)),
-        Place::Vens => Ok(Some(Path::Vens)),
-        Place::Ven => Ok(one_id(alloc, names)?.map(Path::Ven)),
-        Place::Resources => Ok(one_id(alloc, names)?.map(Path::Resources)),
-        Place::Resource => {
-            Ok(two_ids(alloc, names)?.map(|(ven, id)| Path::Resource { ven, id }))
-        }
-        Place::Shares => Ok(one_id(alloc, names)?.map(Path::Shares)),
-        Place::Share => {
-            Ok(two_ids(alloc, names)?.map(|(program, resource)| Path::Share { program, resource }))
-        }
+        Place::Root(root) => Ok(Some(Path::At(root))),
+        Place::One(one) => Ok(one_id(alloc, names)?.map(|id| Path::Of(one, id))),
+        Place::Two(two) => Ok(two_ids(alloc, names)?.map(|(a, b)| Path::Under(two, a, b))),
     }
 }

@@ -12,6 +12,6 @@ mod words;
 
 pub use methods::Methods;
 pub use path::{Path, place_of};
-pub use place::{Place, methods_of, text_of};
+pub use place::{One, Place, Root, Two, methods_of, text_of};
 pub use routes::Routes;
 pub use words::{id_from, text_from};

@@ -11,6 +11,30 @@ pub struct Methods {
     pub delete: bool,
 }
 
+const NONE: Methods = Methods {
+    get: false,
+    post: false,
+    put: false,
+    delete: false,
+};
+
+pub(crate) const GET: Methods = Methods { get: true, ..NONE };
+
+pub(crate) const POST: Methods = Methods { post: true, ..NONE };
+
+pub(crate) const GET_POST: Methods = Methods { get: true, ..POST };
+
+pub(crate) const PUT_DELETE: Methods = Methods {
+    put: true,
+    delete: true,
+    ..NONE
+};
+
+pub(crate) const GET_PUT_DELETE: Methods = Methods {
+    get: true,
+    ..PUT_DELETE
+};
+
 impl Methods {
     /// Whether the word is `GET`, `POST`, `PUT` or `DELETE`, and that method is taken. Capitals matter.
     pub fn has(self, method: &[u8]) -> bool

@@ -7,7 +7,7 @@ ghost use Rattle.adr_routes.specs.Paths.{place_in, path_of};
 use crate::ids::path_at;
 use crate::names::names_in;
 use crate::path::Path;
-use crate::place::{Place, text_of};
+use crate::place::{One, Place, Root, Two, text_of};
 use matchit::{InsertError, Router};
 use std::alloc::{AllocError, Global};
 
@@ -56,23 +56,23 @@ impl Routes {
     /// The routes of all places. Only memory can fail them.
     pub fn new(alloc: Global) -> Result<Routes, AllocError> {
         let places = [
-            Place::Programs,
-            Place::Program,
-            Place::Events,
-            Place::Event,
-            Place::Reports,
-            Place::Report,
-            Place::Rollup,
-            Place::Subs,
-            Place::Sub,
-            Place::Notifications,
-            Place::Outbox,
-            Place::Vens,
-            Place::Ven,
-            Place::Resources,
-            Place::Resource,
-            Place::Shares,
-            Place::Share,
+            Place::Root(Root::Programs),
+            Place::One(One::Program),
+            Place::Root(Root::Events),
+            Place::One(One::Event),
+            Place::Root(Root::Reports),
+            Place::One(One::Report),
+            Place::One(One::Rollup),
+            Place::Root(Root::Subs),
+            Place::One(One::Sub),
+            Place::Root(Root::Notifications),
+            Place::Root(Root::Outbox),
+            Place::Root(Root::Vens),
+            Place::One(One::Ven),
+            Place::One(One::Resources),
+            Place::Two(Two::Resource),
+            Place::One(One::Shares),
+            Place::Two(Two::Share),
         ];
         let router = router_of(alloc, &places)?;
         Ok(Routes { router })

@@ -20,6 +20,7 @@ use Rattle.adr_objects.specs.Fields.{text_in, priority_in, setpoint_in, period_i
 abbrev pub text_at : List ℕ → Data → Result (List ℕ) Fault
 text_at name d = required (member_of name d) text_of
 
+-- the member `type`, which has to be there and be a text
 abbrev pub type_in : Data → Result (List ℕ) Fault
 type_in d = text_at (codes "type") d
 
@@ -74,6 +75,7 @@ only_value type d = do
 unfoldable pub payloads_in : Data → Result (Option ℤ) Fault
 payloads_in d = only_value (codes "DISPATCH_SETPOINT") d >>= λ value. optional value setpoint_in
 
+-- the type of the target is `RESOURCE_NAME`
 abbrev pub resource_target : Data → Bool
 resource_target d = is_of_type (codes "RESOURCE_NAME") d
 
@@ -97,6 +99,8 @@ abbrev pub names_among : List Data → Result (Option (List (List ℕ))) Fault
 names_among targets =
     if list_any resource_target targets then names_of_targets (filter resource_target targets) else Ok None
 
+-- the set of the names that the resource targets list, where there is such a target, of a list of objects with a type
+-- each
 unfoldable pub targets_in : Data → Result (Option (List (List ℕ))) Fault
 targets_in d = typed_in d >>= names_among
 
@@ -122,6 +126,7 @@ intervals_from before (d ∷ ds) = do
   is ← intervals_from (before ++ i ∷ []) ds
   Ok (i ∷ is)
 
+-- at most 1,000 objects, read as intervals in turn, where no id is used twice
 unfoldable pub intervals_in : Data → Result (List Interval) Fault
 intervals_in d = do
   ds ← objects_in d
@@ -129,6 +134,8 @@ intervals_in d = do
 
 -- ---- the body
 
+-- the body of an event: `programID`, which has to be there, `eventName`, `priority`, `intervalPeriod`, `targets` and
+-- `intervals` are read in this order, and the first fault gives the reason
 unfoldable pub event_in : Data → Result EventBody Fault
 event_in d = do
   program ← required (member_of (codes "programID") d) id_in

@@ -17,7 +17,7 @@ IsSmall number = IfSome number (λ amount. IsTrue (is_setpoint amount))
 abbrev pub HaveOwnIds : {A : Type 0} → (A → ℤ) → List A → Type 0
 HaveOwnIds {A} id_of items = (before between after : List A) (x y : A) → items ≡ before ++ x ∷ (between ++ y ∷ after) → id_of x ≡ id_of y → ⊥
 
--- the setpoints of an event that is read are small
+-- the setpoints of an event that is read are small: each has a magnitude of at most 10^12
 abbrev pub SetpointsAreSmall : Type 0
 SetpointsAreSmall = (d : Data) (e : EventBody) → event_in d ≡ Ok e → All (λ i. IsSmall i.setpoint) e.intervals
 
@@ -25,7 +25,7 @@ SetpointsAreSmall = (d : Data) (e : EventBody) → event_in d ≡ Ok e → All (
 abbrev pub IntervalsDiffer : Type 0
 IntervalsDiffer = (d : Data) (e : EventBody) → event_in d ≡ Ok e → HaveOwnIds (λ i. i.id) e.intervals
 
--- the usage in a report that is read is small
+-- the usage in a report that is read is small: each has a magnitude of at most 10^12
 abbrev pub UsageIsSmall : Type 0
 UsageIsSmall = (bytes : List ℕ) (r : ReportIn) → report_of bytes ≡ Ok r → All (λ i. IsSmall i.usage) r.intervals
 

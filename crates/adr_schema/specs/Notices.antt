@@ -23,6 +23,7 @@ is_operation text = bytes_eq text (codes "GET") || bytes_eq text (codes "POST") 
 abbrev pub operation_of : List ℕ → Result (List ℕ) Fault
 operation_of text = if is_operation text then Ok text else Err BadShape
 
+-- the member `operation`, which is one of the four words
 abbrev pub operation_in : Data → Result (List ℕ) Fault
 operation_in d = text_at (codes "operation") d >>= operation_of
 
@@ -52,6 +53,7 @@ told_of None operation about = Ok Ignored
 told_of (Some kind) operation about =
     if bytes_eq operation (codes "DELETE") then gone_in kind about else version_in kind about
 
+-- what a notification tells, where `objectType`, `operation` and `object` are read in this order
 unfoldable pub notice_in : Data → Result NoticeIn Fault
 notice_in d = do
   type ← text_at (codes "objectType") d
@@ -59,6 +61,7 @@ notice_in d = do
   about ← object_in d
   told_of (kind_named type) operation about
 
--- what the notification that the bytes are tells
+-- what the notification that the bytes are tells: that a program or an event is gone, a version of it, or nothing
+-- where its kind is not mirrored, or the refusal
 unfoldable pub notice_of : List ℕ → Result NoticeIn Refusal
 notice_of bytes = as_refusal (bytes_as notice_in bytes)

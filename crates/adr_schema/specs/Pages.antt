@@ -26,7 +26,8 @@ abbrev pub program_body : Result (List ℕ) Fault → Body
 program_body (Ok name) = Program name
 program_body (Err e) = Opaque reason.BadShape
 
--- the reason that a fault is. Want of memory is none: a body is read with memory or not at all.
+-- why a body is kept unread: the reason that a fault is. Want of memory is none: a body is read with memory or not at
+-- all.
 abbrev pub reason_of : Fault → Reason
 reason_of fault.OutOfMemory = reason.BadShape
 reason_of fault.Fraction = reason.Fraction
@@ -35,6 +36,7 @@ reason_of fault.Repeated = reason.Repeated
 reason_of fault.OutOfRange = reason.OutOfRange
 reason_of fault.BadShape = reason.BadShape
 
+-- an event, or a body that is kept unread with the reason that its fault is
 abbrev pub event_body : Result EventBody Fault → Body
 event_body (Ok event) = Event event
 event_body (Err e) = Opaque (reason_of e)
@@ -48,7 +50,7 @@ body_in kind.Event d = event_body (event_in d)
 abbrev pub upstream_id_in : Data → Result (List ℕ) Fault
 upstream_id_in d = text_at (codes "id") d >>= upstream_id_of
 
--- the version that an element is
+-- the version that an element is: an object with an object id of at most 100 bytes and a moment, whatever it says
 unfoldable pub found_in : Kind → Data → Result Found Fault
 found_in kind d = do
   id ← upstream_id_in d
@@ -71,10 +73,11 @@ founds_and_skipped kind ds = (founds kind ds, skipped kind ds)
 abbrev pub page_in : Kind → Data → Result (List Found × ℕ) Fault
 page_in kind d = items_in d >>= λ ds. Ok (founds_and_skipped kind ds)
 
--- the page that the bytes are
+-- the versions on the page that the bytes are and how many of its elements are none, or the refusal of what is no
+-- JSON array
 unfoldable pub page_of : Kind → List ℕ → Result (List Found × ℕ) Refusal
 page_of kind bytes = as_refusal (bytes_as (page_in kind) bytes)
 
--- the one version that the bytes are
+-- the one version that the bytes are, or the refusal of what a page would skip or of what is no JSON
 unfoldable pub version_of : Kind → List ℕ → Result Found Refusal
 version_of kind bytes = as_refusal (bytes_as (found_in kind) bytes)

@@ -29,6 +29,7 @@ number_as Beyond = Ok Beyond
 number_as Fraction = Ok Fraction
 number_as NoNumber = Err BadShape
 
+-- a number, whole or not, else the wrong shape
 abbrev pub number_in : Data → Result Whole Fault
 number_in d = number_as (whole_of d)
 
@@ -36,6 +37,7 @@ number_in d = number_as (whole_of d)
 unfoldable pub usage_in : Data → Result (Option Whole) Fault
 usage_in d = only_value (codes "USAGE") d >>= λ value. optional value number_in
 
+-- an id in 32 bits, and payloads, which have to be there, with the usage that they say, where they say one
 unfoldable pub posted_interval_in : Data → Result PostedInterval Fault
 posted_interval_in d = do
   id ← required (member_of (codes "id") d) i32_in
@@ -52,6 +54,8 @@ posted_intervals_in d = do
 abbrev pub resource_of_report : Data → Result Data Fault
 resource_of_report d = required (member_of (codes "resources") d) objects_in >>= one_of
 
+-- the shape of a report: ids, names and one resource, whose intervals have ids of their own, with at most one `USAGE`
+-- each, which is one number, whatever number
 unfoldable pub posted_report_in : Data → Result PostedReport Fault
 posted_report_in d = do
   program ← required (member_of (codes "programID") d) id_in
@@ -81,6 +85,7 @@ usage_intervals (p ∷ ps) = do
   is ← usage_intervals ps
   Ok (i ∷ is)
 
+-- the report of that shape, where its numbers are whole and of a magnitude of at most 10^12
 abbrev pub report_from : PostedReport → Result ReportIn Fault
 report_from posted = do
   intervals ← usage_intervals posted.intervals
@@ -88,6 +93,6 @@ report_from posted = do
 
 -- ---- both
 
--- the report that the bytes are: whatever is at fault in its shape goes before its numbers
+-- the report that the bytes are: whatever is at fault in its shape is 14 and goes before its numbers, which are 15
 unfoldable pub report_of : List ℕ → Result ReportIn Refusal
 report_of bytes = as_bad_shape (bytes_as posted_report_in bytes) >>= λ posted. as_refusal (report_from posted)

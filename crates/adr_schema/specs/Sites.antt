@@ -13,27 +13,32 @@ use Rattle.adr_schema.specs.Bytes.{bytes_as}
 use Rattle.adr_objects.specs.Limits.{resource_name_of}
 use Rattle.adr_schema.specs.Events.{text_at}
 
+-- a ven: a `venName` of 1 to 128 bytes
 unfoldable pub ven_in : Data → Result VenIn Fault
 ven_in d = do
   name ← required (member_of (codes "venName") d) name_in
   Ok (record { name = name })
 
+-- a resource: a `resourceName` of 1 to 128 bytes, but not `AGGREGATED_REPORT`
 unfoldable pub resource_in : Data → Result ResourceIn Fault
 resource_in d = do
   name ← text_at (codes "resourceName") d >>= resource_name_of
   Ok (record { name = name })
 
+-- a share: a whole number from 0 to 2^32 - 1
 unfoldable pub share_in : Data → Result ShareIn Fault
 share_in d = do
   share ← required (member_of (codes "share") d) u32_in
   Ok (record { share = share })
 
--- what the bytes are as each of them, or the refusal of who posts them
+-- the ven that the bytes are, or the refusal of who posts them
 unfoldable pub ven_of : List ℕ → Result VenIn Refusal
 ven_of bytes = as_refusal (bytes_as ven_in bytes)
 
+-- the resource that the bytes are, or the refusal of who posts them
 unfoldable pub resource_of : List ℕ → Result ResourceIn Refusal
 resource_of bytes = as_refusal (bytes_as resource_in bytes)
 
+-- the share that the bytes are, or the refusal of who posts them
 unfoldable pub share_of : List ℕ → Result ShareIn Refusal
 share_of bytes = as_refusal (bytes_as share_in bytes)

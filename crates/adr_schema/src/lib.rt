@@ -20,7 +20,9 @@ pub use adr_objects::{
     read_canonical,
 };
 pub use notice::NoticeIn;
-pub use read_found::{read_one, read_page};
+pub use read_found::{read_one, read_page, reason_of};
 pub use read_notices::read_notice;
 pub use read_reports::read_report;
 pub use read_site::{read_resource, read_share, read_ven};
+pub use read_targets::{is_resource_target, names_of_target, names_resources};
+pub use read_typed::{is_of_type, only_of_type, text_at, typed, value_of, values_of};

@@ -1,11 +1,11 @@
 //! Upstream objects, one or a page of them, read from JSON.
-ghost use Rattle.std.specs.Prelude.{codes, map, Ok};
+ghost use Rattle.std.specs.Prelude.{◌≡◌, codes, map, Ok};
 ghost use Rattle.serde_json.specs.View.{view};
 ghost use Rattle.adr_text.specs.Faults.{Finds};
 ghost use Rattle.adr_text.specs.Refusals.{Gives};
 ghost use Rattle.adr_text.specs.Fields.{member_of, required, name_in};
 ghost use Rattle.adr_schema.specs.Events.{event_in};
-ghost use Rattle.adr_schema.specs.Pages.{upstream_id_in, program_body, event_body, body_in, found_in, founds_and_skipped, page_in, page_of, version_of};
+ghost use Rattle.adr_schema.specs.Pages.{upstream_id_in, program_body, reason_of, event_body, body_in, found_in, founds_and_skipped, page_in, page_of, version_of};
 
 use crate::read_event::event;
 use crate::read_site::told;
@@ -34,6 +34,19 @@ fn program_body(alloc: Global, value: &Value) -> Result<Body, Fault>
     }
 }
 
+/// The reason that is kept of a fault in an event.
+pub fn reason_of(fault: Fault) -> Reason
+    ensures { result ≡ reason_of fault }
+{
+    match fault {
+        Fault::Fraction => Reason::Fraction,
+        Fault::NotOne => Reason::NotOne,
+        Fault::Repeated => Reason::Repeated,
+        Fault::OutOfRange => Reason::OutOfRange,
+        Fault::OutOfMemory | Fault::BadShape => Reason::BadShape,
+    }
+}
+
 // What an event says. A fault in it is a body too, of which the reason is kept.
 fn event_body(alloc: Global, value: &Value) -> Result<Body, Fault>
     ensures { Finds (λ b. b) result (Ok (event_body (event_in (view value.now)))) }
@@ -41,11 +54,7 @@ fn event_body(alloc: Global, value: &Value) -> Result<Body, Fault>
     match event(alloc, value) {
         Ok(event) => Ok(Body::Event(event)),
         Err(Fault::OutOfMemory) => Err(Fault::OutOfMemory),
-        Err(Fault::Fraction) => Ok(Body::Opaque(Reason::Fraction)),
-        Err(Fault::NotOne) => Ok(Body::Opaque(Reason::NotOne)),
-        Err(Fault::Repeated) => Ok(Body::Opaque(Reason::Repeated)),
-        Err(Fault::OutOfRange) => Ok(Body::Opaque(Reason::OutOfRange)),
-        Err(Fault::BadShape) => Ok(Body::Opaque(Reason::BadShape)),
+        Err(fault) => Ok(Body::Opaque(reason_of(fault))),
     }
 }
 

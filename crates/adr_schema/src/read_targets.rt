@@ -27,20 +27,22 @@ impl Model for Targets {
     ghost view = { λ a. a.names };
 }
 
-fn is_resource_target(target: &Value) -> bool
+/// Whether a target names resources.
+pub fn is_resource_target(target: &Value) -> bool
     ensures { result ≡ resource_target (view target.now) }
 {
     is_of_type(target, "RESOURCE_NAME")
 }
 
-fn names_resources(targets: &[Value]) -> bool
+/// Whether one of the targets names resources.
+pub fn names_resources(targets: &[Value]) -> bool
     ensures { result ≡ list_any (λ t. resource_target (view t)) targets.now }
 {
     targets.iter().any(|t| is_resource_target(t))
 }
 
-// The names of one target.
-fn names_of_target(alloc: Global, target: &Value) -> Result<Vec<Name>, Fault>
+/// The names of one target.
+pub fn names_of_target(alloc: Global, target: &Value) -> Result<Vec<Name>, Fault>
     ensures { Finds (λ v. v.items) result (names_of_target (view target.now)) }
 {
     all(alloc, values_of(target)?)

@@ -7,8 +7,8 @@ ghost use Rattle.adr_schema.specs.Events.{is_of_type, only_one, text_at, typed_a
 use adr_text::{Fault, list, member, objects, text};
 use serde_json::Value;
 
-// A member that is a text.
-pub(crate) fn text_at<'v>(value: &'v Value, name: &str) -> Result<&'v str, Fault>
+/// A member that is a text.
+pub fn text_at<'v>(value: &'v Value, name: &str) -> Result<&'v str, Fault>
     ensures { Finds (λ t. t.now) result (text_at name.now (view value.now)) }
 {
     match member(value, name) {
@@ -28,16 +28,16 @@ fn with_types(values: &[Value]) -> Result<&[Value], Fault>
     Ok(values)
 }
 
-// A list of objects with a type each.
+/// A list of objects with a type each.
 #[tactic(auto, unfolding(crate::specs::Events::typed_in))]
-pub(crate) fn typed(value: &Value) -> Result<&[Value], Fault>
+pub fn typed(value: &Value) -> Result<&[Value], Fault>
     ensures { Finds (λ vs. map view vs.now) result (typed_in (view value.now)) }
 {
     with_types(objects(value)?)
 }
 
-// Whether the object's type is that text.
-pub(crate) fn is_of_type(value: &Value, text: &str) -> bool
+/// Whether the object's type is that text.
+pub fn is_of_type(value: &Value, text: &str) -> bool
     ensures { result ≡ is_of_type text.now (view value.now) }
 {
     match member(value, "type") {
@@ -49,8 +49,8 @@ pub(crate) fn is_of_type(value: &Value, text: &str) -> bool
     }
 }
 
-// The one value of that type, if there is one; `NotOne` where there are more.
-pub(crate) fn only_of_type<'v>(values: &'v [Value], text: &str) -> Result<Option<&'v Value>, Fault>
+/// The one value of that type, if there is one; `NotOne` where there are more.
+pub fn only_of_type<'v>(values: &'v [Value], text: &str) -> Result<Option<&'v Value>, Fault>
     ensures { Finds (option_map (λ v. view v.now)) result
         (only_one (filter (is_of_type text.now) (map view values.now))) }
 {
@@ -66,8 +66,8 @@ pub(crate) fn only_of_type<'v>(values: &'v [Value], text: &str) -> Result<Option
     Ok(only)
 }
 
-// The values of a payload or a target.
-pub(crate) fn values_of(value: &Value) -> Result<&[Value], Fault>
+/// The values of a payload or a target.
+pub fn values_of(value: &Value) -> Result<&[Value], Fault>
     ensures { Finds (λ vs. map view vs.now) result (values_in (view value.now)) }
 {
     match member(value, "values") {
@@ -86,8 +86,8 @@ pub(crate) fn one_of(values: &[Value]) -> Result<&Value, Fault>
     }
 }
 
-// The one value of a payload.
-fn value_of(payload: &Value) -> Result<&Value, Fault>
+/// The one value of a payload.
+pub fn value_of(payload: &Value) -> Result<&Value, Fault>
     ensures { Finds (λ v. view v.now) result (value_of (view payload.now)) }
 {
     one_of(values_of(payload)?)

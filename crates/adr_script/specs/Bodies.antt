@@ -29,6 +29,7 @@ reply_line reply = decimal reply.status ++ (codes " " ++ (reply.body ++ codes "\
 unfoldable pub changes_line : ℕ → ℕ → List ℕ
 changes_line changes skipped = codes "changes " ++ (decimal changes ++ (codes " skipped " ++ (decimal skipped ++ codes "\n")))
 
+-- what a line of another form prints
 unfoldable pub bad_line : List ℕ
 bad_line = codes "bad line\n"
 
@@ -40,9 +41,11 @@ refused_line r = codes "refused " ++ (decimal (number_of r) ++ (codes " " ++ (ti
 unfoldable pub count_line : ℕ → List ℕ
 count_line changes = codes "changes " ++ (decimal changes ++ codes "\n")
 
+-- what a step of the node prints that has nothing else to tell
 unfoldable pub done_line : List ℕ
 done_line = codes "done\n"
 
+-- `programs` or `events`
 abbrev pub kind_word : Kind → List ℕ
 kind_word kind.Program = codes "programs"
 kind_word kind.Event = codes "events"
@@ -62,6 +65,7 @@ probes_line keys = codes "probes" ++ keys_text keys ++ codes "\n"
 unfoldable pub destination_word : ℕ → List ℕ
 destination_word destination = if destination == 0 then codes "upstream" else sub_id destination
 
+-- `POST` or `PUT`
 unfoldable pub method_word : JobMethod → List ℕ
 method_word Post = codes "POST"
 method_word Put = codes "PUT"
@@ -75,6 +79,7 @@ unfoldable pub job_line : Job → List ℕ
 job_line job =
     codes "job " ++ (decimal job.entry ++ (codes " " ++ (decimal job.lease ++ (codes " " ++ (sending_words job ++ (codes " " ++ (job.body ++ codes "\n")))))))
 
+-- what is printed where nothing is to be sent
 unfoldable pub no_job_line : List ℕ
 no_job_line = codes "job none\n"
 

@@ -41,6 +41,7 @@ probes_step digits = if nat_le (length digits) 9 then option_map (λ limit. aske
 abbrev pub lease_words : List ℕ → List ℕ × Option (List ℕ) → Option (ℕ × ℕ × Option (List ℕ))
 lease_words entry (lease, word) = option_and_then (λ e. option_map (λ l. (e, l, word)) (number_from lease)) (number_from entry)
 
+-- an entry and its lease by their numbers, and what stands behind them, where something does
 abbrev pub lease_named : List ℕ × Option (List ℕ) → Option (ℕ × ℕ × Option (List ℕ))
 lease_named words = option_and_then (λ rest. lease_words words.0 (cut 32 rest)) words.1
 
@@ -49,6 +50,7 @@ abbrev pub sent_asked : ℕ × ℕ × Option (List ℕ) → Option Asked
 sent_asked (entry, lease, None) = Some (asked.Command (Sent entry lease None))
 sent_asked (entry, lease, Some word) = option_map (λ id. asked.Command (Sent entry lease (Some id))) (id_from word)
 
+-- what the words behind `sent` ask: that an entry was sent under its lease, with the utility's id where one is said
 abbrev pub sent_step : List ℕ × Option (List ℕ) → Option Asked
 sent_step words = option_and_then sent_asked (lease_named words)
 
@@ -57,6 +59,7 @@ abbrev pub failed_asked : ℕ × ℕ × Option (List ℕ) → Option Asked
 failed_asked (entry, lease, None) = Some (asked.Command (Failed entry lease false))
 failed_asked (entry, lease, Some word) = if bytes_eq word (codes "forget") then Some (asked.Command (Failed entry lease true)) else None
 
+-- what the words behind `failed` ask: that an entry failed under its lease, and whether the utility's id is forgotten
 abbrev pub failed_step : List ℕ × Option (List ℕ) → Option Asked
 failed_step words = option_and_then failed_asked (lease_named words)
 
@@ -80,6 +83,6 @@ abbrev pub step_in : List ℕ × Option (List ℕ) → Result (Option Asked) Ref
 step_in (word, None) = Ok (word_step word)
 step_in (verb, Some rest) = step_by verb rest
 
--- the words of a step
+-- what the words of a step of the node ask of the machine
 unfoldable pub step_of : List ℕ → Result (Option Asked) Refusal
 step_of words = step_in (cut 32 words)

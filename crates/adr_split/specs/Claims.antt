@@ -17,6 +17,7 @@ goes_before a b = is_lt (claim_order a b)
 abbrev pub claim_of : ℕ → ℕ → ℕ × ℕ → Claim
 claim_of amount total e = record { remainder = remainder_of amount total e.1; place = e.0 }
 
+-- the claim of each share, in the order of the shares, whose places count from 0
 abbrev pub claims_of : ℕ → ℕ → List ℕ → List Claim
 claims_of amount total w = map (claim_of amount total) (enumerate_from 0 w)
 

@@ -25,7 +25,9 @@ GoesFirst v w i j = (remainder_at v w j < remainder_at v w i) ⊎ ((remainder_at
 abbrev pub sum_of_parts : List ℤ → ℤ
 sum_of_parts p = fold ◌+ℤ◌ (pos 0) p
 
--- p splits v over the weights w
+-- p splits v over the weights w: one part for each, which sum to v. Each part's magnitude is its quota,
+-- floor(M·wᵢ/W), or one more, where M is the magnitude of v and W the sum of the weights. What got one more has a
+-- larger remainder than what did not, or an equal one and stands earlier. Each part has the sign of v, or is 0
 pub record IsFairSplit (v : ℤ) (w : List ℕ) (p : List ℤ) : Type 0 where
   pub one_part_each : length p ≡ length w
   pub sums_up : sum_of_parts p ≡ v

@@ -1,6 +1,7 @@
 -- Which setpoints and shares a split takes.
 use Rattle.std.specs.Prelude.{ℕ, nat_le, ℤ, pos, negsuc, suc, Bool, List, All, ◌≤◌}
 
+-- the largest magnitude of a setpoint: 10^12
 abbrev pub max_setpoint : ℕ
 max_setpoint = 1_000_000_000_000
 
@@ -9,9 +10,11 @@ abbrev pub is_setpoint : ℤ → Bool
 is_setpoint (pos n) = nat_le n max_setpoint
 is_setpoint (negsuc n) = nat_le (suc n) max_setpoint
 
+-- how many shares a split takes at most: 10,000
 abbrev pub max_shares : ℕ
 max_shares = 10_000
 
+-- the largest share: 1,000,000
 abbrev pub max_share : ℕ
 max_share = 1_000_000
 

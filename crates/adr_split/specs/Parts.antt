@@ -20,6 +20,6 @@ part_of v w e = signed_as v (magnitude_of (unsigned_abs v) (sum w) w e)
 abbrev pub part_before : ℤ → ℕ → Claim → ℕ × ℕ → ℤ
 part_before v total c e = signed_as v (quota_of (unsigned_abs v) total e.1 + (if goes_before (claim_of (unsigned_abs v) total e) c then 1 else 0))
 
--- all parts, in the order of the shares
+-- all parts, in the order of the shares, each from its quota and from how many claims go before its own
 unfoldable pub fair_split : ℤ → List ℕ → List ℤ
 fair_split v w = map (part_of v w) (enumerate_from 0 w)

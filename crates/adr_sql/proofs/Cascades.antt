@@ -2,6 +2,7 @@
 -- any chain of tables, and no other row goes.
 use Rattle.std.proofs.Common.{◌≡◌, ◌≢◌, ◌⊎◌, inl, inr, ℕ, zero, suc, ◌<◌, ℤ, Bool, true, false, not, ◌&&◌, ◌||◌, ◌==◌, cond, List, [], ◌∷◌, ◌++◌, map, filter, drop, length, slice_get, Option, Some, None, Ok, Result, MatchBool, IsTrue, true≢false, refl, sym, ap, ap₂, subst, ◌∙◌, Equal, is_eq, arith, length-append, eqb-true, IsPermutation, fold, ◌+◌}
 use Rattle.std.specs.Prelude.{nat_lt, is_some}
+use Rattle.std.specs.Option.{option_map_or}
 use Rattle.adr_sql.proofs.Common.{AllByRecursion, list_all, list_any, flat_map, filter_map, cons_option, eq-eqb, cases_Bool, both_ways, not-true, and_parts, or_parts, tied_back, tied_itself, Value, Null, Int, Real, Text, Blob, Row, column, value_cmp, Binary, plain, first_key, value_cmp_total, Trees, rowid, has_rowid, IsTable, is_int, filter_same, filter_all, all_of, all-flat_map, all-append, binary, is_null, end as no_join, Enforced, Table, Schema, ParentKey, parent_key, agree, equal, has_null, is_held, Keeps, Has, Given, Work, works, work_for, work_by, deed_for, pairs, loses, is_child_of, AreChildren, action_edit, Acts, ActsOn, Goes, Leads, Writes, max_depth, edit_of, taken_by, row_at, without_all, Applies, all_has, all_from, test_has, some_has, some_from, has_kept, has_filtered, has_got, has_either, has_left, has_right, tied_same, row_at_is, named_parent, without_all_has, int_is, ids_of, Database, IsDatabase, IsSound, State, Executes}
 use Rattle.sqlite_value.proofs.KeyLemmas.{first_key-plain}
 use Rattle.sqlite_schema.specs.declared.schema.Action.{Action}
@@ -17,7 +18,6 @@ use Rattle.adr_sql.proofs.Rows.{without_all_is, stores_filter}
 use Rattle.adr_sql.proofs.Places.{IsFound, by_tree, is_tree, bare, stored_is_seen, stores_at}
 use Rattle.adr_sql.proofs.Selections.{equalities, passes_is}
 use Rattle.adr_sql.proofs.Removals.{IsRemoveText, has_along, chosen, chosen_from, removal, taken_out}
-use Rattle.std.proofs.lemmas.Bool.Decides.{when_true}
 use Rattle.sqlite_rules.proofs.KeyLemmas.{agree_back, agree_whole}
 
 -- ---- lists
@@ -313,20 +313,28 @@ module _ (schema : Schema) (root : Table) (losses : Losses) (all : Contents) whe
     pub full : is_null (column r at) ≡ false
     pub alone : (m : Row) → Has (by_tree schema.tables all key.0) m → value_cmp (column m 0) (column r at) ≡ Equal → goes key.0 m ≡ true
 
-  -- that, of a reference to a table that loses rows
+  -- that, of a reference to a table
   abbrev IsAlongWith : Table → Reference → Option ParentKey → Type 0
   IsAlongWith child ref None = Unit {0}
-  IsAlongWith child ref (Some key) = MatchBool (is_some (loss_of losses key.0)) (GoAlong child ref key) (Unit {0})
+  IsAlongWith child ref (Some key) = GoAlong child ref key
+
+  -- whether a table loses rows, and whether a reference is to one that does
+  abbrev is_lessened : Table → Bool
+  is_lessened t = is_some (loss_of losses t.tree)
+
+  abbrev is_to_lessened : Reference → Bool
+  is_to_lessened ref = option_map_or (λ (key : ParentKey). is_some (loss_of losses key.0)) (parent_key schema.tables ref) false
 
   -- a row that goes, but for those of the statement, names such as go alone
   abbrev pub HasCause : Table → Type 0
   HasCause t = (r : Row) → Has (by_tree schema.tables all t.tree) r → goes t.tree r ≡ true → (t.tree ≡ root.tree) ⊎ NamesGone t r
 
-  -- what `refl` finds of the tables, and what is to be shown of those that lose rows and of the references to them
+  -- what `refl` finds of the tables, and what is to be shown of the references to those that lose rows and of these, each in the order of
+  -- the schema: of any other table nothing
   pub record IsChain : Type 0 where
     pub cascading : list_all (λ t. list_all (λ ref. takes_along ref.on_delete) t.references) schema.tables ≡ true
-    pub along : AllByRecursion (λ t. AllByRecursion (λ ref. IsAlongWith t ref (parent_key schema.tables ref)) t.references) schema.tables
-    pub because : AllByRecursion (λ t. MatchBool (is_some (loss_of losses t.tree)) (HasCause t) (Unit {0})) schema.tables
+    pub along : AllByRecursion (λ t. AllByRecursion (λ ref. IsAlongWith t ref (parent_key schema.tables ref)) (filter is_to_lessened t.references)) (filter (λ t. list_any is_to_lessened t.references) schema.tables)
+    pub because : AllByRecursion HasCause (filter is_lessened schema.tables)
 
   -- the rows of a table go where those do that they name by one reference; a row that names none, since its column is NULL, is no child, and stays
   module _ (child : Table) (ref : Reference) (key : ParentKey) (at : ℕ) (simple : IsSimple ref key at) (refers : Has child.references ref) (parent : parent_key schema.tables ref ≡ Some key) (before : key.0 < child.tree)
@@ -361,13 +369,15 @@ module _ (schema : Schema) (root : Table) (losses : Losses) (all : Contents) whe
     stored_along : (t : Table) → Has schema.tables t → (ref : Reference) → Has t.references ref → (key : Option ParentKey) → parent_key schema.tables ref ≡ key → IsAlong schema root (λ tree r. goes tree (drop 1 r)) db t ref key
     stored_along t listed ref refers None parent = tt
     stored_along t listed ref refers (Some key) parent = λ r m has there agree go.
-        let each = all_has (λ ref. IsAlongWith t ref (parent_key schema.tables ref)) t.references ref (all_has _ schema.tables t chain.along listed) refers in
-        let h = when_true (GoAlong t ref key) (Unit {0}) (lost_some (loss_of losses key.0) (drop 1 m) go) (subst (IsAlongWith t ref) parent each) in
+        let lessened : is_to_lessened ref ≡ true = ap (λ k. option_map_or (λ (key : ParentKey). is_some (loss_of losses key.0)) k false) parent ∙ lost_some (loss_of losses key.0) (drop 1 m) go in
+        let child = has_kept (λ (t : Table). list_any is_to_lessened t.references) schema.tables t listed (some_from is_to_lessened t.references ref refers lessened) in
+        let each = all_has (λ ref. IsAlongWith t ref (parent_key schema.tables ref)) (filter is_to_lessened t.references) ref (all_has _ _ t chain.along child) (has_kept is_to_lessened t.references ref refers lessened) in
+        let h = subst (IsAlongWith t ref) parent each in
         h.along (drop 1 r) (drop 1 m) (held_row t listed r has) (held_parent ref key parent m there) (agrees ref key h.at h.simple r m agree) go
 
     stored_because : (t : Table) → Has schema.tables t → (r : Row) → Has (db t.tree) r → goes t.tree (drop 1 r) ≡ true → (t.tree ≡ root.tree) ⊎ IsBecause schema root (λ tree r. goes tree (drop 1 r)) db t r
     stored_because t listed r has go =
-        elim (when_true (HasCause t) (Unit {0}) (lost_some (loss_of losses t.tree) (drop 1 r) go) (all_has _ schema.tables t chain.because listed) (drop 1 r) (held_row t listed r has) go) [
+        elim (all_has HasCause _ t chain.because (has_kept is_lessened schema.tables t listed (lost_some (loss_of losses t.tree) (drop 1 r) go)) (drop 1 r) (held_row t listed r has) go) [
           | inl is_root ↦ inl is_root
           | inr why ↦ inr (record {
             ref = why.ref;

@@ -7,7 +7,8 @@ use Rattle.sqlite.specs.Schema.{Schema}
 use Rattle.adr_sql.proofs.Common.{Ghosts, Held, state, Database, IsSound, IsPlain, understood, State, HasCleanDisk, IsUnchanged, IsRolledBack, KeepsCommit, Survives, Shows, ShowsRows, FailsToShow, FailsToQuery, IsNotRun, IsTooLate, Shown, Error}
 use Rattle.sqlite.proofs.StateLemmas.{survives_then}
 use Rattle.adr_sql.specs.Contents.{Contents, Holds, StoresEach}
-use Rattle.adr_sql.specs.Calls.{Stays}
+use Rattle.std.specs.Borrow.{MutBor}
+use Rattle.adr_sql.specs.Calls.{Stays, LeavesLent}
 
 -- ---- the last commit
 
@@ -104,3 +105,9 @@ module _ {S : Type 0} (g : Ghosts S) {T E : Type 0} where
     commit = λ clean inside. let early : HasCleanDisk (state g b) = omega (arith, q.crash.clean) in keeps_then (state g a) (state g b) (state g c) (p.commit early inside) (q.commit clean (p.inside early inside));
     inside = λ clean inside. let early : HasCleanDisk (state g b) = omega (arith, q.crash.clean) in q.inside clean (p.inside early inside);
   }
+
+  pub lent_itself : (tx : MutBor (Held S)) (r : Result T E) → LeavesLent g tx tx r
+  lent_itself tx r = record { same = refl; stays = stays_itself tx.now r }
+
+  pub lent_then : {A F : Type 0} (a b c : MutBor (Held S)) (x : A) (r : Result T E) → LeavesLent g a b {T = A} {E = F} (Ok x) → LeavesLent g b c r → LeavesLent g a c r
+  lent_then a b c x r p q = record { same = q.same ∙ p.same; stays = stays_then a.now b.now c.now x r p.stays q.stays }

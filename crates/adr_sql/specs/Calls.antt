@@ -1,5 +1,6 @@
 -- What a call leaves of the transaction that it was lent, and what it does to the tables.
 use Rattle.std.specs.Prelude.{◌≡◌, ℕ, List, [], ◌∷◌, Result, Ok, IfOk, OnOk, OnErr, IfErr, Err, ◌⊎◌, false, IsTrue}
+use Rattle.std.specs.Borrow.{MutBor}
 use Rattle.sqlite.specs.Order.{Row}
 use Rattle.sqlite.specs.Schema.{Schema}
 use Rattle.sqlite.specs.Tree.{Trees}
@@ -16,13 +17,19 @@ module _ {S : Type 0} (g : Ghosts S) where
   FailsAmong (sql ∷ texts) old new e = ExecutesInside 0 sql [] (state g old) (state g new) (Err e) ⊎ ((mid : Held S) × (count : ℕ) × Executes sql [] (state g old) (state g mid) (Ok count) × FailsAmong texts mid new e)
 
 module _ {S : Type 0} (g : Ghosts S) (old new : Held S) where
-  -- A call leaves the transaction as it was lent: a crash may leave what it could before, the last commit stays, and after Ok the
-  -- transaction still stands. What it says of values is said where the disk gave back what was written.
+  -- A crash may leave what it could before, the last commit stays, and after Ok the transaction still stands. What it says of
+  -- values is said where the disk gave back what was written.
   pub record Stays {T E : Type 0} (result : Result T E) : Type 0 where
     pub crash : Survives (state g old) (state g new) (λ _. ⊥)
     pub commit : HasCleanDisk (state g new) → IsTrue (state g old).in_transaction → KeepsCommit (state g old) (state g new)
     pub inside : HasCleanDisk (state g new) → IsTrue (state g old).in_transaction → OnOk result (IsTrue (state g new).in_transaction)
 
+-- A call leaves the transaction that it was lent as it was: it is the same one, and it stays.
+pub record LeavesLent {S : Type 0} (g : Ghosts S) (old new : MutBor (Held S)) {T E : Type 0} (result : Result T E) : Type 0 where
+  pub same : new.ghost_name ≡ old.ghost_name
+  pub stays : Stays g old.now new.now result
+
+module _ {S : Type 0} (g : Ghosts S) (old new : Held S) where
   -- after Ok, the statement ran with these parameters
   abbrev pub Runs : {E : Type 0} → List ℕ → Row → Result Unit E → Type 0
   Runs sql params result = HasCleanDisk (state g new) → OnOk result ((count : ℕ) × Executes sql params (state g old) (state g new) (Ok count))

@@ -49,6 +49,6 @@ table name columns uniques primary references = checked_table name columns uniqu
 abbrev pub no_schema : Schema
 no_schema = record { tables = []; indexes = []; views = [] }
 
--- the schema after these tables were made, one after another
+-- the schema after these tables were made, one after another, from an empty database
 abbrev pub schema_of : List Table → Schema
 schema_of tables = fold created no_schema tables

@@ -1,7 +1,6 @@
 //! One statement on a lent transaction.
-ghost use Rattle.std.specs.Prelude.{◌≡◌};
 ghost use Rattle.sqlite.specs.Values.{bound};
-ghost use Rattle.adr_sql.specs.Calls.{Stays, Runs, Answers, FailsToRun, FailsToAnswer};
+ghost use Rattle.adr_sql.specs.Calls.{LeavesLent, Runs, Answers, FailsToRun, FailsToAnswer};
 
 use sqlite::types::ValueRef;
 use sqlite::{Alter, Error, Row, Transaction};
@@ -12,8 +11,7 @@ pub fn run<S: Alter>(
     sql: &str,
     params: &[ValueRef<'_>],
 ) -> Result<(), Error>
-    ensures same_reference { tx.new.conn.ghost_name ≡ tx.old.conn.ghost_name }
-    ensures stays { Stays S.Store tx.old.conn.now tx.new.conn.now result }
+    ensures lent { LeavesLent S.Store tx.old.conn tx.new.conn result }
     ensures runs { Runs S.Store tx.old.conn.now tx.new.conn.now sql.now (bound params.now) result }
     ensures fails { FailsToRun S.Store tx.old.conn.now tx.new.conn.now sql.now (bound params.now) result }
 {
@@ -27,8 +25,7 @@ pub fn rows_of<S: Alter>(
     sql: &str,
     params: &[ValueRef<'_>],
 ) -> Result<Vec<Row>, Error>
-    ensures same_reference { tx.new.conn.ghost_name ≡ tx.old.conn.ghost_name }
-    ensures stays { Stays S.Store tx.old.conn.now tx.new.conn.now result }
+    ensures lent { LeavesLent S.Store tx.old.conn tx.new.conn result }
     ensures answers { Answers S.Store tx.old.conn.now tx.new.conn.now sql.now (bound params.now) (λ rows. rows.items) result }
     ensures fails { FailsToAnswer S.Store tx.old.conn.now tx.new.conn.now sql.now (bound params.now) result }
 {

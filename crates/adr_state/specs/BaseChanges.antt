@@ -6,6 +6,7 @@ use Rattle.adr_state.specs.declared.keys.MirrorKey.{MirrorKey}
 use Rattle.adr_state.specs.Mirror.{joined}
 use Rattle.adr_state.specs.Portfolios.{PortfolioChange, portfolio_after}
 
+-- a change of the base: the mirror is joined with marks, a scan is opened or closed, or the portfolio is changed
 pub data BaseChange : Type 0 where
   -- the mirror is joined with marks, and the scan is then this
   JoinMarks : List (MirrorKey × Mark) → Option (List MirrorKey) → BaseChange
@@ -14,6 +15,7 @@ pub data BaseChange : Type 0 where
   -- a ven, a resource or a share is put or goes
   ChangePortfolio : PortfolioChange → BaseChange
 
+-- the base after a change of one of these kinds
 abbrev pub changed : BaseChange → Base → Base
 changed (JoinMarks marks scan) base = record base { mirror = joined base.mirror marks; scan = scan }
 changed (SetScan scan) base = record base { scan = scan }

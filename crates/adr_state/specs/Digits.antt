@@ -2,10 +2,11 @@
 use Rattle.std.specs.Prelude.{ℕ, ◌+◌, ◌-◌, ◌*◌, ◌==◌, nat_le, Bool, false, not, ◌&&◌, List, [], ◌∷◌, length, Option, Some, None, if◌then◌else◌}
 use Rattle.std.specs.List.{list_all}
 
--- the largest number that the serial may reach
+-- the largest number that the serial may reach: 9·10^15
 abbrev pub most_number : ℕ
 most_number = 9_000_000_000_000_000
 
+-- from '0' to '9'
 abbrev pub is_digit : ℕ → Bool
 is_digit byte = nat_le 48 byte && nat_le byte 57
 
@@ -18,6 +19,7 @@ read_on n (d ∷ ds) = read_on (n * 10 + (d - 48)) ds
 abbrev pub number_within : ℕ → List ℕ → Option ℕ
 number_within most digits = if not (length digits == 0) && list_all is_digit digits && nat_le (read_on 0 digits) most then Some (read_on 0 digits) else None
 
+-- the first byte is '0', and there is one
 abbrev pub starts_with_zero : List ℕ → Bool
 starts_with_zero [] = false
 starts_with_zero (d ∷ ds) = d == 48

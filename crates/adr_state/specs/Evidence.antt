@@ -26,11 +26,13 @@ abbrev pub scan_with : Option (List MirrorKey) → List Found → Bool → Optio
 scan_with scan founds true = polled_with scan founds
 scan_with scan founds false = scan
 
--- versions were found
+-- versions were found: the mirror is joined with them, and where they were polled they join the set of an open scan:
+-- 10 where keys are added and are then more than the limit
 abbrev pub evidence : Limits → List Found → Bool → Base → Result BaseChange Refusal
 evidence limits founds polled base = joining limits base (evidence_of founds) (scan_with base.scan founds polled)
 
--- an object was deleted
+-- an object was deleted: the mirror is joined with that: 10 where its key is added and there are then more than the
+-- limit
 abbrev pub gone : Limits → MirrorKey → Base → Result BaseChange Refusal
 gone limits key base = joining limits base ((key, Dead) ∷ []) base.scan
 
@@ -43,6 +45,6 @@ abbrev pub open_scan : Option (List MirrorKey) → Result (List MirrorKey) Refus
 open_scan None = Err NoScan
 open_scan (Some polled) = Ok polled
 
--- the open scan is closed, and the live keys that were not polled are answered
+-- the open scan is closed, and the live keys that were not polled are answered, and where none is open it is 12
 abbrev pub scan_end : Base → Result (List MirrorKey × BaseChange) Refusal
 scan_end base = open_scan base.scan >>= λ polled. Ok (probes base.mirror polled, SetScan None)

@@ -33,7 +33,7 @@ pub record EntriesFit (entries : List (ℕ × Entry)) : Type 0 where
   pub rows : IsMap nat_cmp largest.pending entries
   pub leases : All HasFewLeases (values_of entries)
 
--- a state that a desk may hold: it is within the largest limits
+-- a state that a desk may hold: its portfolio, its mirror, its outbox and its serial are within the largest limits
 pub record Fits (s : State) : Type 0 where
   pub sites : SitesFit s.base.portfolio
   pub mirror : IsMap mirror_cmp largest.keys s.base.mirror

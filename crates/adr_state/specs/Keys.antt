@@ -20,12 +20,15 @@ kind_cmp kind.Program kind.Event = Less
 kind_cmp kind.Event kind.Program = Greater
 kind_cmp kind.Event kind.Event = Equal
 
+-- ids are compared byte by byte
 abbrev pub id_cmp : List ℕ → List ℕ → Ordering
 id_cmp = slice_cmp nat_cmp
 
+-- upstream keys: programs before events, and then by id
 abbrev pub mirror_cmp : MirrorKey → MirrorKey → Ordering
 mirror_cmp a b = ordering_then (kind_cmp a.kind b.kind) (id_cmp a.id b.id)
 
+-- shares by the id of the program, and then by the number of the resource
 abbrev pub share_cmp : ShareKey → ShareKey → Ordering
 share_cmp a b = ordering_then (id_cmp a.program b.program) (nat_cmp a.resource b.resource)
 

@@ -39,6 +39,8 @@ pub record IsJoined (mirror evidence : List (MirrorKey × Mark)) : Type 0 where
   pub reaches_each : (key : MirrorKey) (mark : Mark) → Contains evidence (key, mark) → is_below (at mirror_cmp key (joined mirror evidence)) mark ≡ false
   pub is_one_of_them : (key : MirrorKey) (mark : Mark) → at mirror_cmp key (joined mirror evidence) ≡ Some mark → (at mirror_cmp key mirror ≡ Some mark) ⊎ Contains evidence (key, mark)
 
+-- whatever evidence comes to whatever mirror, each key then has the greatest of the mark that it had and those that
+-- came for it
 abbrev pub JoinsAreGreatest : Type 0
 JoinsAreGreatest = (mirror evidence : List (MirrorKey × Mark)) → IsJoined mirror evidence
 

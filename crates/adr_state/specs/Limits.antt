@@ -18,7 +18,7 @@ largest = record {
   trail = 1_000_000;
 }
 
--- none is above its largest
+-- of the limits but `trail`, none is above its largest
 pub record AreSmall (limits : Limits) : Type 0 where
   pub keys : limits.keys ≤ largest.keys
   pub vens : limits.vens ≤ largest.vens

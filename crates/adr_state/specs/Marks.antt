@@ -15,7 +15,9 @@ is_text_below a b = is_lt (slice_cmp nat_cmp a b)
 abbrev pub is_version_below : ℕ → Body → ℕ → Body → Bool
 is_version_below m a n b = nat_lt m n || (m == n && is_text_below (canonical_text a) (canonical_text b))
 
--- whether what is known is less than a mark: nothing known is less than a version, and a version less than a deletion
+-- whether what is known is less than a mark: nothing known is less than any, a version is less than one of a later
+-- moment or, of one moment, with a greater canonical text, every version is less than a deletion, and a deletion is
+-- less than none
 abbrev pub is_below : Option Mark → Mark → Bool
 is_below None mark = true
 is_below (Some Dead) mark = false

@@ -8,13 +8,15 @@ use Rattle.adr_state.specs.declared.keys.MirrorKey.{MirrorKey}
 use Rattle.adr_state.specs.Keys.{mirror_cmp, at}
 use Rattle.adr_state.specs.Marks.{is_below}
 
--- what a version that was found tells: its key, and that it is live
+-- the upstream key of a version that was found
 abbrev pub key_of : Found → MirrorKey
 key_of found = record { kind = found.kind; id = found.id }
 
+-- what a version that was found tells of its key: that it is live, with its moment and what it says
 abbrev pub mark_of : Found → Mark
 mark_of found = Live found.moment found.body
 
+-- what versions that were found tell: the key of each with its mark, in their order
 abbrev pub evidence_of : List Found → List (MirrorKey × Mark)
 evidence_of founds = map (λ f. (key_of f, mark_of f)) founds
 

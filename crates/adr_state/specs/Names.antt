@@ -6,9 +6,11 @@ use Rattle.adr_text.specs.declared.refusal.Refusal.TheVariants.{Conflict, LimitR
 use Rattle.adr_state.specs.declared.portfolio.Ven.{Ven}
 use Rattle.adr_state.specs.declared.portfolio.Resource.{Resource}
 
+-- the name of a ven, by which it is tested whether a name is taken
 abbrev pub ven_name : Ven → List ℕ
 ven_name ven = ven.name
 
+-- the name of a resource, by which it is tested whether a name is taken
 abbrev pub resource_name : Resource → List ℕ
 resource_name resource = resource.name
 
@@ -24,10 +26,10 @@ is_taken_by_another name_of n name rows = list_any (λ r. not (r.0 == n) && byte
 abbrev pub is_full : {V : Type 0} → ℕ → List V → Bool
 is_full limit rows = nat_le limit (length rows)
 
--- what is made where its name is free and there is room for it
+-- what is made where its name is free and there is room for it, else 7 and then 10
 abbrev pub if_new : {A : Type 0} → Bool → Bool → A → Result A Refusal
 if_new taken full made = if taken then Err Conflict else (if full then Err LimitReached else Ok made)
 
--- what is made where its name is free
+-- what is made where its name is free, else 7
 abbrev pub if_free : {A : Type 0} → Bool → A → Result A Refusal
 if_free taken made = if taken then Err Conflict else Ok made

@@ -20,9 +20,13 @@ as_participant portfolio program r =
     option_and_then (λ weight. option_map (λ ven. record { resource = r.0; weight = weight; name = r.1.name; ven_name = ven.name }) (at nat_cmp r.1.ven portfolio.vens))
     (at share_cmp (record { program = program; resource = r.0 }) portfolio.shares)
 
+-- a resource as one that takes part in an event, where the event is for a resource of its name, it has a share in the
+-- event's program, and its ven is there
 abbrev pub participant_of : Portfolio → EventBody → ℕ × Resource → Option Participant
 participant_of portfolio event r = if is_for event.resource_names r.1.name then as_participant portfolio event.program r else None
 
--- the participants, in the order of their numbers; on every state that a run reaches none is left out for want of a ven (law `participants_lack_none` of adr_laws)
+-- the participants, in the order of their numbers: the resources with a share in the event's program, of the names of
+-- its resource targets where it has such a target; on every state that a run reaches none is left out for want of a
+-- ven (law `participants_lack_none` of adr_laws)
 abbrev pub participants : Portfolio → EventBody → List Participant
 participants portfolio event = filter_map (participant_of portfolio event) portfolio.resources

@@ -14,23 +14,29 @@ use Rattle.adr_state.specs.declared.portfolio.Report.{Report}
 use Rattle.adr_state.specs.declared.keys.ShareKey.{ShareKey}
 use Rattle.adr_state.specs.Keys.{share_cmp, at}
 
+-- the portfolio at first: no vens, resources, shares, reports or subscriptions
 abbrev pub nobody : Portfolio
 nobody = record { vens = []; resources = []; shares = []; reports = []; subs = [] }
 
 -- ---- with one more, or another at its key: each in its place in the order
 
+-- a ven is put at its number, in place of one that is there
 abbrev pub with_ven : ℕ → Ven → Portfolio → Portfolio
 with_ven n ven p = record p { vens = insert_entry nat_cmp p.vens n ven }
 
+-- a resource is put at its number, in place of one that is there
 abbrev pub with_resource : ℕ → Resource → Portfolio → Portfolio
 with_resource n resource p = record p { resources = insert_entry nat_cmp p.resources n resource }
 
+-- a weight is put for a program and a resource, in place of one that is there
 abbrev pub with_share : ShareKey → ℕ → Portfolio → Portfolio
 with_share key weight p = record p { shares = insert_entry share_cmp p.shares key weight }
 
+-- a report is put at its number, in place of one that is there
 abbrev pub with_report : ℕ → Report → Portfolio → Portfolio
 with_report n report p = record p { reports = insert_entry nat_cmp p.reports n report }
 
+-- a subscription is put at its number, in place of one that is there
 abbrev pub with_sub : ℕ → Sub → Portfolio → Portfolio
 with_sub n sub p = record p { subs = insert_entry nat_cmp p.subs n sub }
 
@@ -66,12 +72,15 @@ without_resource n p = record p {
   reports = filter (λ r. not (reported_on r == n)) p.reports;
 }
 
+-- without the share of a program and a resource
 abbrev pub without_share : ShareKey → Portfolio → Portfolio
 without_share key p = record p { shares = remove_entry (is_at (share_cmp key)) p.shares }
 
+-- without the report of a number
 abbrev pub without_report : ℕ → Portfolio → Portfolio
 without_report n p = record p { reports = remove_entry (is_at (nat_cmp n)) p.reports }
 
+-- without the subscription of a number
 abbrev pub without_sub : ℕ → Portfolio → Portfolio
 without_sub n p = record p { subs = remove_entry (is_at (nat_cmp n)) p.subs }
 
@@ -90,6 +99,7 @@ pub data PortfolioChange : Type 0 where
   PutSub : ℕ → Sub → PortfolioChange
   DropSub : ℕ → PortfolioChange
 
+-- the portfolio after a change of one of these kinds
 abbrev pub portfolio_after : PortfolioChange → Portfolio → Portfolio
 portfolio_after (PutVen n ven) p = with_ven n ven p
 portfolio_after (DropVen n) p = without_ven n p

@@ -22,6 +22,7 @@ keys_found polled founds = fold (λ keys found. insert_key mirror_cmp keys (key_
 abbrev pub polled_with : Option (List MirrorKey) → List Found → Option (List MirrorKey)
 polled_with scan founds = option_map (λ polled. keys_found polled founds) scan
 
+-- a version, and no deletion
 abbrev pub is_live : Mark → Bool
 is_live (Live moment body) = true
 is_live Dead = false

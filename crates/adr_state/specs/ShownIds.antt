@@ -7,10 +7,11 @@ use Rattle.adr_state.specs.declared.portfolio.Portfolio.{Portfolio}
 use Rattle.adr_state.specs.declared.portfolio.Resource.{Resource}
 use Rattle.adr_state.specs.Resources.{resource_with_id}
 
--- what stands before its first `-`, and what behind it, where it has one
+-- what stands in the id of a shown event before its first `-`
 abbrev pub resource_part : List ℕ → List ℕ
 resource_part id = before_first (λ b. b == 45) id
 
+-- what stands in the id of a shown event behind its first `-`, where it has one
 abbrev pub event_part : List ℕ → Option (List ℕ)
 event_part id = option_map (λ i. drop (i + 1) id) (position (λ b. b == 45) id)
 

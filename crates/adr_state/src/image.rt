@@ -106,15 +106,6 @@ impl Image {
         &self.state
     }
 
-    /// The state that it is of, which takes no memory.
-    pub fn into_state(self) -> State
-        ensures value { result ≡ self }
-        ensures fits { Fits self }
-    {
-        let Image { state } = self;
-        state
-    }
-
     /// The same image again.
     pub fn copy(&self) -> Result<Image, AllocError>
         ensures { IfOk result (λ image. image ≡ self.now) }

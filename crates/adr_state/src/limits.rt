@@ -118,7 +118,7 @@ impl Limits {
         }
     }
 
-    /// None of them is above its largest.
+    /// Each of them but `trail`, of which this says nothing, is at most its largest.
     pub fn are_small(&self)
         ensures { AreSmall self.now }
     {

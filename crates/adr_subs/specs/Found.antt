@@ -19,6 +19,6 @@ in_sight sight found = or_else NotFound found >>= λ s. if sees_owner sight s.1.
 abbrev pub replaced : Sight → ℕ → Option (ℕ × Sub) → SubIn → Result (SubObject × PortfolioChange) Refusal
 replaced sight now found body = in_sight sight found >>= λ s. Ok (sub_replaced now body s)
 
--- it goes
+-- it goes, and is answered
 abbrev pub removed : Sight → Option (ℕ × Sub) → Result (SubObject × PortfolioChange) Refusal
 removed sight found = in_sight sight found >>= λ s. Ok (sub_removed s)

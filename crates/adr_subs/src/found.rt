@@ -2,9 +2,8 @@
 ghost use Rattle.std.specs.Prelude.{◌≡◌, [], ◌∷◌, option_map, IfErr};
 ghost use Rattle.adr_text.specs.declared.refusal.Refusal.TheVariants.{Forbidden, NotFound};
 ghost use Rattle.adr_state.specs.Subs.{sub_with_id};
-ghost use Rattle.adr_sql.specs.Calls.{Stays};
-ghost use Rattle.adr_db.specs.Calls.{Finds, IsOfStore};
-ghost use Rattle.adr_portfolio.specs.Refusals.{IsOneOf};
+ghost use Rattle.adr_sql.specs.Calls.{LeavesLent};
+ghost use Rattle.adr_db.specs.Calls.{Finds, IsOfStore, IsOneOf};
 ghost use Rattle.adr_subs.specs.Found.{in_sight};
 
 use adr_db_portfolio::read_sub;
@@ -32,8 +31,7 @@ pub(crate) fn sub_with_id<S: Alter>(
     tx: &mut Transaction<'_, S>,
     id: &ObjectId,
 ) -> Result<Option<(Number, Sub)>, Refusal>
-    ensures same_reference { tx.new.conn.ghost_name ≡ tx.old.conn.ghost_name }
-    ensures stays { Stays S.Store tx.old.conn.now tx.new.conn.now result }
+    ensures lent { LeavesLent S.Store tx.old.conn tx.new.conn result }
     ensures finds { Finds S.Store tx.old.conn.now tx.new.conn.now (λ kept found. found ≡ sub_with_id id.now kept.portfolio) result }
     ensures refused { IfErr result IsOfStore }
 {

@@ -6,11 +6,10 @@ ghost use Rattle.adr_state.specs.Stamping.{modified_at};
 ghost use Rattle.adr_state.specs.Portfolios.{with_sub};
 ghost use Rattle.adr_state.specs.Subs.{sub_object, sub_post};
 ghost use Rattle.adr_view.specs.Subs.{sub_put, sub_delete};
-ghost use Rattle.adr_sql.specs.Calls.{Stays};
+ghost use Rattle.adr_sql.specs.Calls.{LeavesLent};
 ghost use Rattle.adr_db.specs.Kept.{with_portfolio};
-ghost use Rattle.adr_db.specs.Calls.{Turns, Finds, IsOfStore};
+ghost use Rattle.adr_db.specs.Calls.{Turns, Finds, IsOfStore, IsOneOf};
 ghost use Rattle.adr_db.specs.BaseCalls.{Carries, Refuses};
-ghost use Rattle.adr_portfolio.specs.Refusals.{IsOneOf};
 ghost use Rattle.adr_subs.specs.Found.{replaced, removed};
 
 use crate::found::{in_sight, sub_with_id};
@@ -36,8 +35,7 @@ fn told(number: Number, sub: Sub) -> SubObject
 
 // Whether there are as many as may be.
 fn is_full<S: Alter>(tx: &mut Transaction<'_, S>, limits: &Limits) -> Result<bool, Refusal>
-    ensures same_reference { tx.new.conn.ghost_name ≡ tx.old.conn.ghost_name }
-    ensures stays { Stays S.Store tx.old.conn.now tx.new.conn.now result }
+    ensures lent { LeavesLent S.Store tx.old.conn tx.new.conn result }
     ensures finds { Finds S.Store tx.old.conn.now tx.new.conn.now (λ kept full. full ≡ is_full limits.now.subs kept.portfolio.subs) result }
     ensures refused { IfErr result IsOfStore }
 {
@@ -52,8 +50,7 @@ fn put_kept<S: Alter>(
     number: Number,
     sub: Sub,
 ) -> Result<SubObject, Refusal>
-    ensures same_reference { tx.new.conn.ghost_name ≡ tx.old.conn.ghost_name }
-    ensures stays { Stays S.Store tx.old.conn.now tx.new.conn.now result }
+    ensures lent { LeavesLent S.Store tx.old.conn tx.new.conn result }
     ensures turns { Turns S.Store tx.old.conn.now tx.new.conn.now (with_portfolio (with_sub number sub)) (λ kept object. object ≡ sub_object (number, sub)) result }
     ensures refused { IfErr result IsOfStore }
 {
@@ -72,8 +69,7 @@ pub fn post<S: Alter>(
     owner: Option<Number>,
     body: SubIn,
 ) -> Result<SubObject, Refusal>
-    ensures same_reference { tx.new.conn.ghost_name ≡ tx.old.conn.ghost_name }
-    ensures stays { Stays S.Store tx.old.conn.now tx.new.conn.now result }
+    ensures lent { LeavesLent S.Store tx.old.conn tx.new.conn result }
     ensures carries { Carries S.Store tx.old.conn.now tx.new.conn.now (sub_post limits.now now number owner body) result }
     ensures refuses { Refuses S.Store tx.old.conn.now tx.new.conn.now (λ kept. sub_post limits.now now number owner body kept.portfolio) result }
     ensures refused { IfErr result (IsOneOf (LimitReached ∷ [])) }
@@ -115,8 +111,7 @@ fn put_found<S: Alter>(
     found: Option<(Number, Sub)>,
     body: SubIn,
 ) -> Result<SubObject, Refusal>
-    ensures same_reference { tx.new.conn.ghost_name ≡ tx.old.conn.ghost_name }
-    ensures stays { Stays S.Store tx.old.conn.now tx.new.conn.now result }
+    ensures lent { LeavesLent S.Store tx.old.conn tx.new.conn result }
     ensures carries { Carries S.Store tx.old.conn.now tx.new.conn.now (λ p. replaced sight now found body) result }
     ensures refuses { Refuses S.Store tx.old.conn.now tx.new.conn.now (λ kept. replaced sight now found body) result }
     ensures refused { IfErr result (IsOneOf (NotFound ∷ Forbidden ∷ [])) }
@@ -135,8 +130,7 @@ pub fn put<S: Alter>(
     id: &ObjectId,
     body: SubIn,
 ) -> Result<SubObject, Refusal>
-    ensures same_reference { tx.new.conn.ghost_name ≡ tx.old.conn.ghost_name }
-    ensures stays { Stays S.Store tx.old.conn.now tx.new.conn.now result }
+    ensures lent { LeavesLent S.Store tx.old.conn tx.new.conn result }
     ensures carries { Carries S.Store tx.old.conn.now tx.new.conn.now (sub_put sight now id.now body) result }
     ensures refuses { Refuses S.Store tx.old.conn.now tx.new.conn.now (λ kept. sub_put sight now id.now body kept.portfolio) result }
     ensures refused { IfErr result (IsOneOf (NotFound ∷ Forbidden ∷ [])) }
@@ -151,8 +145,7 @@ fn remove_found<S: Alter>(
     sight: Sight,
     found: Option<(Number, Sub)>,
 ) -> Result<SubObject, Refusal>
-    ensures same_reference { tx.new.conn.ghost_name ≡ tx.old.conn.ghost_name }
-    ensures stays { Stays S.Store tx.old.conn.now tx.new.conn.now result }
+    ensures lent { LeavesLent S.Store tx.old.conn tx.new.conn result }
     ensures carries { Carries S.Store tx.old.conn.now tx.new.conn.now (λ p. removed sight found) result }
     ensures refuses { Refuses S.Store tx.old.conn.now tx.new.conn.now (λ kept. removed sight found) result }
     ensures refused { IfErr result (IsOneOf (NotFound ∷ Forbidden ∷ [])) }
@@ -170,8 +163,7 @@ pub fn delete<S: Alter>(
     sight: Sight,
     id: &ObjectId,
 ) -> Result<SubObject, Refusal>
-    ensures same_reference { tx.new.conn.ghost_name ≡ tx.old.conn.ghost_name }
-    ensures stays { Stays S.Store tx.old.conn.now tx.new.conn.now result }
+    ensures lent { LeavesLent S.Store tx.old.conn tx.new.conn result }
     ensures carries { Carries S.Store tx.old.conn.now tx.new.conn.now (sub_delete sight id.now) result }
     ensures refuses { Refuses S.Store tx.old.conn.now tx.new.conn.now (λ kept. sub_delete sight id.now kept.portfolio) result }
     ensures refused { IfErr result (IsOneOf (NotFound ∷ Forbidden ∷ [])) }

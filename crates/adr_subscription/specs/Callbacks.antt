@@ -19,7 +19,8 @@ is_near (Some (Domain name)) = bytes_eq name (codes "localhost")
 is_near (Some (Ipv4 address)) = true
 is_near (Some (Ipv6 address)) = true
 
--- by the parts that the URL Standard's parser reads: http, no user and no password, and such a host
+-- by the parts that the URL Standard's parser reads: http, no user and no password, and an IP address or `localhost`
+-- as its host
 abbrev pub is_callback : Parts → Bool
 is_callback url = bytes_eq url.scheme (codes "http") && (is_empty url.username && (is_empty url.password && is_near (nonempty_host url)))
 
@@ -32,7 +33,7 @@ address_as (Err e) = Err BadShape
 abbrev pub callable : Parts → Result Parts Refusal
 callable url = if is_callback url then Ok url else Err BadShape
 
--- the URL that a text is, where it may be called
+-- the URL that a text is, where it may be called, else 14
 abbrev pub callable_address : List ℕ → Result Parts Refusal
 callable_address text = address_as (parse_url None text) >>= callable
 
@@ -44,6 +45,7 @@ callback_address text = if nat_le (length text) 1024 then callable_address text 
 abbrev pub settled_address : List ℕ → Result (List ℕ) Refusal
 settled_address text = callback_address text >>= λ url. Ok (serialize url)
 
+-- the item with its address as that URL is written, where it may be called
 abbrev pub settled_item : SubscriptionItem → Result SubscriptionItem Refusal
 settled_item item = settled_address item.callback_url >>= λ address. Ok (record item { callback_url = address })
 
@@ -52,6 +54,7 @@ abbrev pub settled_items : List SubscriptionItem → Result (List SubscriptionIt
 settled_items [] = Ok []
 settled_items (item ∷ items) = settled_item item >>= λ kept. settled_items items >>= λ rest. Ok (kept ∷ rest)
 
--- the subscription as it is kept, where each of its addresses may be called
+-- the subscription as it is kept, with each address as that URL is written, where it has at most 1,024 bytes and may
+-- be called, else 14
 unfoldable pub settled : SubIn → Result SubIn Refusal
 settled sub = settled_items sub.items >>= λ items. Ok (record sub { items = items })

@@ -35,6 +35,7 @@ item_fields i =
     ∷ (codes "operations", Some (operations_data i.operations))
     ∷ []
 
+-- `bearerToken`, `callbackUrl`, `objects` and `operations`, of which the token may be absent
 unfoldable pub item_data : SubscriptionItem → Data
 item_data i = object_of (item_fields i)
 
@@ -44,6 +45,7 @@ target_fields t =
     ∷ (codes "values", Some (texts_data t.values))
     ∷ []
 
+-- `type` and `values`
 unfoldable pub target_data : Target → Data
 target_data t = object_of (target_fields t)
 
@@ -58,10 +60,11 @@ sub_fields s =
     ∷ (codes "targets", option_map targets_data s.targets)
     ∷ []
 
+-- `clientName`, `objectOperations`, `programID` and `targets`, of which the last two may be absent
 unfoldable pub sub_data : SubIn → Data
 sub_data s = object_of (sub_fields s)
 
--- members in byte order, with tokens, no space
+-- the text that is kept of a subscription: members in byte order, with tokens, no space
 unfoldable pub kept_text : SubIn → List ℕ
 kept_text s = compact_text (sub_data s)
 

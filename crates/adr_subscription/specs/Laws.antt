@@ -6,7 +6,7 @@ use Rattle.adr_subscription.specs.Types.{IsSub}
 use Rattle.adr_subscription.specs.Subscriptions.{sub_of}
 use Rattle.adr_subscription.specs.Kept.{kept_text, kept_of}
 
--- the text that is kept of a subscription reads back as that subscription
+-- the text that is kept of a subscription that the types admit reads back as that subscription
 abbrev pub KeptTextsReadBack : Type 0
 KeptTextsReadBack = (s : SubIn) → IsSub s → kept_of (kept_text s) ≡ Ok s
 

@@ -17,10 +17,11 @@ has_kind kind item = list_any (λ k. bytes_eq (kind_word k) (kind_word kind)) it
 abbrev pub has_operation : OperationKind → SubscriptionItem → Bool
 has_operation operation item = list_any (λ o. bytes_eq (operation_word o) (operation_word operation)) item.operations
 
+-- the item has the kind among its objects and the operation among its operations
 abbrev pub asks_for : ObjectKind → OperationKind → SubscriptionItem → Bool
 asks_for kind operation item = has_kind kind item && has_operation operation item
 
--- the first item that asks for it
+-- the first item that has the kind among its objects and the operation among its operations
 abbrev pub item_for : ObjectKind → OperationKind → SubIn → Option SubscriptionItem
 item_for kind operation sub = find (asks_for kind operation) sub.items
 
@@ -47,6 +48,7 @@ abbrev pub is_targeted_by : List ℕ → List ℕ → Option (List Target) → B
 is_targeted_by ven_name resource_name None = true
 is_targeted_by ven_name resource_name (Some targets) = none_or_one_names ven_name resource_name targets
 
--- the subscription is about events of that resource of that ven
+-- the subscription is about events of that resource of that ven: it has no target, or one of type `VEN_NAME` with the
+-- name of the ven among its values, or of type `RESOURCE_NAME` with that of the resource
 abbrev pub is_targeted : List ℕ → List ℕ → SubIn → Bool
 is_targeted ven_name resource_name sub = is_targeted_by ven_name resource_name sub.targets

@@ -38,6 +38,6 @@ sub_in d = do
   targets ← optional (member_of (codes "targets") d) (bounded_in 0 100 target_in)
   Ok (record { client_name = client_name; program = program; items = items; targets = targets })
 
--- the subscription that the bytes are
+-- the subscription that the bytes are, or 14 for whatever is at fault in one
 unfoldable pub sub_of : List ℕ → Result SubIn Refusal
 sub_of bytes = as_bad_shape (value_in bytes >>= sub_in)

@@ -14,6 +14,7 @@ is_token_byte b = nat_le 33 b && nat_le b 126
 abbrev pub max_token : ℕ
 max_token = 1024
 
+-- 1 to 1,024 characters from '!' to '~'
 abbrev pub is_token : List ℕ → Bool
 is_token text = nat_le 1 (length text) && nat_le (length text) max_token && list_all is_token_byte text
 
@@ -21,5 +22,6 @@ is_token text = nat_le 1 (length text) && nat_le (length text) max_token && list
 abbrev pub token_of : List ℕ → Result (List ℕ) Fault
 token_of text = if is_token text then Ok text else Err BadShape
 
+-- a text of 1 to 1,024 characters from '!' to '~', else the wrong shape
 unfoldable pub token_in : Data → Result (List ℕ) Fault
 token_in d = text_of d >>= token_of

@@ -13,14 +13,18 @@ pub record AreWithin {A : Type 0} (least most : ℕ) (keeps : A → Type 0) (ite
   pub few : length items ≤ most
   pub each : All keeps items
 
+-- 1 to 6 kinds, 1 to 4 operations, and a token of 1 to 1,024 characters from '!' to '~', where there is one
 pub record IsItem (i : SubscriptionItem) : Type 0 where
   pub objects : AreWithin 1 6 (λ _. ⊤) i.objects
   pub operations : AreWithin 1 4 (λ _. ⊤) i.operations
   pub bearer_token : IfSome i.bearer_token (λ text. IsTrue (is_token text))
 
+-- at most 1,000 values
 pub record IsTarget (t : Target) : Type 0 where
   pub values : AreWithin 0 1000 (λ _. ⊤) t.values
 
+-- a client's name of 1 to 128 bytes, 1 to 16 items, and, where they are there, an object id as program and at most
+-- 100 targets
 pub record IsSub (s : SubIn) : Type 0 where
   pub client_name : IsTrue (is_name s.client_name)
   pub program : IfSome s.program (λ text. IsTrue (is_id text))

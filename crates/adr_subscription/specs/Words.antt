@@ -11,6 +11,7 @@ use Rattle.adr_subscription.specs.declared.words.ObjectKind.TheVariants.{Program
 use Rattle.adr_subscription.specs.declared.words.OperationKind.{OperationKind}
 use Rattle.adr_subscription.specs.declared.words.OperationKind.TheVariants.{Get, Post, Put, Delete}
 
+-- `PROGRAM`, `EVENT`, `REPORT`, `SUBSCRIPTION`, `VEN` or `RESOURCE`
 abbrev pub kind_word : ObjectKind → List ℕ
 kind_word Program = codes "PROGRAM"
 kind_word Event = codes "EVENT"
@@ -30,9 +31,11 @@ kind_named word =
     else (if bytes_eq word (codes "RESOURCE") then Ok Resource
     else Err BadShape)))))
 
+-- the kind whose word a text is, else the wrong shape
 unfoldable pub kind_in : Data → Result ObjectKind Fault
 kind_in d = text_of d >>= kind_named
 
+-- `GET`, `POST`, `PUT` or `DELETE`
 abbrev pub operation_word : OperationKind → List ℕ
 operation_word Get = codes "GET"
 operation_word Post = codes "POST"
@@ -48,5 +51,6 @@ operation_named word =
     else (if bytes_eq word (codes "DELETE") then Ok Delete
     else Err BadShape)))
 
+-- the operation whose word a text is, else the wrong shape
 unfoldable pub operation_in : Data → Result OperationKind Fault
 operation_in d = text_of d >>= operation_named

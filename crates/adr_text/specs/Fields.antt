@@ -20,7 +20,7 @@ whole_number (unsigned n) = if nat_lt n (2 ^ 63) then In (pos n) else Beyond
 whole_number (negative z) = In z
 whole_number (float x) = Fraction
 
--- what a value is as a whole number
+-- what a value is as a whole number: one in 64 bits with a sign, one beyond them, another number, or none
 abbrev pub whole_of : Data → Whole
 whole_of null = NoNumber
 whole_of (boolean b) = NoNumber
@@ -38,7 +38,7 @@ present (string s) = Some (string s)
 present (array ds) = Some (array ds)
 present (object ms) = Some (object ms)
 
--- a member of an object
+-- a member of an object, where null is as good as absent
 abbrev pub member_of : List ℕ → Data → Option Data
 member_of name d = option_and_then present (get name d)
 
@@ -51,9 +51,11 @@ abbrev pub list_of : Items → List Data
 list_of no_items = []
 list_of (item d ds) = d ∷ list_of ds
 
+-- the items of an array, in their order, and for any other value the wrong shape
 abbrev pub items_in : Data → Result (List Data) Fault
 items_in d = or_else fault.BadShape (option_map list_of (as_array d))
 
+-- the value is an object, and no array, text, number, boolean or null
 abbrev pub is_object : Data → Bool
 is_object null = false
 is_object (boolean b) = false
@@ -96,26 +98,33 @@ whole_from NoNumber = Err fault.BadShape
 
 -- ---- fields of this crate's types
 
+-- a text of 1 to 128 letters, digits, '-' and '_', else the wrong shape
 unfoldable pub id_in : Data → Result (List ℕ) Fault
 id_in d = text_of d >>= λ text. as_fault (id_of text)
 
+-- a text of 1 to 128 bytes, else the wrong shape
 unfoldable pub name_in : Data → Result (List ℕ) Fault
 name_in d = text_of d >>= λ text. as_fault (name_of text)
 
+-- the moment that a text tells, as nanoseconds from 1970, else the wrong shape
 unfoldable pub moment_in : Data → Result ℕ Fault
 moment_in d = text_of d >>= λ text. as_fault (moment_of text)
 
+-- from -2^31 to 2^31 - 1
 abbrev pub is_i32 : ℤ → Bool
 is_i32 (pos n) = nat_le n 2147483647
 is_i32 (negsuc n) = nat_le (suc n) 2147483648
 
+-- a whole number from -2^31 to 2^31 - 1, or its fault
 unfoldable pub i32_in : Data → Result ℤ Fault
 i32_in d = whole_from (whole_of d) >>= λ z. if is_i32 z then Ok z else Err fault.OutOfRange
 
+-- from -2^63 to 2^63 - 1
 abbrev pub is_i64 : ℤ → Bool
 is_i64 (pos n) = nat_lt n (2 ^ 63)
 is_i64 (negsuc n) = nat_lt n (2 ^ 63)
 
+-- at most 2^32 - 1
 abbrev pub is_u32 : ℕ → Bool
 is_u32 n = nat_le n 4294967295
 
@@ -123,5 +132,6 @@ abbrev pub u32_from : ℤ → Result ℕ Fault
 u32_from (pos n) = if is_u32 n then Ok n else Err fault.OutOfRange
 u32_from (negsuc n) = Err fault.OutOfRange
 
+-- a whole number from 0 to 2^32 - 1, or its fault
 unfoldable pub u32_in : Data → Result ℕ Fault
 u32_in d = whole_from (whole_of d) >>= u32_from

@@ -12,6 +12,7 @@ is_id_byte b = is_ascii_alphanumeric b || b == 45 || b == 95
 abbrev pub max_id : ℕ
 max_id = 128
 
+-- 1 to 128 letters, digits, '-' and '_'
 abbrev pub is_id : List ℕ → Bool
 is_id text = nat_le 1 (length text) && nat_le (length text) max_id && list_all is_id_byte text
 

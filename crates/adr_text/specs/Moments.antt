@@ -20,7 +20,8 @@ abbrev pub moment_where : Result ℤ Error → Result ℕ Refusal
 moment_where (Ok z) = moment_at z
 moment_where (Err e) = Err BadShape
 
--- a text of at most 64 bytes that jiff reads as an instant in range
+-- a text of at most 64 bytes that jiff reads as an instant from 1970-01-01T00:00:00Z to
+-- 2199-12-31T23:59:59.999999999Z, as nanoseconds from 1970
 unfoldable pub moment_of : List ℕ → Result ℕ Refusal
 moment_of text = if nat_le (length text) 64 then moment_where (parse_timestamp text) else Err BadShape
 
@@ -47,7 +48,7 @@ date_of d =
 abbrev pub second_part : ℕ → List ℕ
 second_part n = if n == 0 then [] else 46 ∷ fraction (Some 9) n
 
--- `YYYY-MM-DDTHH:MM:SSZ`
+-- `YYYY-MM-DDTHH:MM:SSZ`, with a point and nine digits before `Z` where the second isn't whole
 unfoldable pub moment_text : ℕ → List ℕ
 moment_text n =
     let date = date_of (n / 86_400_000_000_000) in

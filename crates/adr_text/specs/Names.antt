@@ -6,7 +6,7 @@ use Rattle.adr_text.specs.declared.refusal.Refusal.TheVariants.{BadShape}
 abbrev pub max_name : ℕ
 max_name = 128
 
--- any text that is not empty and has at most that many bytes
+-- any text of 1 to 128 bytes
 abbrev pub is_name : List ℕ → Bool
 is_name text = nat_le 1 (length text) && nat_le (length text) max_name
 

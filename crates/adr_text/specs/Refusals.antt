@@ -3,6 +3,7 @@ use Rattle.std.specs.Prelude.{◌≡◌, ℕ, List, codes, Result, Ok, Err, Opti
 use Rattle.adr_text.specs.declared.refusal.Refusal.{Refusal}
 use Rattle.adr_text.specs.declared.refusal.Refusal.TheVariants.{OutOfMemory, Store, OutboxFull, Exhausted, TrailFull, NotFound, Conflict, Forbidden, BadShare, LimitReached, ResourceNotOfEvent, NoScan, LeaseLost, BadShape, NotWhole, Stale}
 
+-- from 1 (want of memory) to 16 (a pass that is ahead)
 abbrev pub number_of : Refusal → ℕ
 number_of OutOfMemory = 1
 number_of Store = 2
@@ -21,6 +22,7 @@ number_of BadShape = 14
 number_of NotWhole = 15
 number_of (Stale turn) = 16
 
+-- the one word by which a problem names the refusal, such as `NotFound`
 abbrev pub title_of : Refusal → List ℕ
 title_of OutOfMemory = codes "OutOfMemory"
 title_of Store = codes "Store"
@@ -39,6 +41,7 @@ title_of BadShape = codes "BadShape"
 title_of NotWhole = codes "NotWhole"
 title_of (Stale turn) = codes "Stale"
 
+-- the few words that a problem tells of the refusal, such as `no such object`
 abbrev pub detail_of : Refusal → List ℕ
 detail_of OutOfMemory = codes "out of memory"
 detail_of Store = codes "store refused"
@@ -57,6 +60,7 @@ detail_of BadShape = codes "malformed object"
 detail_of NotWhole = codes "not a whole number in range"
 detail_of (Stale turn) = codes "pass is ahead"
 
+-- the HTTP status of the refusal: 400, 403, 404, 409 or 500
 abbrev pub status_of : Refusal → ℕ
 status_of OutOfMemory = 500
 status_of Store = 500
@@ -86,7 +90,7 @@ abbrev pub or_else : {A E : Type 0} → E → Option A → Result A E
 or_else e (Some x) = Ok x
 or_else e None = Err e
 
--- a refusal that may stand in place of a result: want of memory and the store's in place of any
+-- a refusal that may stand in place of a result: its own, or in place of any want of memory (1) and the store's (2)
 abbrev pub IsRefusalOf : {A : Type 0} → Refusal → Result A Refusal → Type 0
 IsRefusalOf OutOfMemory r = Unit {0}
 IsRefusalOf Store r = Unit {0}

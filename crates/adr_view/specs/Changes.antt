@@ -29,7 +29,8 @@ change_by k None (Some new) = Some (record { key = k; operation = operation.Post
 change_by k (Some old) None = if is_change_to_go k then Some (record { key = k; operation = operation.Delete }) else None
 change_by k (Some old) (Some new) = if is_same_content old new then None else Some (record { key = k; operation = operation.Put })
 
--- the changes from one view to another, in the order of the keys
+-- the changes from one view to another, in the order of the keys: what appears, what differs, and what goes, but for
+-- a roll-up that goes
 unfoldable pub changes : List (ViewKey × Content) → List (ViewKey × Content) → List Change
 changes before after = filter_map (λ key. change_by key (at view_cmp key before) (at view_cmp key after)) (both_keys before after)
 
@@ -45,6 +46,7 @@ stamps_by None stamps now new = record { created = now; modified = now }
 abbrev pub stamps_for : List (ViewKey × Stamps) → List (ViewKey × Content) → ℕ → ViewKey × Content → ViewKey × Stamps
 stamps_for stamps before now r = (r.0, stamps_by (at view_cmp r.0 before) (at view_cmp r.0 stamps) now r.1)
 
--- the stamps after it: a key that goes loses its own
+-- the stamps after a change from one view to another: a key that appears gets both stamps now, one that differs the
+-- modified stamp, one that is shown as before keeps its stamps, and one that goes loses its own, a roll-up too
 unfoldable pub restamped : List (ViewKey × Stamps) → List (ViewKey × Content) → List (ViewKey × Content) → ℕ → List (ViewKey × Stamps)
 restamped stamps before after now = map_of view_cmp (map (stamps_for stamps before now) after)

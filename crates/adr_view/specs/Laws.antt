@@ -55,6 +55,8 @@ pub record OthersAreShown (base : Base) : Type 0 where
   pub reports : (n : ℕ) → at view_cmp (key.Report n) (view base) ≡ option_map (λ r. content.Report r.body) (at nat_cmp n base.portfolio.reports)
   pub rollups : (id : List ℕ) → at view_cmp (key.Rollup id) (view base) ≡ option_map (λ rollup. content.Rollup rollup) (rollup_at base.mirror base.portfolio id)
 
+-- where rows stand in order, the view has at the key of a report what the report of that number says, and at that of
+-- a roll-up the roll-up of that upstream event, and nothing there where there is none
 abbrev pub ReportsAndRollupsAreShown : Type 0
 ReportsAndRollupsAreShown = (base : Base) → StandsInOrder base → OthersAreShown base
 
@@ -86,7 +88,8 @@ pub record IsReportedAsShown (base : Base) (id : List ℕ) (r : ℕ × Resource)
   pub what_is_reported_is_shown : (on : Reported) → reported_by base.mirror base.portfolio id r ≡ Some on → (shown : ShownEvent) × (at view_cmp (key.Event id r.0) (view base) ≡ Some (content.Event shown)) × IsOnShown id r.0 shown on
   pub what_is_shown_is_reported : IsSome (at view_cmp (key.Event id r.0) (view base)) → IsSome (reported_by base.mirror base.portfolio id r)
 
--- where rows stand in order, so it is of every upstream event and every resource that is there
+-- where rows stand in order, of every upstream event and every resource that is there: a report may be on it exactly
+-- where the view has something at their key, which is then that event
 abbrev pub ReportsAreOnTheShown : Type 0
 ReportsAreOnTheShown = (base : Base) (id : List ℕ) (n : ℕ) (r : Resource) → StandsInOrder base → at nat_cmp n base.portfolio.resources ≡ Some r → IsReportedAsShown base id (n, r)
 
@@ -107,7 +110,8 @@ pub record CountsEachOnce (rs : List Reporter) (i : RollupInterval) : Type 0 whe
 abbrev pub HaveNoneInCommon : Reporter → Reporter → Type 0
 HaveNoneInCommon a b = (report : Report) → Contains a.reports report → Contains b.reports report → ⊥
 
--- so a roll-up does in each of its intervals; and where rows stand in order, no report of an event is of two of its participants
+-- in each of the intervals of a roll-up each of those who report counts by one value, its latest, or is named; and
+-- where rows stand in order, no report of an event is of two of its participants
 pub record RollupsCountEachOnce : Type 0 where
   pub each_by_its_latest : (event : EventBody) (rs : List Reporter) → IfSome (rollup_for event rs) (λ rollup. All (CountsEachOnce rs) rollup.intervals)
   pub each_report_of_one : (base : Base) (id : List ℕ) (event : EventBody) → StandsInOrder base → AllPairs HaveNoneInCommon (reporters (reports_of id base.portfolio.reports) (participants base.portfolio event))

@@ -32,14 +32,16 @@ use Rattle.adr_view.specs.Sights.{sees_ven}
 abbrev pub is_shown_to : Portfolio → EventBody → ℕ × Resource → Bool
 is_shown_to p event r = carries event && is_some (participant_of p event r)
 
--- an upstream event and a resource, where the event is shown to it
+-- what a report may be on: an upstream event and a resource, with the event's program and the resource's name, where
+-- the event is shown to it
 abbrev pub reported_of : Portfolio → ℕ × Resource → List ℕ → EventBody → Option Reported
 reported_of p r id event = if is_shown_to p event r then Some (record { event = id; program = event.program; resource = r.0; resource_name = r.1.name }) else None
 
+-- what a report on a resource may be on, by the event's upstream id, where that event is live and shown to it
 abbrev pub reported_by : List (MirrorKey × Mark) → Portfolio → List ℕ → ℕ × Resource → Option Reported
 reported_by mirror p id r = option_and_then (reported_of p r id) (event_at mirror id)
 
--- by the two parts of the id of a shown event
+-- what a report may be on, by the two parts of the id of a shown event
 abbrev pub reported_in : List (MirrorKey × Mark) → Portfolio → List ℕ → List ℕ → Option Reported
 reported_in mirror p resource event = option_and_then (λ r. option_and_then (λ id. reported_by mirror p id r) (id_in event)) (resource_named p resource)
 
@@ -63,7 +65,7 @@ kept_report revision on report = record {
 
 -- ---- what is decided
 
--- the event that a report is on, which is there and which it fits
+-- the event that a report is on: one that isn't there is 6, one that it does not fit 11
 abbrev pub report_on : ReportIn → List (MirrorKey × Mark) → Portfolio → Result Reported Refusal
 report_on report mirror p = or_else NotFound (reported mirror p report.event) >>= λ on. if fits on report then Ok on else Err ResourceNotOfEvent
 
@@ -75,15 +77,16 @@ report_with_id id p = option_and_then (λ n. option_map (λ r. (n, r)) (at nat_c
 abbrev pub putting_report : ℕ → Report → (ℕ × Report) × PortfolioChange
 putting_report n report = ((n, report), PutReport n report)
 
--- a new report, under the number that is handed in, which is its revision too
+-- a new report, under the number that is handed in, which is its revision too: 10 where there are as many as may be
 abbrev pub report_made : Limits → ℕ → ReportIn → List (MirrorKey × Mark) → Portfolio → Result ((ℕ × Report) × PortfolioChange) Refusal
 report_made limits n report mirror p = report_on report mirror p >>= λ on. if is_full limits.reports p.reports then Err LimitReached else Ok (putting_report n (kept_report n on report))
 
--- the report of an id says this from now on, with the number that is handed in as its revision; it may be on another event
+-- the report of an id says this from now on, with the number that is handed in as its revision; it keeps its own
+-- number, and may be on another event
 abbrev pub report_replaced : ℕ → List ℕ → ReportIn → List (MirrorKey × Mark) → Portfolio → Result ((ℕ × Report) × PortfolioChange) Refusal
 report_replaced n id report mirror p = or_else NotFound (report_with_id id p) >>= λ old. report_on report mirror p >>= λ on. Ok (putting_report old.0 (kept_report n on report))
 
--- the report of an id goes, and is answered
+-- the report of an id goes, and is answered as it was
 abbrev pub report_removed : List ℕ → Portfolio → Result ((ℕ × Report) × PortfolioChange) Refusal
 report_removed id p = or_else NotFound (report_with_id id p) >>= λ old. Ok (old, DropReport old.0)
 
@@ -101,19 +104,24 @@ resource_of_event id p = option_and_then (λ event. option_map (λ r. r.1) (reso
 abbrev pub resource_of_report : List ℕ → Portfolio → Option Resource
 resource_of_report id p = option_and_then (λ r. at nat_cmp r.1.body.head.resource p.resources) (report_with_id id p)
 
--- whether who sees this much may report of the event that a report names, and change the report of an id
+-- whether who sees this much may report of the event that a report names: the resource that its id names is in sight,
+-- or isn't there
 abbrev pub may_report : Sight → ReportIn → Portfolio → Bool
 may_report sight report p = sees_resource sight (resource_of_event report.event p)
 
+-- whether who sees this much may change the report of an id: the resource that it is on is in sight, or there is none
 abbrev pub may_change : Sight → List ℕ → Portfolio → Bool
 may_change sight id p = sees_resource sight (resource_of_report id p)
 
--- what is out of sight is forbidden, whether all else is there or not
+-- a new report; where the resource that its event names is out of sight it is 8, whether all else is there or not
 abbrev pub report_post : Limits → Sight → ℕ → ReportIn → List (MirrorKey × Mark) → Portfolio → Result ((ℕ × Report) × PortfolioChange) Refusal
 report_post limits sight n report mirror p = if may_report sight report p then report_made limits n report mirror p else Err Forbidden
 
+-- the report of an id says this from now on; where the resource that it is on, or the one that its new event names,
+-- is out of sight it is 8, whether all else is there or not
 abbrev pub report_put : Sight → ℕ → List ℕ → ReportIn → List (MirrorKey × Mark) → Portfolio → Result ((ℕ × Report) × PortfolioChange) Refusal
 report_put sight n id report mirror p = if may_change sight id p && may_report sight report p then report_replaced n id report mirror p else Err Forbidden
 
+-- the report of an id goes; where the resource that it is on is out of sight it is 8
 abbrev pub report_delete : Sight → List ℕ → Portfolio → Result ((ℕ × Report) × PortfolioChange) Refusal
 report_delete sight id p = if may_change sight id p then report_removed id p else Err Forbidden

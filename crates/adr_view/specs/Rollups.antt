@@ -34,7 +34,7 @@ usage_in id (i ∷ is) = if int_eq i.id id then i.usage else usage_in id is
 abbrev pub value_in : ℤ → Report → Option (ℕ × ℤ)
 value_in id report = option_map (λ usage. (report.revision, usage)) (usage_in id report.body.intervals)
 
--- of two values that of the greater revision
+-- of two values that of the greater revision, and of equal ones the first
 abbrev pub later : Option (ℕ × ℤ) → Option (ℕ × ℤ) → Option (ℕ × ℤ)
 later None v = v
 later (Some u) None = Some u
@@ -44,6 +44,7 @@ later (Some u) (Some v) = if nat_lt u.0 v.0 then Some v else Some u
 abbrev pub latest_of : ℤ → List Report → Option (ℕ × ℤ)
 latest_of id reports = fold (λ best report. later best (value_in id report)) None reports
 
+-- the value of the report of greatest revision among those that have one for an interval
 abbrev pub latest : ℤ → List Report → Option ℤ
 latest id reports = option_map (λ v. v.1) (latest_of id reports)
 
@@ -57,10 +58,11 @@ reports_of event reports = map (λ r. r.1) (filter (λ r. bytes_eq r.1.body.head
 abbrev pub reports_on : ℕ → List Report → List Report
 reports_on resource reports = filter (λ r. r.body.head.resource == resource) reports
 
--- a participant, with those of an event's reports that are on it
+-- a participant's name, with those of an event's reports that are on it
 abbrev pub reporter_of : List Report → Participant → Reporter
 reporter_of reports p = record { name = p.name; reports = reports_on p.resource reports }
 
+-- each participant's name with its reports, in their order
 abbrev pub reporters : List Report → List Participant → List Reporter
 reporters reports ps = map (reporter_of reports) ps
 
@@ -83,11 +85,12 @@ sum_at id rs = fold (λ sum r. plus sum (latest id r.reports)) (pos 0) rs
 abbrev pub lacking : ℤ → List Reporter → List Reporter
 lacking id rs = filter (λ r. is_none (latest id r.reports)) rs
 
--- their names, ascending by bytes
+-- the names of those that have no latest value in an interval, ascending by bytes
 abbrev pub missing_at : ℤ → List Reporter → List (List ℕ)
 missing_at id rs = fold (λ names r. insert_key id_cmp names r.name) [] (lacking id rs)
 
--- an interval without a value has the sum 0, and names all
+-- an interval with the sum of the latest values and the names of those that have none: without a value it has the sum
+-- 0, and names all
 abbrev pub rollup_interval : List Reporter → Interval → RollupInterval
 rollup_interval rs i = record { id = i.id; sum = sum_at i.id rs; missing = missing_at i.id rs }
 
@@ -99,6 +102,7 @@ has_value rs i = list_any (λ r. is_some (latest i.id r.reports)) rs
 abbrev pub is_carried : Interval → Bool
 is_carried i = is_some i.setpoint
 
+-- the intervals that carry a setpoint, in their order
 abbrev pub carried : List Interval → List Interval
 carried intervals = filter is_carried intervals
 
@@ -127,6 +131,7 @@ event_body (Some (Live moment (body.Program name))) = None
 event_body (Some (Live moment (body.Event event))) = Some event
 event_body (Some (Live moment (body.Opaque reason))) = None
 
+-- what an event of an id says that is live upstream, where its body was read
 abbrev pub event_at : List (MirrorKey × Mark) → List ℕ → Option EventBody
 event_at mirror id = event_body (at mirror_cmp (event_key id) mirror)
 

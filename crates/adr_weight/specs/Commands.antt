@@ -11,14 +11,17 @@ use Rattle.adr_weight.specs.Upstream.{found_weight}
 use Rattle.adr_weight.specs.Posted.{ven_in_weight, resource_in_weight, report_in_weight}
 use Rattle.adr_weight.specs.Subscriptions.{sub_in_weight}
 
+-- what stands behind a role: the id of a ven; nothing behind the operator and the utility
 abbrev pub role_weight : Role → ℕ
 role_weight Operator = 0
 role_weight (Ven id) = text_weight id
 role_weight Utility = 0
 
+-- versions that were found, as a list
 abbrev pub founds_weight : List Found → ℕ
 founds_weight founds = list_weight FOUND found_weight founds
 
+-- what stands behind a command: its role, and each id and object that it carries
 abbrev pub command_weight : Command → ℕ
 command_weight (Evidence founds polled) = founds_weight founds
 command_weight (Gone kind id) = text_weight id

@@ -11,15 +11,19 @@ use Rattle.adr_weight.specs.Sums.{nothing, text_weight, option_weight, table_wei
 use Rattle.adr_weight.specs.Posted.{usages_weight}
 use Rattle.adr_weight.specs.Subscriptions.{sub_weight}
 
+-- what stands behind a kept ven: its name
 abbrev pub ven_weight : Ven → ℕ
 ven_weight v = text_weight v.name
 
+-- what stands behind a kept resource: its name
 abbrev pub resource_weight : Resource → ℕ
 resource_weight r = text_weight r.name
 
+-- what stands behind the key of a share: the id of its program
 abbrev pub share_key_weight : ShareKey → ℕ
 share_key_weight key = text_weight key.program
 
+-- what a report is about: its program, event, client and resource name, and its name where it has one
 abbrev pub report_head_weight : ReportHead → ℕ
 report_head_weight h = text_weight h.program
     + text_weight h.event
@@ -27,9 +31,11 @@ report_head_weight h = text_weight h.program
     + option_weight text_weight h.name
     + text_weight h.resource_name
 
+-- what stands behind a kept report: what it is about, and its intervals
 abbrev pub report_weight : Report → ℕ
 report_weight r = report_head_weight r.body.head + usages_weight r.body.intervals
 
+-- the maps of the vens, resources, shares, reports and subscriptions, added up
 abbrev pub portfolio_weight : Portfolio → ℕ
 portfolio_weight p = table_weight VEN_ROW nothing ven_weight p.vens
     + table_weight RESOURCE_ROW nothing resource_weight p.resources

@@ -15,7 +15,7 @@ LastFails old new = (new.failed ≡ old.failed + 1) × (new.has_failed ≡ true)
 abbrev pub RunsOut : ℕ → Calls → Calls → Type 0
 RunsOut most old new = (new.made ≡ old.made + most) × NoneFails old new
 
--- a part of the bytes was written
+-- a part of the bytes was written, from their front
 pub record WritesPart (old new : Option (List ℕ)) (bytes : List ℕ) : Type 0 where
   pub part : ℕ
   pub written : Appends old new (take part bytes)

@@ -10,6 +10,7 @@ pub record LineAt (bytes : List ℕ) (l : ChunkLine) (rest : List ℕ) : Type 0 
   pub reads : ReadsChunkLine bytes l rest
   pub within : length (print_chunk_line l) ≤ 16384
 
+-- the bytes begin with no such chunk line
 abbrev pub HasNoLine : List ℕ → Type 0
 HasNoLine bytes = (l : ChunkLine) (rest : List ℕ) → ¬ (LineAt bytes l rest)
 
@@ -19,6 +20,7 @@ pub record TrailersAt (bytes : List ℕ) (fields : List Field) (end : LineEnd) (
   pub within : length (print_section fields end) ≤ 16384
   pub few : length fields ≤ 64
 
+-- they begin with no such trailers
 abbrev pub HasNoTrailers : List ℕ → Type 0
 HasNoTrailers bytes = (fields : List Field) (end : LineEnd) (rest : List ℕ) → ¬ (TrailersAt bytes fields end rest)
 
@@ -31,7 +33,7 @@ pub record TrailersFound (bytes : List ℕ) (size : ℕ) : Type 0 where
   pub fits : size ≤ length bytes
   pub few : length fields ≤ 64
 
--- the first n bytes of these, if a line end is all that follows
+-- the first n bytes of these, if a line end is all that follows; malformed where anything else stands behind them
 abbrev pub without_end : ℕ → Result (List ℕ) MessageFault → Result (List ℕ) MessageFault
 without_end n (Ok piece) = if bytes_eq (drop n piece) (13 ∷ 10 ∷ []) then Ok (take n piece) else Err Malformed
 without_end n (Err f) = Err f

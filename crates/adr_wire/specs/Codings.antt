@@ -22,5 +22,6 @@ codings_of value = flat_map coding_in_part (parts 44 value)
 abbrev pub codings : List (List ℕ) → List (List ℕ)
 codings values = flat_map codings_of values
 
+-- the word `chunked`, in any case of letters and without parameters
 abbrev pub is_chunked : List ℕ → Bool
 is_chunked coding = same_letters coding (codes "chunked")

@@ -14,7 +14,7 @@ use Rattle.adr_wire.specs.Codings.{codings, is_chunked}
 abbrev pub is_number : List ℕ → Bool
 is_number text = nat_lt 0 (length text) && list_all is_ascii_digit text
 
--- plain digits, up to the most
+-- the length that plain digits write, malformed where the text is none, and too large above the limit
 abbrev pub length_in : ℕ → List ℕ → Result Extent MessageFault
 length_in limit text =
     if is_number text then (if nat_le (digits_value 10 text) limit then Ok (Length (digits_value 10 text)) else Err TooLarge)
@@ -29,16 +29,18 @@ abbrev pub last_first : List (List ℕ) → Result Extent MessageFault
 last_first [] = Err Malformed
 last_first (last ∷ others) = if is_chunked last then alone others else Err Malformed
 
--- the last of the codings has to be `chunked`, and only alone is it known
+-- what codings say: malformed where there is none or the last isn't `chunked`, not known where others stand before it
 abbrev pub coding_in : List (List ℕ) → Result Extent MessageFault
 coding_in codings = last_first (reverse codings)
 
--- by the values of Content-Length and those of Transfer-Encoding: at most one length, and no coding beside it
+-- where a body ends, by the values of Content-Length and those of Transfer-Encoding: unsaid with neither, after a
+-- length, or after the last chunk; at most one length, and no coding beside it, else malformed
 abbrev pub extent_by : ℕ → List (List ℕ) → List (List ℕ) → Result Extent MessageFault
 extent_by limit [] [] = Ok Unsaid
 extent_by limit (text ∷ []) [] = length_in limit text
 extent_by limit [] (value ∷ others) = coding_in (codings (value ∷ others))
 extent_by limit _ _ = Err Malformed
 
+-- where a body ends, by the fields of a head, whatever the case of their names
 unfoldable pub extent_in : ℕ → List (List ℕ × List ℕ) → Result Extent MessageFault
 extent_in limit fields = extent_by limit (values (codes "content-length") fields) (values (codes "transfer-encoding") fields)

@@ -45,6 +45,7 @@ OnFault (Bytes f) P = P f
 OnFault Reader P = ⊤
 OnFault OutOfMemory P = ⊤
 
+-- P of the fault, if a call answered that the bytes are refused
 abbrev pub IfRefused : {A : Type 0} → Result A ReadEnd → (MessageFault → Type 0) → Type 0
 IfRefused (Ok a) P = ⊤
 IfRefused (Err e) P = OnFault e P

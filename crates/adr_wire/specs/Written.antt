@@ -1,6 +1,7 @@
 -- Lines of a head, as they are written.
 use Rattle.std.specs.Prelude.{ℕ, List, [], ◌∷◌, ◌++◌, codes}
 
+-- the end of a line: a carriage return and a line feed
 abbrev pub crlf : List ℕ
 crlf = 13 ∷ 10 ∷ []
 

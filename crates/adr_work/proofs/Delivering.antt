@@ -1,6 +1,5 @@
 -- Jobs that are sent and settled, one after another.
-use Rattle.std.proofs.Common.{◌≡◌, Bool, true, false, List, [], ◌∷◌, ◌++◌, map, Result, Ok, Err, if◌then◌else◌, refl, sym, ap, ap₂, ◌∙◌, append_assoc, append-nil}
-use Rattle.std.specs.List.{flat_map}
+use Rattle.std.proofs.Common.{◌≡◌, Bool, true, false, List, [], ◌∷◌, ◌++◌, Result, Ok, Err, if◌then◌else◌, refl, sym, ap, ap₂, ◌∙◌, append-nil}
 use Rattle.std.specs.Result.{IsErrAnd}
 use Rattle.std.proofs.lemmas.List.{map-append}
 use Rattle.std.proofs.lemmas.Result.{err_from_is_err_and}
@@ -26,6 +25,7 @@ use Rattle.adr_work.specs.Seats.{Seat}
 use Rattle.adr_work.specs.Settling.{settlement_of}
 use Rattle.adr_work.specs.Deliveries.{IsRequestOf, MayCall, IsFaultOf, TellsOf, IsSent, once, not_asked, outcome_in, Delivery, IsDelivery, Delivers}
 use Rattle.adr_work.specs.Sending.{SendsTaken}
+use Rattle.adr_work.proofs.Behind.{behind}
 
 -- ---- one job
 
@@ -109,12 +109,8 @@ more peers jobs next before between after first mid last d e = record {
   all = d.all ++ e.all;
   each = All-append (IsDelivery peers) d.all e.all d.each e.each;
   jobs_are = ap₂ (λ xs ys. xs ++ ys) d.jobs_are e.jobs_are ∙ sym (map-append job_in d.all e.all);
-  exchanges =
-      e.exchanges ∙ ap (λ xs. xs ++ flat_map asked_in e.all) d.exchanges ∙ append_assoc before (flat_map asked_in d.all) (flat_map asked_in e.all)
-      ∙ ap (λ xs. before ++ xs) (sym (flat_map-append asked_in d.all e.all));
-  steps =
-      e.steps ∙ ap (λ xs. xs ++ map step_in e.all) d.steps ∙ append_assoc first (map step_in d.all) (map step_in e.all)
-      ∙ ap (λ xs. first ++ xs) (sym (map-append step_in d.all e.all));
+  exchanges = behind before _ _ d.exchanges e.exchanges (flat_map-append asked_in d.all e.all);
+  steps = behind first _ _ d.steps e.steps (map-append step_in d.all e.all);
 }
 
 -- ---- a sender
@@ -128,7 +124,7 @@ pub sends_more : (peers : Peers) (old mid new : Seat) (before between after : Li
     → SendsTaken peers old new before after first last
 sends_more peers old mid new before between after first some last job s taken d = record {
   jobs = s.jobs ++ job ∷ [];
-  taken = taken ∙ ap (λ xs. xs ++ job ∷ []) s.taken ∙ append_assoc (view old).taken s.jobs (job ∷ []);
+  taken = behind (view old).taken s.jobs (job ∷ []) s.taken taken refl;
   delivers = more peers s.jobs (job ∷ []) before between after first some last s.delivers d;
 }
 

@@ -1,5 +1,5 @@
 -- Leases that were asked for.
-use Rattle.std.proofs.Common.{◌≡◌, List, [], ◌∷◌, ◌++◌, map, Option, Result, Ok, Err, refl, sym, ap, ◌∙◌, append_assoc, append-nil}
+use Rattle.std.proofs.Common.{◌≡◌, List, [], ◌∷◌, ◌++◌, Option, Result, Ok, Err, refl, sym, append-nil}
 use Rattle.std.proofs.lemmas.List.{map-append}
 use Rattle.adr_text.specs.declared.refusal.Refusal.{Refusal}
 use Rattle.adr_delivery.specs.declared.job.Job.{Job}
@@ -7,6 +7,7 @@ use Rattle.adr_queries.specs.declared.answer.Answer.{Answer}
 use Rattle.adr_machine.specs.declared.command.Command.TheVariants.{Lease}
 use Rattle.adr_lock.specs.Steps.{Step}
 use Rattle.adr_work.specs.Leased.{job_in, lease_with, LeasesOnce, OnlyLeases}
+use Rattle.adr_work.proofs.Behind.{behind}
 
 -- it was answered
 pub leases_ok : (before after : List Step) (answer : Answer) (job : Option Job) → after ≡ before ++ (Lease, Ok answer) ∷ [] → job ≡ job_in answer → LeasesOnce before after (Ok job)
@@ -24,9 +25,7 @@ leases_none before = record { answers = []; steps = sym (append-nil before) }
 pub leases_both : (before between after : List Step) → OnlyLeases before between → OnlyLeases between after → OnlyLeases before after
 leases_both before between after a b = record {
   answers = a.answers ++ b.answers;
-  steps =
-      b.steps ∙ ap (λ xs. xs ++ map lease_with b.answers) a.steps ∙ append_assoc before (map lease_with a.answers) (map lease_with b.answers)
-      ∙ ap (λ xs. before ++ xs) (sym (map-append lease_with a.answers b.answers));
+  steps = behind before _ _ a.steps b.steps (map-append lease_with a.answers b.answers);
 }
 
 -- these, and then one

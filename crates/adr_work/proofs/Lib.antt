@@ -1,4 +1,5 @@
 pub mod Fairness
+pub mod Behind
 pub mod Memories
 pub mod Refusing
 pub mod Paging

@@ -9,10 +9,13 @@ pub with_none : (m : Memory) → with_told m [] ≡ m
 with_none m = ap₂ memory_of (append-nil m.told) (append-nil m.trail)
 
 -- first these were told, and then those
-pub with_both : (m : Memory) (first next : List Told) → with_told (with_told m first) next ≡ with_told m (first ++ next)
+with_both : (m : Memory) (first next : List Told) → with_told (with_told m first) next ≡ with_told m (first ++ next)
 with_both m first next =
     ap₂ memory_of (append_assoc m.told first next)
     (append_assoc m.trail (commands_of first) (commands_of next) ∙ ap (λ cs. m.trail ++ cs) (sym (map-append (λ (t : Told). t.0) first next)))
+
+pub heard : (was is is' : Memory) (told more : List Told) → is ≡ with_told was told → is' ≡ with_told is more → is' ≡ with_told was (told ++ more)
+heard was is is' told more first next = next ∙ ap (λ m. with_told m more) first ∙ with_both was told more
 
 -- what holds of each refusal holds of one that came
 pub when_err : {A : Type 0} (P : Result A Refusal → Type 0) (r : Result A Refusal) → IsErr r → ((refusal : Refusal) → P (Err refusal)) → P r

@@ -16,7 +16,8 @@ use Rattle.adr_work.specs.Exchanges.{Came, Exchange, to_utility}
 use Rattle.adr_work.specs.Pages.{most_pages, most_elements, page_read, elements, command_of, pages_asked, pages_told, end_after, pages_end}
 use Rattle.adr_work.specs.Tellings.{Memory, Told, commands_of, with_told}
 use Rattle.adr_work.specs.Rounds.{Asks, Goes, ReadsPage, AsksPage, TellsPages, IsPaging}
-use Rattle.adr_work.proofs.Memories.{when_err, with_none, with_both}
+use Rattle.adr_work.proofs.Behind.{behind}
+use Rattle.adr_work.proofs.Memories.{when_err, with_none, heard}
 
 -- so many pages with elements came, and the next is asked for behind their elements
 pub record Going (u : UpstreamParts) (kind : Kind) (count skip : ℕ) (done : List Came) : Type 0 where
@@ -64,15 +65,6 @@ ends_full u kind count skip done g full =
     let none : most_pages - count ≡ 0 = omega (arith, full) in
     ap (pages_end kind most_pages) (sym (append-nil done)) ∙ g.ends [] ∙ ap (λ l. pages_end kind l []) none
 
--- what was asked behind what was asked before
-behind : (u : UpstreamParts) (kind : Kind) (before after after' : List Exchange) (done : List Came) (skip : ℕ) (pages : List Came)
-    → after ≡ before ++ pages_asked u kind 0 done → after' ≡ after ++ pages_asked u kind skip pages
-    → pages_asked u kind 0 (done ++ pages) ≡ pages_asked u kind 0 done ++ pages_asked u kind skip pages
-    → after' ≡ before ++ pages_asked u kind 0 (done ++ pages)
-behind u kind before after after' done skip pages first next both =
-    next ∙ ap (λ xs. xs ++ pages_asked u kind skip pages) first
-    ∙ append_assoc before (pages_asked u kind 0 done) (pages_asked u kind skip pages) ∙ ap (λ xs. before ++ xs) (sym both)
-
 -- what was asked and told so far, while pages have elements
 pub record SoFar (u : UpstreamParts) (kind : Kind) (before after : List Exchange) (was is : Memory) (count skip : ℕ) : Type 0 where
   pub done : List Came
@@ -98,12 +90,12 @@ sofar_none u kind before was = record {
 sofar_on : (u : UpstreamParts) (kind : Kind) (before after after' : List Exchange) (was is is' : Memory) (count skip : ℕ) (came : Came) (told : Told) (n : ℕ)
     → SoFar u kind before after was is count skip → count < most_pages → after' ≡ after ++ pages_asked u kind skip (came ∷ []) → is' ≡ with_told is (told ∷ [])
     → page_read kind came ≡ Filled told.0 n → n ≤ most_elements → SoFar u kind before after' was is' (count + 1) (skip + n)
-sofar_on u kind before after after' was is is' count skip came told n so few asked heard page size = record {
+sofar_on u kind before after after' was is is' count skip came told n so few asked told_is page size = record {
   done = so.done ++ came ∷ [];
   told = so.told ++ told ∷ [];
   going = going_on u kind count skip so.done came told.0 n so.going few page;
-  exchanges = behind u kind before after after' so.done skip (came ∷ []) so.exchanges asked (so.going.asked (came ∷ []));
-  memory = heard ∙ ap (λ m. with_told m (told ∷ [])) so.memory ∙ with_both was so.told (told ∷ []);
+  exchanges = behind before _ _ so.exchanges asked (so.going.asked (came ∷ []));
+  memory = heard was is is' so.told (told ∷ []) so.memory told_is;
   commands =
       map-append (λ (t : Told). t.0) so.told (told ∷ []) ∙ ap (λ cs. cs ++ told.0 ∷ []) so.commands
       ∙ ap (λ p. pages_told kind so.done ++ (command_of p ++ [])) (sym page) ∙ sym (so.going.told (came ∷ []));
@@ -119,7 +111,7 @@ paged_cut u kind before after after' was is is' count skip q r so a same err =
     let done = so.done ++ pages in record {
       asked = pages_asked u kind 0 done;
       told = so.told;
-      exchanges = behind u kind before after after' so.done skip pages so.exchanges (a.exchanges ∙ ap (λ xs. after ++ xs) a.holds.asked_is) (so.going.asked pages);
+      exchanges = behind before _ _ so.exchanges (a.exchanges ∙ ap (λ xs. after ++ xs) a.holds.asked_is) (so.going.asked pages);
       memory = same ∙ so.memory;
       holds = record {
         pages = done;
@@ -138,7 +130,7 @@ paged_with : (u : UpstreamParts) (kind : Kind) (before after after' : List Excha
 paged_with u kind before after after' was is count skip came page end so few asked read none ends = record {
   asked = pages_asked u kind 0 (so.done ++ came ∷ []);
   told = so.told;
-  exchanges = behind u kind before after after' so.done skip (came ∷ []) so.exchanges asked (so.going.asked (came ∷ []));
+  exchanges = behind before _ _ so.exchanges asked (so.going.asked (came ∷ []));
   memory = so.memory;
   holds = record {
     pages = so.done ++ came ∷ [];
@@ -159,8 +151,8 @@ asked_one u kind skip after after' page a = a.exchanges ∙ ap (λ xs. after ++ 
 pub sofar_more : (u : UpstreamParts) (kind : Kind) (before after after' : List Exchange) (was is is' : Memory) (count skip : ℕ) (page : PageRead) (told : Told) (n : ℕ)
     → SoFar u kind before after was is count skip → count < most_pages → Asks after after' (AsksPage u kind skip (Ok page)) → page ≡ Filled told.0 n
     → elements page ≤ most_elements → is' ≡ with_told is (told ∷ []) → SoFar u kind before after' was is' (count + 1) (skip + n)
-sofar_more u kind before after after' was is is' count skip page told n so few a filled size heard =
-    sofar_on u kind before after after' was is is' count skip a.holds.reads.0 told n so few (asked_one u kind skip after after' page a) heard
+sofar_more u kind before after after' was is is' count skip page told n so few a filled size told_is =
+    sofar_on u kind before after after' was is is' count skip a.holds.reads.0 told n so few (asked_one u kind skip after after' page a) told_is
     (sym a.holds.reads.2 ∙ filled) (subst (λ p. elements p ≤ most_elements) filled size)
 
 -- an empty page

@@ -13,7 +13,8 @@ use Rattle.adr_work.specs.Exchanges.{Came, Exchange, to_utility}
 use Rattle.adr_work.specs.Probes.{Probe, probe_told, probe_asked, probes_asked, probes_told, keys_of}
 use Rattle.adr_work.specs.Tellings.{Memory, Told, commands_of, with_told}
 use Rattle.adr_work.specs.Rounds.{AreFirstOf, Goes, TellsProbe, IsProbe, TellsProbes, IsProbing}
-use Rattle.adr_work.proofs.Memories.{when_err, with_none, with_both}
+use Rattle.adr_work.proofs.Behind.{behind}
+use Rattle.adr_work.proofs.Memories.{when_err, with_none, heard}
 
 told_append : (xs ys : List Probe) → probes_told (xs ++ ys) ≡ probes_told xs ++ probes_told ys
 told_append xs ys = filter_map-append (λ (p : Probe). probe_told p.0 p.1) xs ys
@@ -43,22 +44,12 @@ probed_none u before was = record {
   keys_are = refl;
 }
 
--- what was asked behind what was asked before
-behind : (u : UpstreamParts) (before after after' : List Exchange) (probes more : List Probe)
-    → after ≡ before ++ probes_asked u probes → after' ≡ after ++ probes_asked u more → after' ≡ before ++ probes_asked u (probes ++ more)
-behind u before after after' probes more first next =
-    next ∙ ap (λ xs. xs ++ probes_asked u more) first ∙ append_assoc before (probes_asked u probes) (probes_asked u more)
-    ∙ ap (λ xs. before ++ xs) (sym (asked_append u probes more))
-
-heard : (was is is' : Memory) (told more : List Told) → is ≡ with_told was told → is' ≡ with_told is more → is' ≡ with_told was (told ++ more)
-heard was is is' told more first next = next ∙ ap (λ m. with_told m more) first ∙ with_both was told more
-
 pub probed_more : (u : UpstreamParts) (before after after' : List Exchange) (was is is' : Memory) (keys : List MirrorKey) (key : MirrorKey)
     → Probed u before after was is keys → Goes after after' is is' (IsProbe u key (Ok tt)) → Probed u before after' was is' (keys ++ key ∷ [])
 probed_more u before after after' was is is' keys key p g = record {
   probes = p.probes ++ g.holds.probes;
   told = p.told ++ g.told;
-  exchanges = behind u before after after' p.probes g.holds.probes p.exchanges (g.exchanges ∙ ap (λ xs. after ++ xs) g.holds.asked_is);
+  exchanges = behind before _ _ p.exchanges (g.exchanges ∙ ap (λ xs. after ++ xs) g.holds.asked_is) (asked_append u p.probes g.holds.probes);
   memory = heard was is is' p.told g.told p.memory g.memory;
   commands = map-append (λ (t : Told). t.0) p.told g.told ∙ ap₂ (λ xs ys. xs ++ ys) p.commands g.holds.tells.0 ∙ sym (told_append p.probes g.holds.probes);
   keys_are = keys_append p.probes g.holds.probes ∙ ap₂ (λ xs ys. xs ++ ys) p.keys_are g.holds.tells.1;
@@ -72,7 +63,7 @@ probed_cut u before after after' was is is' keys key rest all refusal r p are g 
     let left = g.holds.tells.1.0 in record {
       asked = probes_asked u (p.probes ++ more);
       told = p.told ++ g.told;
-      exchanges = behind u before after after' p.probes more p.exchanges (g.exchanges ∙ ap (λ xs. after ++ xs) g.holds.asked_is);
+      exchanges = behind before _ _ p.exchanges (g.exchanges ∙ ap (λ xs. after ++ xs) g.holds.asked_is) (asked_append u p.probes more);
       memory = heard was is is' p.told g.told p.memory g.memory;
       holds = record {
         probes = p.probes ++ more;

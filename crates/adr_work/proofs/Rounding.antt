@@ -13,17 +13,11 @@ use Rattle.adr_work.specs.Pages.{most_pages, pages_asked, pages_told, pages_end}
 use Rattle.adr_work.specs.Probes.{Probe, probes_asked, keys_in}
 use Rattle.adr_work.specs.Tellings.{Memory, Told, commands_of, with_told}
 use Rattle.adr_work.specs.Rounds.{Goes, TellsPages, IsPaging, TellsBoth, IsListing, IsProbing, IsEnding, IsRound, both_asked}
-use Rattle.adr_work.proofs.Memories.{when_err, with_none, with_both}
+use Rattle.adr_work.proofs.Behind.{behind}
+use Rattle.adr_work.proofs.Memories.{when_err, with_none, heard}
 
 told_both : (xs ys : List Told) → commands_of (xs ++ ys) ≡ commands_of xs ++ commands_of ys
 told_both xs ys = map-append (λ (t : Told). t.0) xs ys
-
--- exchanges behind exchanges
-behind : (before after after' first next : List Exchange) → after ≡ before ++ first → after' ≡ after ++ next → after' ≡ before ++ (first ++ next)
-behind before after after' first next one two = two ∙ ap (λ xs. xs ++ next) one ∙ append_assoc before first next
-
-heard : (was is is' : Memory) (told more : List Told) → is ≡ with_told was told → is' ≡ with_told is more → is' ≡ with_told was (told ++ more)
-heard was is is' told more first next = next ∙ ap (λ m. with_told m more) first ∙ with_both was told more
 
 -- ---- programs and events
 
@@ -76,7 +70,7 @@ pub listed_next : (u : UpstreamParts) (before after after' : List Exchange) (was
 listed_next u before after after' was is is' r p e = record {
   asked = p.asked ++ e.asked;
   told = p.told ++ e.told;
-  exchanges = behind before after after' p.asked e.asked p.exchanges e.exchanges;
+  exchanges = behind before p.asked e.asked p.exchanges e.exchanges refl;
   memory = heard was is is' p.told e.told p.memory e.memory;
   holds = record {
     programs = p.holds.pages;
@@ -192,7 +186,7 @@ module _ (u : UpstreamParts) (before after : List Exchange) (was is is' : Memory
         let rest = e.holds.tells in record {
           asked = g.asked ++ e.asked;
           told = scanned ++ e.told;
-          exchanges = behind before after after' g.asked e.asked g.exchanges e.exchanges;
+          exchanges = behind before g.asked e.asked g.exchanges e.exchanges refl;
           memory = heard_all e.told e.memory;
           holds = when_err (λ x. IsRound u x (g.asked ++ e.asked) (scanned ++ e.told)) r err (λ _. record {
             programs = g.holds.programs;
@@ -211,7 +205,7 @@ module _ (u : UpstreamParts) (before after : List Exchange) (was is is' : Memory
     round_whole e = record {
       asked = g.asked ++ e.asked;
       told = scanned ++ e.told;
-      exchanges = behind before after after' g.asked e.asked g.exchanges e.exchanges;
+      exchanges = behind before g.asked e.asked g.exchanges e.exchanges refl;
       memory = heard_all e.told e.memory;
       holds = record {
         programs = g.holds.programs;

@@ -1,5 +1,5 @@
 -- Rounds at an office.
-use Rattle.std.proofs.Common.{◌≡◌, List, [], ◌∷◌, ◌++◌, Result, sym, ap, ◌∙◌, append_assoc, append-nil}
+use Rattle.std.proofs.Common.{◌≡◌, List, [], ◌∷◌, ◌++◌, Result, sym, ap, ◌∙◌, append-nil}
 use Rattle.std.specs.List.{flat_map}
 use Rattle.std.proofs.lemmas.List.Concat.{flat_map-append}
 use Rattle.std.proofs.lemmas.List.Elements.{All-nil, All-push}
@@ -11,6 +11,7 @@ use Rattle.adr_work.specs.Exchanges.{Exchange}
 use Rattle.adr_work.specs.Tellings.{Memory, Told, accepted, commands_of, memory_of}
 use Rattle.adr_work.specs.Rounds.{Goes, IsRound}
 use Rattle.adr_work.specs.OfficeRounds.{TakesRound, Round, IsMade, TakesRounds}
+use Rattle.adr_work.proofs.Behind.{behind}
 
 -- its commands are the steps that were accepted
 pub takes_round : (u : UpstreamParts) (before after : List Exchange) (first last : List Step) (r : Result PollEnd Refusal)
@@ -31,8 +32,8 @@ abbrev told_in : Round → List Told
 told_in round = round.told
 
 -- what is of one element more stands behind what is of the others
-behind : {A B : Type 0} (f : A → List B) (xs : List A) (x : A) → flat_map f xs ++ f x ≡ flat_map f (xs ++ x ∷ [])
-behind f xs x = ap (λ ys. flat_map f xs ++ ys) (sym (append-nil (f x))) ∙ sym (flat_map-append f xs (x ∷ []))
+one_more : {A B : Type 0} (f : A → List B) (xs : List A) (x : A) → flat_map f (xs ++ x ∷ []) ≡ flat_map f xs ++ f x
+one_more f xs x = flat_map-append f xs (x ∷ []) ∙ ap (λ ys. flat_map f xs ++ ys) (append-nil (f x))
 
 -- no round
 pub rounds_none : (u : UpstreamParts) (before : List Exchange) (first : List Step) → TakesRounds u before before first first
@@ -50,12 +51,8 @@ rounds_more u before between after first some last r s t =
     let round : Round = record { asked = t.asked; told = t.told; ended = r } in record {
       rounds = s.rounds ++ round ∷ [];
       each = All-push (IsMade u) s.rounds round s.each t.round;
-      exchanges =
-          t.exchanges ∙ ap (λ xs. xs ++ t.asked) s.exchanges ∙ append_assoc before (flat_map asked_in s.rounds) t.asked
-          ∙ ap (λ xs. before ++ xs) (behind asked_in s.rounds round);
-      steps =
-          t.steps ∙ ap (λ xs. xs ++ t.told) s.steps ∙ append_assoc (accepted first) (flat_map told_in s.rounds) t.told
-          ∙ ap (λ xs. accepted first ++ xs) (behind told_in s.rounds round);
+      exchanges = behind before _ t.asked s.exchanges t.exchanges (one_more asked_in s.rounds round);
+      steps = behind (accepted first) _ t.told s.steps t.steps (one_more told_in s.rounds round);
     }
 
 -- the same, by other names

@@ -38,7 +38,7 @@ abbrev pub MayCall : Option (List Network) → Callee → Type 0
 MayCall networks Utility = Unit {0}
 MayCall networks (Callback endpoint) = AllowsEndpoint networks (string_bytes endpoint)
 
--- a job has no request, for this reason, or whom it is for may not be called
+-- a job has no request, for this reason or for want of memory, or whom it is for may not be called
 abbrev pub IsFaultOf : Peers → Job → SendFault → Type 0
 IsFaultOf peers job (Refused refusal) = Fails refusal (job_bytes peers.upstream job)
 IsFaultOf peers job NotAllowed = (request : Request) × IsRequestOf peers.upstream job request × (¬ (MayCall peers.callbacks request.to))

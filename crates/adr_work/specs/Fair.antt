@@ -10,10 +10,12 @@ abbrev pub weigh : {A : Type 0} → (A → ℕ) → List A → ℕ
 weigh h [] = 0
 weigh h (x ∷ xs) = h x + weigh h xs
 
+-- what the holder of a seat has: parts of the right to know the whole, and the jobs that it put, that it took, and
+-- that it took out when all had ended
 abbrev pub hand : ℕ → List Job → List Job → List Job → Hand
 hand parts put taken left = record { parts = parts; put = put; taken = taken; left = left }
 
--- how many parts there are of the right to know the whole
+-- how many parts there are of the right to know the whole: 64
 abbrev pub all_parts : ℕ
 all_parts = 64
 

@@ -29,7 +29,7 @@ most_pages = 2000
 abbrev pub page_of_length : List Found → ℕ → PageRead
 page_of_length found count = if count == 0 then Empty else (if nat_le count most_elements then Filled (command.Evidence found true) count else Failed)
 
--- the page that a finding is
+-- the page that a finding is: one with elements, an empty one, or a failed one, as with more than 8,388,608 elements
 abbrev pub page_in : Finding → PageRead
 page_in (finding.Page found skipped) = page_of_length found (length found + skipped)
 page_in _ = Failed

@@ -38,6 +38,7 @@ Probe = MirrorKey × Came
 abbrev pub probe_asked : UpstreamParts → Probe → Exchange
 probe_asked u probe = (to_utility (request_bytes (probe_request u probe.0.kind probe.0.id)), probe.1)
 
+-- the requests of probes, in their order, each with what came of it
 abbrev pub probes_asked : UpstreamParts → List Probe → List Exchange
 probes_asked u probes = map (probe_asked u) probes
 

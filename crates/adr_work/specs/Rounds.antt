@@ -76,6 +76,8 @@ abbrev pub TellsBoth : List Came → List Came → Result PollEnd Refusal → Li
 TellsBoth programs events (Ok end) commands = (commands ≡ both_told programs events) × BothEnd programs events end
 TellsBoth programs events (Err refusal) commands = AreFirstOf commands (both_told programs events)
 
+-- the pages of programs and then of events were asked for, and what they stand for was told; the first of that, after
+-- a refusal
 pub record IsListing (u : UpstreamParts) (r : Result PollEnd Refusal) (asked : List Exchange) (told : List Told) : Type 0 where
   pub programs : List Came
   pub events : List Came
@@ -89,6 +91,7 @@ abbrev pub TellsProbe : MirrorKey → List Probe → Result (Unit {0}) Refusal �
 TellsProbe key probes (Ok _) commands = (commands ≡ probes_told probes) × (keys_of probes ≡ key ∷ [])
 TellsProbe key probes (Err refusal) commands = (commands ≡ []) × AreFirstOf (keys_of probes) (key ∷ [])
 
+-- a key was probed, and what came stands for was told; after a refusal nothing was told, and it may not be probed
 pub record IsProbe (u : UpstreamParts) (key : MirrorKey) (r : Result (Unit {0}) Refusal) (asked : List Exchange) (told : List Told) : Type 0 where
   pub probes : List Probe
   pub asked_is : asked ≡ probes_asked u probes
@@ -121,6 +124,7 @@ pub record CutsEnd (u : UpstreamParts) (asked : List Exchange) (told : List Told
   pub asked_is : asked ≡ probes_asked u probes
   pub tells : AreFirstOf (commands_of told) (ScanEnd ∷ probes_told probes)
 
+-- the scan was ended, and the keys that its answer lists were probed; the first of that was told, after a refusal
 abbrev pub IsEnding : UpstreamParts → Result (Unit {0}) Refusal → List Exchange → List Told → Type 0
 IsEnding u (Ok ok) asked told = EndsScan u asked told
 IsEnding u (Err refusal) asked told = CutsEnd u asked told
@@ -158,6 +162,7 @@ pub record IsRefusedRound (u : UpstreamParts) (asked : List Exchange) (told : Li
   pub asked_is : asked ≡ both_asked u programs events ++ probes_asked u probes
   pub told_is : AreFirstOf (commands_of told) (ScanBegin ∷ both_told programs events ++ ScanEnd ∷ probes_told probes)
 
+-- a round by how it ended: it saw all pages, or it did not, or a refusal ended it
 abbrev pub IsRound : UpstreamParts → Result PollEnd Refusal → List Exchange → List Told → Type 0
 IsRound u (Ok Whole) asked told = IsWholeRound u asked told
 IsRound u (Ok Broken) asked told = IsBrokenRound u asked told

@@ -8,6 +8,7 @@ use Rattle.adr_work.specs.declared.hand.Hand.{Hand}
 use Rattle.adr_work.specs.Fair.{hand}
 use Rattle.adr_work.specs.declared.queue.JobQueue.{JobQueue}
 
+-- what one thread knows of the queue
 abbrev pub Seat : Type 0
 Seat = passes.Pass Job Hand
 
@@ -15,6 +16,7 @@ Seat = passes.Pass Job Hand
 abbrev pub capacity_of : JobQueue → ℕ
 capacity_of queue = ruled_capacity queue.ring
 
+-- a seat is one of this queue
 abbrev pub IsSeatOf : JobQueue → Seat → Type 0
 IsSeatOf queue seat = IsPassOf queue.ring seat
 

@@ -19,6 +19,7 @@ accepted_one command (Err refusal) = None
 abbrev pub accepted : List Step → List Told
 accepted steps = filter_map (λ s. accepted_one s.0 s.1) steps
 
+-- the commands alone, in their order, of what was told
 abbrev pub commands_of : List Told → List Command
 commands_of told = map (λ t. t.0) told
 
@@ -27,6 +28,7 @@ pub record Memory : Type 0 where
   pub told : List Told
   pub trail : List Command
 
+-- what was told, beside the commands of a trail
 abbrev pub memory_of : List Told → List Command → Memory
 memory_of told trail = record { told = told; trail = trail }
 

@@ -211,9 +211,6 @@ notice_plain n kind operation about h = object_of_plain n (notice_fields kind op
 pub event_object_whole : (e : EventObject) → has_float (event_object_data e) ≡ false
 event_object_whole e = (event_object_plain e).no_float
 
-pub event_objects_whole : (es : List EventObject) → has_float (array_of (map event_object_data es)) ≡ false
-event_objects_whole es = let all = array_of_plain 6 event_object_data event_object_plain es in all.no_float
-
 pub program_object_whole : (p : ProgramObject) → has_float (program_object_data p) ≡ false
 program_object_whole p = (program_object_plain p).no_float
 

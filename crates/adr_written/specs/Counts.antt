@@ -15,8 +15,10 @@ counts_fields c =
     ∷ (codes "sent", Some (natural_data c.sent))
     ∷ []
 
+-- `dropped`, `givenUp`, `made`, `pending` and `sent`
 unfoldable pub counts_data : OutboxCounts → Data
 counts_data c = object_of (counts_fields c)
 
+-- how many notifications were dropped, given up, made and sent, and how many are pending, as compact JSON
 unfoldable pub counts_text : OutboxCounts → List ℕ
 counts_text c = compact_text (counts_data c)

@@ -25,6 +25,7 @@ values_fields type values =
     ∷ (codes "values", Some values)
     ∷ []
 
+-- a payload or a target: `type`, and `values` as an array
 unfoldable pub values_data : List ℕ → List Data → Data
 values_data type values = object_of (values_fields type (array_of values))
 
@@ -40,6 +41,8 @@ shown_interval_fields i =
     ∷ (codes "payloads", Some (payloads_data (codes "DISPATCH_SETPOINT") (option_map whole_data i.part)))
     ∷ []
 
+-- `id`, `intervalPeriod`, which may be absent, and `payloads`: the resource's part as `DISPATCH_SETPOINT`, where it
+-- has one
 unfoldable pub shown_interval_data : ShownInterval → Data
 shown_interval_data i = object_of (shown_interval_fields i)
 
@@ -48,6 +51,7 @@ abbrev pub targets_data : List ℕ → List ℕ → Data
 targets_data ven resource =
     array_of (values_data (codes "VEN_NAME") (string ven ∷ []) ∷ values_data (codes "RESOURCE_NAME") (string resource ∷ []) ∷ [])
 
+-- `createdDateTime`, `eventName`, `id`, `intervalPeriod` and `intervals`, of which name and period may be absent
 abbrev pub event_object_head : EventObject → List (List ℕ × Option Data)
 event_object_head e =
     (codes "createdDateTime", Some (moment_data e.stamps.created))
@@ -57,6 +61,7 @@ event_object_head e =
     ∷ (codes "intervals", Some (array_of (map shown_interval_data e.shown.intervals)))
     ∷ []
 
+-- `modificationDateTime`, `objectType`, `priority`, which may be absent, `programID` and `targets`
 abbrev pub event_object_tail : EventObject → List (List ℕ × Option Data)
 event_object_tail e =
     (codes "modificationDateTime", Some (moment_data e.stamps.modified))
@@ -69,6 +74,7 @@ event_object_tail e =
 abbrev pub event_object_fields : EventObject → List (List ℕ × Option Data)
 event_object_fields e = event_object_head e ++ event_object_tail e
 
+-- an event as a resource is shown it: the members of `event_object_head` and of `event_object_tail`
 unfoldable pub event_object_data : EventObject → Data
 event_object_data e = object_of (event_object_fields e)
 
@@ -81,6 +87,7 @@ program_object_fields p =
     ∷ (codes "programName", Some (string p.name))
     ∷ []
 
+-- `createdDateTime`, `id`, `modificationDateTime`, `objectType` and `programName`
 unfoldable pub program_object_data : ProgramObject → Data
 program_object_data p = object_of (program_object_fields p)
 
@@ -93,6 +100,7 @@ ven_object_fields v =
     ∷ (codes "venName", Some (string v.name))
     ∷ []
 
+-- `createdDateTime`, `id`, `modificationDateTime`, `objectType` and `venName`
 unfoldable pub ven_object_data : VenObject → Data
 ven_object_data v = object_of (ven_object_fields v)
 
@@ -106,6 +114,7 @@ resource_object_fields r =
     ∷ (codes "venID", Some (string (ven_id r.ven)))
     ∷ []
 
+-- `createdDateTime`, `id`, `modificationDateTime`, `objectType`, `resourceName` and `venID`
 unfoldable pub resource_object_data : ResourceObject → Data
 resource_object_data r = object_of (resource_object_fields r)
 
@@ -116,6 +125,7 @@ share_object_fields s =
     ∷ (codes "share", Some (natural_data s.share))
     ∷ []
 
+-- `programID`, `resourceID` and `share`
 unfoldable pub share_object_data : ShareObject → Data
 share_object_data s = object_of (share_object_fields s)
 
@@ -127,27 +137,30 @@ problem_fields r =
     ∷ (codes "title", Some (string (title_of r)))
     ∷ []
 
+-- `detail`, `status` and `title` of a refusal
 unfoldable pub problem_data : Refusal → Data
 problem_data r = object_of (problem_fields r)
 
--- the texts of them
+-- an event as a resource is shown it, as compact JSON
 unfoldable pub event_text : EventObject → List ℕ
 event_text e = compact_text (event_object_data e)
 
-unfoldable pub events_text : List EventObject → List ℕ
-events_text es = compact_text (array_of (map event_object_data es))
-
+-- a program as it is shown, as compact JSON
 unfoldable pub program_text : ProgramObject → List ℕ
 program_text p = compact_text (program_object_data p)
 
+-- a ven, as compact JSON
 unfoldable pub ven_text : VenObject → List ℕ
 ven_text v = compact_text (ven_object_data v)
 
+-- a resource with the id of its ven, as compact JSON
 unfoldable pub resource_text : ResourceObject → List ℕ
 resource_text r = compact_text (resource_object_data r)
 
+-- a resource's share in a program, as compact JSON
 unfoldable pub share_text : ShareObject → List ℕ
 share_text s = compact_text (share_object_data s)
 
+-- what a refusal says, in the manner of RFC 7807, as compact JSON
 unfoldable pub problem_text : Refusal → List ℕ
 problem_text r = compact_text (problem_data r)

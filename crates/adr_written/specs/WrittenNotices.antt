@@ -20,15 +20,18 @@ notice_fields kind operation about =
     ∷ (codes "operation", Some (string (operation_word operation)))
     ∷ []
 
+-- `object`, `objectType` with the word for its kind, and `operation` with the word for what was done to it
 unfoldable pub notice_data : ObjectKind → OperationKind → Data → Data
 notice_data kind operation about = object_of (notice_fields kind operation about)
 
--- what was done to a program, to an event as it is shown, or to a report
+-- what was done to a program, with the program as it is written, as compact JSON
 unfoldable pub program_notice_text : OperationKind → ProgramObject → List ℕ
 program_notice_text operation p = compact_text (notice_data Program operation (program_object_data p))
 
+-- what was done to an event, with the event as a resource is shown it, as compact JSON
 unfoldable pub event_notice_text : OperationKind → EventObject → List ℕ
 event_notice_text operation e = compact_text (notice_data Event operation (event_object_data e))
 
+-- what was done to a report, with the report as it is written, as compact JSON
 unfoldable pub report_notice_text : OperationKind → ReportObject → List ℕ
 report_notice_text operation r = compact_text (notice_data Report operation (report_object_data r))

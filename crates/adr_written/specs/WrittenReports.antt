@@ -18,6 +18,7 @@ resource_fields intervals name =
     ∷ (codes "resourceName", Some (string name))
     ∷ []
 
+-- an array of one resource: `intervals` and `resourceName`
 unfoldable pub resources_data : Data → List ℕ → Data
 resources_data intervals name = array_of (object_of (resource_fields intervals name) ∷ [])
 
@@ -29,10 +30,12 @@ usage_interval_fields i =
     ∷ (codes "payloads", Some (payloads_data (codes "USAGE") (option_map whole_data i.usage)))
     ∷ []
 
+-- `id` and `payloads`: the number that is reported as `USAGE`, where there is one
 unfoldable pub usage_interval_data : UsageInterval → Data
 usage_interval_data i = object_of (usage_interval_fields i)
 
--- eventID is the id of the event as it is shown to the resource
+-- `clientName`, `createdDateTime`, `eventID` and `id`, where `eventID` is the id of the event as it is shown to the
+-- resource
 abbrev pub report_object_head : ReportObject → List (List ℕ × Option Data)
 report_object_head r =
     (codes "clientName", Some (string r.body.head.client))
@@ -41,6 +44,7 @@ report_object_head r =
     ∷ (codes "id", Some (string (report_id r.number)))
     ∷ []
 
+-- `modificationDateTime`, `objectType`, `programID`, `reportName`, which may be absent, and `resources`
 abbrev pub report_object_tail : ReportObject → List (List ℕ × Option Data)
 report_object_tail r =
     (codes "modificationDateTime", Some (moment_data r.stamps.modified))
@@ -53,15 +57,17 @@ report_object_tail r =
 abbrev pub report_object_fields : ReportObject → List (List ℕ × Option Data)
 report_object_fields r = report_object_head r ++ report_object_tail r
 
+-- a report: the members of `report_object_head` and of `report_object_tail`
 unfoldable pub report_object_data : ReportObject → Data
 report_object_data r = object_of (report_object_fields r)
 
 -- ---- a roll-up
 
--- the names of those that are missing, where some are
+-- the names of those that are missing, where some are, as a payload `MISSING_RESOURCES`
 abbrev pub missing_data : List (List ℕ) → List Data
 missing_data names = if length names == 0 then [] else values_data (codes "MISSING_RESOURCES") (map string names) ∷ []
 
+-- the sum of an interval, as a payload `USAGE`
 abbrev pub sum_data : RollupInterval → Data
 sum_data i = values_data (codes "USAGE") (whole_data i.sum ∷ [])
 
@@ -71,9 +77,11 @@ rollup_interval_fields i =
     ∷ (codes "payloads", Some (array_of (sum_data i ∷ missing_data i.missing)))
     ∷ []
 
+-- `id` and `payloads`: the sum, and then the names of those that are missing, where some are
 unfoldable pub rollup_interval_data : RollupInterval → Data
 rollup_interval_data i = object_of (rollup_interval_fields i)
 
+-- the one resource `AGGREGATED_REPORT`, with the intervals of the roll-up
 abbrev pub rollup_resources : Rollup → Data
 rollup_resources r = resources_data (array_of (map rollup_interval_data r.intervals)) (codes "AGGREGATED_REPORT")
 
@@ -86,13 +94,17 @@ rollup_object_fields r =
     ∷ (codes "resources", Some (rollup_resources r.rollup))
     ∷ []
 
+-- a roll-up: `clientName`, `eventID`, `programID` and `resources`
 unfoldable pub rollup_object_data : RollupObject → Data
 rollup_object_data r = object_of (rollup_object_fields r)
 
 -- ---- the texts of them
 
+-- a report, under the id of the event as it is shown to the resource, as compact JSON
 unfoldable pub report_text : ReportObject → List ℕ
 report_text r = compact_text (report_object_data r)
 
+-- a roll-up, under the id of the upstream event, as compact JSON: in each interval the sum and then the names of
+-- those that are missing, where some are
 unfoldable pub rollup_text : RollupObject → List ℕ
 rollup_text r = compact_text (rollup_object_data r)

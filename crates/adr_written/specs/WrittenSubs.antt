@@ -16,9 +16,11 @@ shown_item_fields i =
     ∷ (codes "operations", Some (operations_data i.operations))
     ∷ []
 
+-- `callbackUrl`, `objects` and `operations`, without the token
 unfoldable pub shown_item_data : SubscriptionItem → Data
 shown_item_data i = object_of (shown_item_fields i)
 
+-- `clientName`, `createdDateTime`, `id` and `modificationDateTime`
 abbrev pub sub_object_head : SubObject → List (List ℕ × Option Data)
 sub_object_head s =
     (codes "clientName", Some (string s.sub.client_name))
@@ -27,6 +29,7 @@ sub_object_head s =
     ∷ (codes "modificationDateTime", Some (moment_data s.stamps.modified))
     ∷ []
 
+-- `objectOperations`, `objectType`, `programID` and `targets`, of which the last two may be absent
 abbrev pub sub_object_tail : SubObject → List (List ℕ × Option Data)
 sub_object_tail s =
     (codes "objectOperations", Some (array_of (map shown_item_data s.sub.items)))
@@ -38,8 +41,10 @@ sub_object_tail s =
 abbrev pub sub_object_fields : SubObject → List (List ℕ × Option Data)
 sub_object_fields s = sub_object_head s ++ sub_object_tail s
 
+-- a subscription: the members of `sub_object_head` and of `sub_object_tail`
 unfoldable pub sub_object_data : SubObject → Data
 sub_object_data s = object_of (sub_object_fields s)
 
+-- a subscription, without its tokens, as compact JSON
 unfoldable pub sub_text : SubObject → List ℕ
 sub_text s = compact_text (sub_object_data s)

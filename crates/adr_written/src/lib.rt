@@ -11,7 +11,7 @@ mod write_subs;
 
 pub use ids::{report_id, resource_id, shown_id, sub_id, ven_id};
 pub use write::{
-    write_event, write_events, write_problem, write_program, write_resource, write_share, write_ven,
+    write_event, write_problem, write_program, write_resource, write_share, write_ven,
 };
 pub use write_notices::{write_event_notice, write_program_notice, write_report_notice};
 pub use write_outbox::write_counts;

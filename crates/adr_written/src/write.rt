@@ -2,7 +2,7 @@
 ghost use Rattle.std.specs.Prelude.{◌≡◌, IfOk, OnOk, string_bytes};
 ghost use Rattle.serde_json.specs.View.{view, members_view};
 ghost use Rattle.adr_text.specs.Objects.{add_all};
-ghost use Rattle.adr_written.specs.Objects.{targets_data, shown_interval_data, event_object_head, event_object_tail, event_object_data, program_object_data, ven_object_data, resource_object_data, share_object_data, problem_data, event_text, events_text, program_text, ven_text, resource_text, share_text, problem_text};
+ghost use Rattle.adr_written.specs.Objects.{targets_data, shown_interval_data, event_object_head, event_object_tail, event_object_data, program_object_data, ven_object_data, resource_object_data, share_object_data, problem_data, event_text, program_text, ven_text, resource_text, share_text, problem_text};
 
 use crate::ids::{resource_id, shown_id, ven_id};
 use crate::write_fields::{Written, compact, list_of, payloads, put_text, valued};
@@ -188,14 +188,6 @@ pub fn write_event(alloc: Global, event: &EventObject) -> Result<String, AllocEr
     ensures { IfOk result (λ s. string_bytes s ≡ event_text event.now) }
 {
     compact(alloc, event.written(alloc)?)
-}
-
-/// The text of a list of events, in the order given.
-#[tactic(auto, using(crate::proofs::NoFloats::event_objects_whole), unfolding(crate::specs::Objects::events_text))]
-pub fn write_events(alloc: Global, events: &[EventObject]) -> Result<String, AllocError>
-    ensures { IfOk result (λ s. string_bytes s ≡ events_text events.now) }
-{
-    compact(alloc, list_of(alloc, events)?)
 }
 
 /// The text of a program (OpenADR 3.0, PROGRAM).

@@ -1,6 +1,7 @@
-//! Runs the tables of the client's side: each file of the folder that it is given, or where it runs, whose name ends in `.link`. A case is a reply as bytes,
-//! which come all at once, one by one, and in pieces of 7, with what it is read as and what it means to who asked; or a request that is asked for, with its
-//! bytes. A table is made of these lines:
+//! Runs the tables of the client's side: each file of the folder that it is given, or where it runs, whose name ends in
+//! `.link`. A case is a reply as bytes, which come all at once, one by one, and in pieces of at most 7, with what it is
+//! read as and what it means to who asked; or a request that is asked for, with its bytes or the refusal. A table is
+//! made of these lines:
 //!
 //! - `# TEXT` says nothing;
 //! - `link NAME` names the table;
@@ -12,9 +13,10 @@
 //! - `comes TEXT` is a part of the bytes that come;
 //! - `reads STATUS` is the status that is read, and `body TEXT` a part of the body;
 //! - `faults bad reply` and `faults too large` say that none is read;
-//! - `to QUESTION` is what was asked: `page programs`, `page events`, `probe programs ID`, `probe events ID`, `POST upstream`, `PUT upstream` or
-//!   `POST callback`;
-//! - `means MEANING` is what the reply means to it: `page FOUND SKIPPED`, `version ID`, `gone`, `failure`, `sent`, `sent ID`, `failed` or `failed forget`.
+//! - `to QUESTION` is what was asked: `page programs`, `page events`, `probe programs ID`, `probe events ID`,
+//!   `POST upstream`, `PUT upstream` or `POST callback`;
+//! - `means MEANING` is what the reply means to it: `page FOUND SKIPPED`, `version ID`, `gone`, `failure`, `sent`,
+//!   `sent ID`, `failed` or `failed forget`.
 //!
 //! A request:
 //!
@@ -31,45 +33,21 @@ mod asking;
 mod case;
 mod file;
 mod meaning;
-mod pieces;
 mod question;
 mod reading;
 mod run;
 
-use crate::file::{File, read_file};
-use crate::run::run_file;
-use anyhow::{Context, Result};
+use crate::file::File;
+use anyhow::Result;
 use std::process::ExitCode;
 use std::rt::{Env, Files};
-use table_files::{bytes_of, folder, names_of};
-
-fn file_of<R: Files + AllocGlobal>(rt: &R, folder: &str, name: String) -> Result<File> {
-    let bytes = bytes_of(rt, folder, name.as_str())?;
-    Ok(read_file(rt.alloc(), &bytes).context(name)?)
-}
-
-fn run_file_of<R: Files + Print + AllocGlobal>(rt: &R, folder: &str, name: String) -> Result<bool> {
-    let file = file_of(rt, folder, name)?;
-    run_file(rt, &file)
-}
-
-fn run_files<R: Files + Print + AllocGlobal + Clone + Drop>(rt: &R, folder: &str) -> Result<bool> {
-    let mut passed = true;
-    for name in names_of(rt, folder, ".link")? {
-        passed &= run_file_of(rt, folder, name)?;
-    }
-    Ok(passed)
-}
+use table_files::{folder, run_each, status_of};
 
 fn run_all<R: Env + Files + Print + AllocGlobal + Clone + Drop>(rt: &R) -> Result<bool> {
     let folder = folder(rt)?;
-    run_files(rt, folder.as_str())
+    run_each::<File, R>(rt, folder.as_str(), ".link")
 }
 
 fn main(rt: HostRuntime) -> Result<ExitCode> {
-    if run_all(&rt)? {
-        Ok(ExitCode::SUCCESS)
-    } else {
-        Ok(ExitCode::FAILURE)
-    }
+    Ok(status_of(run_all(&rt)?))
 }

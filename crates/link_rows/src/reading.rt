@@ -1,13 +1,13 @@
 //! Replies read from bytes that come in pieces.
 ghost use Rattle.std.specs.Prelude.{◌≡◌, ◌<◌};
 
-use crate::pieces::Pieces;
 use adr_link::{HttpReply, LinkFault, read_reply};
 use adr_text::{KthFails, Reader};
 use std::alloc::Global;
 use std::io::Read;
 use std::marker::Brand;
 use std::sync::ledger::{Blank, Ledger};
+use table_files::Pieces;
 
 /// From pieces of at most so many bytes.
 fn read_pieces<K: Ledger>(

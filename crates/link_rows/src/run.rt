@@ -1,13 +1,13 @@
 //! Runs a table, and tells how it went.
 use crate::asking::{Asking, asking_of};
 use crate::case::{Case, Meaning, Request, Verdict};
-use crate::file::File;
+use crate::file::{File, read_file};
 use crate::meaning::meaning_of;
-use crate::pieces::Pieces;
 use crate::reading::read;
 use adr_link::{HttpReply, LinkFault};
 use anyhow::Result;
 use std::alloc::Global;
+use table_files::{Pieces, Table};
 
 /// Whether it is what a case says.
 fn is_read(came: &Result<HttpReply, LinkFault>, case: &Case) -> bool {
@@ -99,11 +99,16 @@ fn run_cases<R: Print + AllocGlobal>(rt: &R, file: &File) -> Result<u64> {
     Ok(failed)
 }
 
-/// Runs a table, prints how it went, and answers whether it passed.
-pub fn run_file<R: Print + AllocGlobal>(rt: &R, file: &File) -> Result<bool> {
-    let failed = run_cases(rt, file)?;
-    let name = &file.name;
-    let count = file.cases.len();
-    println!(rt; "link {name}: {count} cases, {failed} failed")?;
-    Ok(failed == 0)
+impl Table for File {
+    fn read(alloc: Global, bytes: &[u8]) -> Result<File> {
+        read_file(alloc, bytes)
+    }
+
+    fn run<R: Print + AllocGlobal>(&self, rt: &R) -> Result<bool> {
+        let failed = run_cases(rt, self)?;
+        let name = &self.name;
+        let count = self.cases.len();
+        println!(rt; "link {name}: {count} cases, {failed} failed")?;
+        Ok(failed == 0)
+    }
 }

@@ -1,8 +1,7 @@
 //! Runs a table, and tells how it went.
 use crate::case::Case;
-use crate::file::File;
+use crate::file::{File, read_file};
 use crate::grants::copies_of;
-use crate::pieces::Pieces;
 use crate::served::{Front, serve, take_lines};
 use adr_desk::MemoryDesk;
 use adr_http::{Roles, Routes};
@@ -11,6 +10,7 @@ use adr_state::{Limits, Settings};
 use adr_text::{Moment, Name};
 use anyhow::Result;
 use std::alloc::Global;
+use table_files::{Pieces, Table};
 
 /// The name under which the desks report.
 const CLIENT: &str = "aggregator";
@@ -198,18 +198,23 @@ fn run_cases<R: Print + AllocGlobal>(rt: &R, front: &Front, file: &File) -> Resu
     Ok(failed)
 }
 
-/// Runs a table, prints how it went, and answers whether it passed.
-pub fn run_file<R: Print + AllocGlobal>(rt: &R, routes: &Routes, file: &File) -> Result<bool> {
-    let now = Moment::read(NOW)?;
-    let roles = Roles::new(copies_of(rt.alloc(), &file.grants)?)?;
-    let front = Front {
-        roles: &roles,
-        routes,
-        now,
-    };
-    let failed = run_cases(rt, &front, file)?;
-    let name = &file.name;
-    let count = file.cases.len();
-    println!(rt; "bytes {name}: {count} served, {failed} failed")?;
-    Ok(failed == 0)
+impl Table for File {
+    fn read(alloc: Global, bytes: &[u8]) -> Result<File> {
+        read_file(alloc, bytes)
+    }
+
+    fn run<R: Print + AllocGlobal>(&self, rt: &R) -> Result<bool> {
+        let roles = Roles::new(copies_of(rt.alloc(), &self.grants)?)?;
+        let routes = Routes::new(rt.alloc())?;
+        let front = Front {
+            roles: &roles,
+            routes: &routes,
+            now: Moment::read(NOW)?,
+        };
+        let failed = run_cases(rt, &front, self)?;
+        let name = &self.name;
+        let count = self.cases.len();
+        println!(rt; "bytes {name}: {count} served, {failed} failed")?;
+        Ok(failed == 0)
+    }
 }

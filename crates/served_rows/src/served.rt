@@ -1,7 +1,6 @@
 //! A request served on a desk, from bytes that come in pieces.
 ghost use Rattle.std.specs.Prelude.{◌≡◌, ◌<◌};
 
-use crate::pieces::Pieces;
 use adr_http::{Roles, Routes, ServeFault, run_script, serve_one};
 use adr_machine::Desk;
 use adr_text::{KthFails, Moment, Reader, Source, Writer};
@@ -9,6 +8,7 @@ use std::alloc::Global;
 use std::io::Read;
 use std::marker::Brand;
 use std::sync::ledger::{Blank, Ledger};
+use table_files::Pieces;
 
 /// What stands around a case: who may ask, the paths, and the moment of all requests.
 #[derive(Clone, Copy)]

@@ -1,8 +1,11 @@
-//! Files of tables, which the programs that run them have in common: a folder of files, and bytes as a line of text writes them.
+//! What the programs that run tables have in common: a folder of files, bytes as a line of text writes them, and pieces in
+//! which bytes come.
 #![tactic(auto)]
 
 mod escape;
 mod files;
+mod pieces;
 
 pub use escape::push_text;
-pub use files::{bytes_of, folder, names_of};
+pub use files::{Table, folder, run_each, status_of};
+pub use pieces::Pieces;

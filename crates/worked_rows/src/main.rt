@@ -1,5 +1,6 @@
-//! Runs the worked rows: each row file of the folder that it is given, or where it runs, is a script with the lines that it has to print, and is
-//! run on every desk that there is, and on both side by side. A row file is `NAME.row`, of these lines:
+//! Runs the worked rows: each row file of the folder that it is given, or where it runs, is a script with the lines
+//! that it has to print. Over which desks it is run, and which rows are tests in other crates, stands in
+//! `data/README.md`. A row file is `NAME.row`, of these lines:
 //!
 //! - `# TEXT` and an empty line say nothing;
 //! - `row NAME` names the row;
@@ -15,8 +16,6 @@
 //! - `around TEXT` is what stands around each text that follows, with `$` in place of the text;
 //! - `> TEXT` is a text;
 //! - `< ANSWER` is what the reader makes of the text before.
-//!
-//! The commands of each row are then told as a list to a plain desk and to tables, which have to answer them alike and hold what the row led to.
 //!
 //! Who takes part in an event is read from tables of its own, by number and weight, since no line of a script asks for
 //! that. The calls on reports and roll-ups are made on such tables too, without a desk.
@@ -41,18 +40,18 @@ use crate::play::play;
 use crate::report::{report, report_both, report_list};
 use crate::row::{Row, read_row};
 use crate::site_reports::run_reports;
-use crate::texts::{read_texts, run_texts};
+use crate::texts::{Texts, read_texts, run_texts};
 use crate::twin::Twin;
 use crate::whole_run::take_alike;
 use adr_desk::MemoryDesk;
 use adr_machine::{Desk, PlainDesk};
 use adr_state::{Limits, Settings};
 use adr_text::Name;
-use anyhow::{Context, Result};
+use anyhow::Result;
 use std::alloc::Global;
 use std::process::ExitCode;
 use std::rt::{Env, Files};
-use table_files::{bytes_of, folder, names_of};
+use table_files::{Table, folder, run_each, status_of};
 
 /// The name under which the desks report.
 const CLIENT: &str = "aggregator";
@@ -107,62 +106,38 @@ fn run_both<R: Print + AllocGlobal>(rt: &R, row: &Row) -> Result<bool> {
     Ok(both && list)
 }
 
-/// Runs a row on each desk, prints how it went, and answers whether it passed on all.
-fn run_row<R: Print + AllocGlobal>(rt: &R, row: &Row) -> Result<bool> {
-    let plain = run_plain(rt, row)?;
-    let tables = run_tables(rt, row)?;
-    let both = run_both(rt, row)?;
-    Ok(plain && tables && both)
-}
-
-fn run_row_of<R: Files + Print + AllocGlobal>(rt: &R, folder: &str, name: String) -> Result<bool> {
-    let bytes = bytes_of(rt, folder, name.as_str())?;
-    let row = read_row(rt.alloc(), &bytes).context(name)?;
-    run_row(rt, &row)
-}
-
-fn run_rows<R: Files + Print + AllocGlobal + Clone + Drop>(rt: &R, folder: &str) -> Result<bool> {
-    let mut passed = true;
-    for name in names_of(rt, folder, ".row")? {
-        passed &= run_row_of(rt, folder, name)?;
+impl Table for Row {
+    fn read(alloc: Global, bytes: &[u8]) -> Result<Row> {
+        read_row(alloc, bytes)
     }
-    Ok(passed)
-}
 
-fn run_table_of<R: Files + Print + AllocGlobal>(
-    rt: &R,
-    folder: &str,
-    name: String,
-) -> Result<bool> {
-    let bytes = bytes_of(rt, folder, name.as_str())?;
-    let texts = read_texts(rt.alloc(), &bytes).context(name)?;
-    run_texts(rt, &texts)
-}
-
-fn run_texts_of<R: Files + Print + AllocGlobal + Clone + Drop>(
-    rt: &R,
-    folder: &str,
-) -> Result<bool> {
-    let mut passed = true;
-    for name in names_of(rt, folder, ".texts")? {
-        passed &= run_table_of(rt, folder, name)?;
+    fn run<R: Print + AllocGlobal>(&self, rt: &R) -> Result<bool> {
+        let plain = run_plain(rt, self)?;
+        let tables = run_tables(rt, self)?;
+        let both = run_both(rt, self)?;
+        Ok(plain && tables && both)
     }
-    Ok(passed)
+}
+
+impl Table for Texts {
+    fn read(alloc: Global, bytes: &[u8]) -> Result<Texts> {
+        read_texts(alloc, bytes)
+    }
+
+    fn run<R: Print + AllocGlobal>(&self, rt: &R) -> Result<bool> {
+        run_texts(rt, self)
+    }
 }
 
 fn run_all<R: Env + Files + Print + AllocGlobal + Clone + Drop>(rt: &R) -> Result<bool> {
     let folder = folder(rt)?;
-    let rows = run_rows(rt, folder.as_str())?;
-    let texts = run_texts_of(rt, folder.as_str())?;
+    let rows = run_each::<Row, R>(rt, folder.as_str(), ".row")?;
+    let texts = run_each::<Texts, R>(rt, folder.as_str(), ".texts")?;
     let participants = run_participants(rt)?;
     let reports = run_reports(rt)?;
     Ok(rows && texts && participants && reports)
 }
 
 fn main(rt: HostRuntime) -> Result<ExitCode> {
-    if run_all(&rt)? {
-        Ok(ExitCode::SUCCESS)
-    } else {
-        Ok(ExitCode::FAILURE)
-    }
+    Ok(status_of(run_all(&rt)?))
 }

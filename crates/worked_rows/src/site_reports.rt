@@ -1,5 +1,6 @@
-//! Reports in tables in memory, and the roll-up after each: the reports of rows 11 and 12 and those refused of row 19, by the
-//! calls alone, without a desk.
+//! Reports in tables in memory, posted, replaced and removed by the calls alone, without a desk: among them those of
+//! rows 11 and 12, and the one of row 19 that names another resource. After each that is taken the roll-up is compared
+//! byte for byte, and of one that is refused the refusal.
 use crate::participants::{resource, share, ven};
 use adr_db::create;
 use adr_db_mirror::put_mark;

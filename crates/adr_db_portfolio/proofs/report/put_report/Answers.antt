@@ -14,8 +14,8 @@ use Rattle.adr_db_portfolio.proofs.report.put_report.Goals as goal
 pub returns-clause-leaves : goal.returns-clause-leaves
 returns-clause-leaves g c clean =
     let old = state g.S.Store c.args.tx.now.conn.now in
-    let second : HasCleanDisk (state g.S.Store c.clear_values.new.tx.conn.now) = omega (arith, c.put_values.ensures.stays.crash.clean) in
-    let first : HasCleanDisk (state g.S.Store c.put_row.new.tx.conn.now) = omega (arith, second, c.clear_values.ensures.stays.crash.clean) in
+    let second : HasCleanDisk (state g.S.Store c.clear_values.new.tx.conn.now) = omega (arith, c.put_values.ensures.lent.stays.crash.clean) in
+    let first : HasCleanDisk (state g.S.Store c.put_row.new.tx.conn.now) = omega (arith, second, c.clear_values.ensures.lent.stays.crash.clean) in
     on_then c.put_values.result (λ put kept was.
     let es = kept.portfolio.reports in
     let id = c.args.id in

@@ -6,7 +6,7 @@ use Rattle.adr_db_portfolio.proofs.report.read_report.Goals as goal
 
 pub returns-in_ok-intervals-in-Some-clause-finds : goal.returns-in_ok-intervals-in-Some-clause-finds
 returns-in_ok-intervals-in-Some-clause-finds g c clean kept was =
-    let early : HasCleanDisk (state g.S.Store c.first_of.new.tx.conn.now) = omega (arith, c.read_values.ensures.stays.crash.clean) in
+    let early : HasCleanDisk (state g.S.Store c.first_of.new.tx.conn.now) = omega (arith, c.read_values.ensures.lent.stays.crash.clean) in
     let found = row_finds {E = Refusal} g.S.Store c.args.tx.now.conn.now c.first_of.new.tx.conn.now c.args.id (Ok c.in_ok-found.found) (rw (c.in_ok-number.ensures.value, c.get.ensures) at c.in_ok-found.ensures.shows) early kept was in
     let intervals = c.in_ok-intervals-in-Some.ensures.finds clean kept found.1 in
     (ap Some c.whole_report.ensures ∙ report_found c.args.id kept c.in-Some.columns c.in_ok-intervals-in-Some.intervals (sym c.in-Some.is ∙ found.0) intervals.0, intervals.1)

@@ -12,7 +12,7 @@ use Rattle.adr_db_portfolio.proofs.report.read_reports.Goals as goal
 pub returns-clause-finds : goal.returns-clause-finds
 returns-clause-finds g c clean =
     let old = state g.S.Store c.args.tx.now.conn.now in
-    let early : HasCleanDisk (state g.S.Store c.all_of.new.tx.conn.now) = omega (arith, c.with_values.ensures.stays.crash.clean) in
+    let early : HasCleanDisk (state g.S.Store c.all_of.new.tx.conn.now) = omega (arith, c.with_values.ensures.lent.stays.crash.clean) in
     ok_then c.table_of.result (λ table is kept was.
     let es = kept.portfolio.reports in
     let found = rows_find {E = Refusal} g.S.Store c.args.tx.now.conn.now c.all_of.new.tx.conn.now (Ok c.in_ok-rows.rows) c.in_ok-rows.ensures.shows early kept was in

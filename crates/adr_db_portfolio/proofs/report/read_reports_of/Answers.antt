@@ -13,7 +13,7 @@ pub returns-clause-finds : goal.returns-clause-finds
 returns-clause-finds g c clean =
     let old = state g.S.Store c.args.tx.now.conn.now in
     let event = c.args.event.now in
-    let early : HasCleanDisk (state g.S.Store c.all_of.new.tx.conn.now) = omega (arith, c.with_values.ensures.stays.crash.clean) in
+    let early : HasCleanDisk (state g.S.Store c.all_of.new.tx.conn.now) = omega (arith, c.with_values.ensures.lent.stays.crash.clean) in
     ok_then c.with_values.result (λ reports finds kept was.
     let es = kept.portfolio.reports in
     let found = rows_of_find {E = Refusal} g.S.Store c.args.tx.now.conn.now c.all_of.new.tx.conn.now event (Ok c.in_ok-rows.rows) (rw (c.to_sql.ensures, c.as_str.ensures.text) at c.in_ok-rows.ensures.shows) early kept was in

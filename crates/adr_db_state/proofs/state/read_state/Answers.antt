@@ -7,9 +7,9 @@ use Rattle.adr_db_state.proofs.state.read_state.Goals as goal
 
 pub returns-clause-finds : goal.returns-clause-finds
 returns-clause-finds g c clean kept was =
-    let third : HasCleanDisk (state g.S.Store c.read_stamps.new.tx.conn.now) = omega (arith, c.read_outbox.ensures.stays.crash.clean) in
-    let second : HasCleanDisk (state g.S.Store c.read_base.new.tx.conn.now) = omega (arith, third, c.read_stamps.ensures.stays.crash.clean) in
-    let first : HasCleanDisk (state g.S.Store c.read_meta.new.tx.conn.now) = omega (arith, second, c.read_base.ensures.stays.crash.clean) in
+    let third : HasCleanDisk (state g.S.Store c.read_stamps.new.tx.conn.now) = omega (arith, c.read_outbox.ensures.lent.stays.crash.clean) in
+    let second : HasCleanDisk (state g.S.Store c.read_base.new.tx.conn.now) = omega (arith, third, c.read_stamps.ensures.lent.stays.crash.clean) in
+    let first : HasCleanDisk (state g.S.Store c.read_meta.new.tx.conn.now) = omega (arith, second, c.read_base.ensures.lent.stays.crash.clean) in
     let meta = c.in_ok-meta.ensures.finds first kept was in
     let read_base = c.in_ok-read_base.ensures.finds second kept meta.1 in
     let stamps = c.in_ok-read_stamps.ensures.finds third kept read_base.1 in

@@ -14,7 +14,7 @@ use Rattle.adr_desk.proofs.ask.missed.Goals as goal
 pub returns-clause-tells : goal.returns-clause-tells
 unfolding reply
 returns-clause-tells g c clean held was =
-    let first : HasCleanDisk (state g.S.Store c.read_meta.new.tx.conn.now) = omega (arith, c.probes.ensures.stays.crash.clean) in
+    let first : HasCleanDisk (state g.S.Store c.read_meta.new.tx.conn.now) = omega (arith, c.probes.ensures.lent.stays.crash.clean) in
     let found = c.in_ok-meta.ensures.finds first (kept_of held) was in
     let told = c.in_ok-probes.ensures.tells clean (beside_of held) held.base found.1 (numbers_read held _ found.0) in
     missed_told c.args.limit held.base ∙ ap (λ r. r >>= λ keys. Ok (answer.Probes keys)) told.0
@@ -22,7 +22,7 @@ returns-clause-tells g c clean held was =
 pub returns-in_err-probes-clause-refuses : goal.returns-in_err-probes-clause-refuses
 unfolding reply
 returns-in_err-probes-clause-refuses g c clean =
-    let first : HasCleanDisk (state g.S.Store c.read_meta.new.tx.conn.now) = omega (arith, c.probes.ensures.stays.crash.clean) in
+    let first : HasCleanDisk (state g.S.Store c.read_meta.new.tx.conn.now) = omega (arith, c.probes.ensures.lent.stays.crash.clean) in
     let e = c.in_err-probes.field-0.0 in
     handed_on _ c.from_residual-in_err-probes.result e c.from_residual-in_err-probes.ensures.1 (λ held was.
     let found = c.in_ok-meta.ensures.finds first (kept_of held) was in

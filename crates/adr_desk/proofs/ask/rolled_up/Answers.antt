@@ -5,7 +5,7 @@ use Rattle.adr_queries.specs.declared.query.Query.TheVariants as query
 use Rattle.adr_queries.specs.Roles.{is_operator}
 use Rattle.adr_queries.specs.Reported.{rollup_told}
 use Rattle.adr_queries.specs.Replies.{reply}
-use Rattle.adr_portfolio.proofs.Decisions.{refused_so}
+use Rattle.adr_db.proofs.Results.{refused_so}
 use Rattle.adr_desk.proofs.ListedLemmas.{contained_all}
 use Rattle.adr_desk.proofs.ReplyLemmas.{rollup_listed, rollup_replied}
 use Rattle.adr_desk.proofs.StepLemmas.{found_so, refused_then}

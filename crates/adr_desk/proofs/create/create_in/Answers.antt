@@ -12,4 +12,4 @@ pub returns-clause-whole : goal.returns-clause-whole
 returns-clause-whole g c =
     let old = c.args.conn.now in
     moved (λ end. Commits g.S.Store old end (λ s. Holds no_schema [] (state g.S.Store old) → Keeps nothing_kept s) (λ trees. Holds no_schema [] (state g.S.Store old) → AreLeftWith empty trees) c.commit.result) c.commit.new.tx.0 _ (search rules)
-    (created_whole g.S.Store old c.begin-tx.result.conn.now c.create.new.tx.conn.now c.commit.new.tx.0 c.commit.result c.begin-tx.ensures.begun c.in_ok-create.ensures.stays c.in_ok-create.ensures.made c.commit.ensures.ends)
+    (created_whole g.S.Store old c.begin-tx.result.conn.now c.create.new.tx.conn.now c.commit.new.tx.0 c.commit.result c.begin-tx.ensures.begun c.in_ok-create.ensures.lent.stays c.in_ok-create.ensures.made c.commit.ensures.ends)

@@ -13,3 +13,12 @@ returns-in_default-clause-turns g c clean = λ kept was same.
       keeps = was;
       counted = ap (λ (n : ℕ). let numbers : Meta = record meta { pending = n } in numbers) same;
     }
+
+pub returns-in-Lease-clause-listed : goal.returns-in-Lease-clause-listed
+returns-in-Lease-clause-listed g c = rw c.in-Lease.is c.leased.ensures.listed
+
+pub returns-in-Sent-clause-listed : goal.returns-in-Sent-clause-listed
+returns-in-Sent-clause-listed g c = rw c.in-Sent.is c.was_sent.ensures.listed
+
+pub returns-in-Failed-clause-listed : goal.returns-in-Failed-clause-listed
+returns-in-Failed-clause-listed g c = rw c.in-Failed.is c.has_failed.ensures.listed

@@ -1,5 +1,5 @@
 use Rattle.std.proofs.Common.{◌≡◌, Ok, List}
-use Rattle.adr_db.proofs.Common.{state, HasCleanDisk, Refusal, Stays, ViewKey, Stamps}
+use Rattle.adr_db.proofs.Common.{state, HasCleanDisk, Refusal, LeavesLent, ViewKey, Stamps}
 use Rattle.adr_db.specs.Kept.{Kept, Keeps}
 use Rattle.adr_desk.specs.Stamps.{left_of}
 use Rattle.adr_desk.proofs.stamps.leave_each.Given as goal
@@ -7,8 +7,7 @@ use Rattle.adr_desk.proofs.stamps.leave_each.Given as goal
 -- what the keys that are left make of the stamps now is what all make of those that were
 abbrev pub invariant-rows : goal.invariant-rows
 invariant-rows g l = record {
-  same : l.tx.conn.ghost_name ≡ l.fn.tx.conn.ghost_name;
-  stays : Stays g.S.Store l.fn.tx.conn.now l.tx.conn.now {T = Unit {0}} {E = Refusal} (Ok tt);
+  lent : LeavesLent g.S.Store l.fn.tx.conn l.tx.conn {T = Unit {0}} {E = Refusal} (Ok tt);
   left : HasCleanDisk (state g.S.Store l.tx.conn.now) → (kept : Kept) → Keeps kept (state g.S.Store l.fn.tx.conn.now)
       → (stamps : List (ViewKey × Stamps)) × Keeps (record kept { stamps = stamps }) (state g.S.Store l.tx.conn.now) × (left_of l.after stamps l.key-iterator ≡ left_of l.after kept.stamps l.before);
 }

@@ -1,5 +1,5 @@
 use Rattle.std.proofs.Common.{◌≡◌, List, sym, ap, subst, ◌∙◌, arith}
-use Rattle.adr_db.proofs.Common.{state, HasCleanDisk, stays_then, Stamps, ViewKey}
+use Rattle.adr_db.proofs.Common.{state, HasCleanDisk, lent_then, Stamps, ViewKey}
 use Rattle.std.specs.List.Sorted.{IsStrictlySortedBy}
 use Rattle.std.specs.Map.{keys_of}
 use Rattle.adr_db.specs.Kept.{Keeps}
@@ -10,10 +10,9 @@ use Rattle.adr_desk.proofs.stamps.put_each.Goals as goal
 -- one key more
 pub rows-preserved : goal.rows-preserved
 rows-preserved g c = record {
-  same = c.put.ensures.same_reference ∙ c.rows.invariant.same;
-  stays = stays_then g.S.Store c.args.tx.now.conn.now c.rows.tx.conn.now c.put.new.tx.conn.now _ _ c.rows.invariant.stays c.in_ok-put.ensures.stays;
+  lent = lent_then g.S.Store _ _ _ _ _ c.rows.invariant.lent c.in_ok-put.ensures.lent;
   put = λ clean kept was.
-      let early : HasCleanDisk (state g.S.Store c.rows.tx.conn.now) = omega (arith, c.put.ensures.stays.crash.clean) in
+      let early : HasCleanDisk (state g.S.Store c.rows.tx.conn.now) = omega (arith, c.put.ensures.lent.stays.crash.clean) in
       let so = c.rows.invariant.put early kept was in
       (put_at c.args.before.now so.0 (c.in-Some.key.now, c.in-Some.stamps.now), c.in_ok-put.ensures.leaves clean (record kept { stamps = so.0 }) so.1, ap (put_all c.args.before.now so.0) (sym c.in-Some.ensures.steps) ∙ so.2);
 }

@@ -1,6 +1,7 @@
 use Rattle.std.proofs.Common.{◌≡◌, Bool, true, false, cond, Err, refl, sym, subst, ◌∙◌}
 use Rattle.adr_db.proofs.Common.{state, Forbidden}
 use Rattle.adr_state.specs.declared.state.State.{State}
+use Rattle.adr_machine.specs.Commands.{traits_of}
 use Rattle.adr_machine.specs.Edits.{is_allowed, is_delivery, edit_of, edit}
 use Rattle.adr_machine.specs.Steps.{delivery_step}
 use Rattle.adr_machine.proofs.Listed.{forbidden_listed}
@@ -26,7 +27,7 @@ returns-then-not-is_allowed-clause-refuses g c clean held was same =
     rw (other, no) refl
 
 pub returns-then-not-is_allowed-clause-listed : goal.returns-then-not-is_allowed-clause-listed
-returns-then-not-is_allowed-clause-listed g c = forbidden_listed c.args.command.now (sym c.is_allowed.ensures ∙ c.if-not-is_allowed.true)
+returns-then-not-is_allowed-clause-listed g c = forbidden_listed (traits_of c.args.command.now) (sym c.is_allowed.ensures ∙ c.if-not-is_allowed.true)
 
 -- what one edits who may
 pub returns-clause-makes : goal.returns-clause-makes

@@ -15,7 +15,7 @@ returns-clause-whole g c =
     let step = step_by c.args.settings.now c.args.now c.args.command.now in
     moved (λ end. Commits g.S.Store old end (λ s. (held : State) → HoldsState held (state g.S.Store old) → HoldsStepped step held s) (λ trees. (held : State) → HoldsState held (state g.S.Store old) → LeftStepped step held trees) c.after.result) c.commit-ended.new.tx.0 _ (search rules)
     (applied_whole g.S.Store old c.begin-tx.result.conn.now c.stepped.new.tx.conn.now c.commit-ended.new.tx.0 step c.in_ok-answer.answer c.commit-ended.result c.after.result
-    c.begin-tx.ensures.begun c.in_ok-answer.ensures.stays c.in_ok-answer.ensures.makes c.commit-ended.ensures.ends c.after.ensures)
+    c.begin-tx.ensures.begun c.in_ok-answer.ensures.lent.stays c.in_ok-answer.ensures.makes c.commit-ended.ensures.ends c.after.ensures)
 
 pub returns-clause-makes : goal.returns-clause-makes
 returns-clause-makes g c =

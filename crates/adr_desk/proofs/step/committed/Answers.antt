@@ -18,7 +18,7 @@ use Rattle.adr_desk.proofs.step.committed.Goals as goal
 
 pub returns-in_err-said-clause-refuses : goal.returns-in_err-said-clause-refuses
 returns-in_err-said-clause-refuses g c clean =
-    let first : HasCleanDisk (state g.S.Store c.see.new.tx.conn.now) = omega (arith, c.numbered.ensures.stays.crash.clean) in
+    let first : HasCleanDisk (state g.S.Store c.see.new.tx.conn.now) = omega (arith, c.numbered.ensures.lent.stays.crash.clean) in
     let e = c.in_err-said.field-0.0 in
     handed_on _ c.from_residual-in_err-said.result e c.from_residual-in_err-said.ensures.1 (λ held was same.
     let own = numbers_read held c.args.meta.now same in
@@ -27,10 +27,10 @@ returns-in_err-said-clause-refuses g c clean =
 
 pub returns-in_err-tell-clause-refuses : goal.returns-in_err-tell-clause-refuses
 returns-in_err-tell-clause-refuses g c clean =
-    let fourth : HasCleanDisk (state g.S.Store c.restamp.new.tx.conn.now) = omega (arith, clean, c.tell.ensures.stays.crash.clean) in
-    let third : HasCleanDisk (state g.S.Store c.see-2.new.tx.conn.now) = omega (arith, fourth, c.restamp.ensures.stays.crash.clean) in
-    let second : HasCleanDisk (state g.S.Store c.numbered.new.tx.conn.now) = omega (arith, third, c.see-2.ensures.stays.crash.clean) in
-    let first : HasCleanDisk (state g.S.Store c.see.new.tx.conn.now) = omega (arith, second, c.numbered.ensures.stays.crash.clean) in
+    let fourth : HasCleanDisk (state g.S.Store c.restamp.new.tx.conn.now) = omega (arith, clean, c.tell.ensures.lent.stays.crash.clean) in
+    let third : HasCleanDisk (state g.S.Store c.see-2.new.tx.conn.now) = omega (arith, fourth, c.restamp.ensures.lent.stays.crash.clean) in
+    let second : HasCleanDisk (state g.S.Store c.numbered.new.tx.conn.now) = omega (arith, third, c.see-2.ensures.lent.stays.crash.clean) in
+    let first : HasCleanDisk (state g.S.Store c.see.new.tx.conn.now) = omega (arith, second, c.numbered.ensures.lent.stays.crash.clean) in
     let settings = c.args.settings.now in
     let command = c.args.command.now in
     let e = c.in_err-tell.field-0.0 in
@@ -49,10 +49,10 @@ returns-in_err-tell-clause-refuses g c clean =
 
 pub returns-clause-makes : goal.returns-clause-makes
 returns-clause-makes g c clean =
-    let fourth : HasCleanDisk (state g.S.Store c.restamp.new.tx.conn.now) = omega (arith, c.tell.ensures.stays.crash.clean) in
-    let third : HasCleanDisk (state g.S.Store c.see-2.new.tx.conn.now) = omega (arith, fourth, c.restamp.ensures.stays.crash.clean) in
-    let second : HasCleanDisk (state g.S.Store c.numbered.new.tx.conn.now) = omega (arith, third, c.see-2.ensures.stays.crash.clean) in
-    let first : HasCleanDisk (state g.S.Store c.see.new.tx.conn.now) = omega (arith, second, c.numbered.ensures.stays.crash.clean) in
+    let fourth : HasCleanDisk (state g.S.Store c.restamp.new.tx.conn.now) = omega (arith, c.tell.ensures.lent.stays.crash.clean) in
+    let third : HasCleanDisk (state g.S.Store c.see-2.new.tx.conn.now) = omega (arith, fourth, c.restamp.ensures.lent.stays.crash.clean) in
+    let second : HasCleanDisk (state g.S.Store c.numbered.new.tx.conn.now) = omega (arith, third, c.see-2.ensures.lent.stays.crash.clean) in
+    let first : HasCleanDisk (state g.S.Store c.see.new.tx.conn.now) = omega (arith, second, c.numbered.ensures.lent.stays.crash.clean) in
     let settings = c.args.settings.now in
     let command = c.args.command.now in
     found_so c.answered_by.result (λ answer said held was same.
@@ -70,10 +70,10 @@ returns-clause-makes g c clean =
 
 pub returns-clause-refuses : goal.returns-clause-refuses
 returns-clause-refuses g c clean =
-    let fourth : HasCleanDisk (state g.S.Store c.restamp.new.tx.conn.now) = omega (arith, c.tell.ensures.stays.crash.clean) in
-    let third : HasCleanDisk (state g.S.Store c.see-2.new.tx.conn.now) = omega (arith, fourth, c.restamp.ensures.stays.crash.clean) in
-    let second : HasCleanDisk (state g.S.Store c.numbered.new.tx.conn.now) = omega (arith, third, c.see-2.ensures.stays.crash.clean) in
-    let first : HasCleanDisk (state g.S.Store c.see.new.tx.conn.now) = omega (arith, second, c.numbered.ensures.stays.crash.clean) in
+    let fourth : HasCleanDisk (state g.S.Store c.restamp.new.tx.conn.now) = omega (arith, c.tell.ensures.lent.stays.crash.clean) in
+    let third : HasCleanDisk (state g.S.Store c.see-2.new.tx.conn.now) = omega (arith, fourth, c.restamp.ensures.lent.stays.crash.clean) in
+    let second : HasCleanDisk (state g.S.Store c.numbered.new.tx.conn.now) = omega (arith, third, c.see-2.ensures.lent.stays.crash.clean) in
+    let first : HasCleanDisk (state g.S.Store c.see.new.tx.conn.now) = omega (arith, second, c.numbered.ensures.lent.stays.crash.clean) in
     let settings = c.args.settings.now in
     let command = c.args.command.now in
     refused_then c.answered_by.result (λ e said held was same.

@@ -15,7 +15,7 @@ use Rattle.adr_desk.proofs.step.stepped.Goals as goal
 
 pub returns-in_err-answer-clause-refuses : goal.returns-in_err-answer-clause-refuses
 returns-in_err-answer-clause-refuses g c clean =
-    let first : HasCleanDisk (state g.S.Store c.read_meta.new.tx.conn.now) = omega (arith, clean, c.acted.ensures.stays.crash.clean) in
+    let first : HasCleanDisk (state g.S.Store c.read_meta.new.tx.conn.now) = omega (arith, clean, c.acted.ensures.lent.stays.crash.clean) in
     let e = c.in_err-answer.field-0.0 in
     handed_on _ c.from_residual-in_err-answer.result e c.from_residual-in_err-answer.ensures.1 (λ held was.
     let found = c.in_ok-before.ensures.finds first (kept_of held) was in
@@ -23,8 +23,8 @@ returns-in_err-answer-clause-refuses g c clean =
 
 pub returns-clause-makes : goal.returns-clause-makes
 returns-clause-makes g c clean =
-    let second : HasCleanDisk (state g.S.Store c.acted.new.tx.conn.now) = omega (arith, c.put_changed.ensures.stays.crash.clean) in
-    let first : HasCleanDisk (state g.S.Store c.read_meta.new.tx.conn.now) = omega (arith, second, c.acted.ensures.stays.crash.clean) in
+    let second : HasCleanDisk (state g.S.Store c.acted.new.tx.conn.now) = omega (arith, c.put_changed.ensures.lent.stays.crash.clean) in
+    let first : HasCleanDisk (state g.S.Store c.read_meta.new.tx.conn.now) = omega (arith, second, c.acted.ensures.lent.stays.crash.clean) in
     rw c.after.ensures (after_made c.in_ok-answer.answer _ c.put_changed.result (on_then c.put_changed.result (λ leaves held was.
     let found = c.in_ok-before.ensures.finds first (kept_of held) was in
     let it = c.in_ok-answer.ensures.makes second held found.1 found.0 in

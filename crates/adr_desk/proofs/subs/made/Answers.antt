@@ -1,11 +1,11 @@
 use Rattle.std.proofs.Common.{[], ◌∷◌, refl, sym, arith}
 use Rattle.adr_db.proofs.Common.{Forbidden, LimitReached}
 use Rattle.adr_db.proofs.Results.{handed_on}
-use Rattle.adr_text.specs.declared.refusal.Refusal.TheVariants.{BadShape, Exhausted}
 use Rattle.adr_state.specs.Subs.{sub_post}
 use Rattle.adr_view.specs.Sights.{owner_in}
 use Rattle.adr_machine.specs.declared.command.Command.TheVariants as command
 use Rattle.adr_machine.specs.Edits.{sub_outcome}
+use Rattle.adr_machine.specs.Listed.{listed}
 use Rattle.adr_desk.proofs.AnswerLemmas.{all_answered}
 use Rattle.adr_desk.proofs.DecisionLemmas.{sight_carries, unseen_carries}
 use Rattle.adr_desk.proofs.ListedLemmas.{Listed, one_of_listed, told_one_of}
@@ -19,7 +19,7 @@ returns-in_err-sight-clause-carries g c meta =
 
 pub returns-in_err-sight-clause-listed : goal.returns-in_err-sight-clause-listed
 returns-in_err-sight-clause-listed g c =
-    let these = BadShape ∷ Forbidden ∷ LimitReached ∷ Exhausted ∷ [] in
+    let these = listed (command.SubPost c.args.role.now c.args.body) in
     let e = c.in_err-sight.field-0.0 in
     handed_on (Listed these) c.from_residual.result e c.from_residual.ensures.1 (one_of_listed these (Forbidden ∷ []) ((1, omega arith, refl), tt) e c.in_err-sight.ensures.refused)
 
@@ -27,10 +27,10 @@ pub returns-clause-carries : goal.returns-clause-carries
 returns-clause-carries g c meta =
     rw c.of_sub.ensures
     (sight_carries g.S.Store c.args.tx.now.conn.now c.sight_in.new.tx.conn.now c.post.new.tx.conn.now sub_outcome (λ sight mirror p. sub_post c.args.limits.now c.args.now c.args.number (owner_in sight) c.args.body p) c.args.role.now c.in_ok-sight.sight meta c.post.result
-    (λ clean. omega (arith, clean, c.post.ensures.stays.crash.clean)) c.in_ok-sight.ensures.finds (rw (sym c.owner_in.ensures) c.post.ensures.carries) (rw (sym c.owner_in.ensures) c.post.ensures.refuses))
+    (λ clean. omega (arith, clean, c.post.ensures.lent.stays.crash.clean)) c.in_ok-sight.ensures.finds (rw (sym c.owner_in.ensures) c.post.ensures.carries) (rw (sym c.owner_in.ensures) c.post.ensures.refuses))
 
 pub returns-clause-answered : goal.returns-clause-answered
 returns-clause-answered g c = rw c.of_sub.ensures (all_answered (command.SubPost c.args.role.now c.args.body) sub_outcome (λ x before after. tt) c.post.result)
 
 pub returns-clause-listed : goal.returns-clause-listed
-returns-clause-listed g c = rw c.of_sub.ensures (told_one_of (BadShape ∷ Forbidden ∷ LimitReached ∷ Exhausted ∷ []) sub_outcome (LimitReached ∷ []) ((2, omega arith, refl), tt) c.post.result c.post.ensures.refused)
+returns-clause-listed g c = rw c.of_sub.ensures (told_one_of (listed (command.SubPost c.args.role.now c.args.body)) sub_outcome (LimitReached ∷ []) ((2, omega arith, refl), tt) c.post.result c.post.ensures.refused)

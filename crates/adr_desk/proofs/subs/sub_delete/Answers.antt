@@ -5,6 +5,7 @@ use Rattle.adr_text.specs.declared.refusal.Refusal.TheVariants.{NotFound}
 use Rattle.adr_view.specs.Subs.{sub_delete}
 use Rattle.adr_machine.specs.declared.command.Command.TheVariants as command
 use Rattle.adr_machine.specs.Edits.{sub_outcome}
+use Rattle.adr_machine.specs.Listed.{listed}
 use Rattle.adr_desk.proofs.AnswerLemmas.{all_answered}
 use Rattle.adr_desk.proofs.DecisionLemmas.{sight_carries, unseen_carries}
 use Rattle.adr_desk.proofs.ListedLemmas.{Listed, one_of_listed, told_one_of}
@@ -18,7 +19,7 @@ returns-in_err-sight-clause-carries g c meta =
 
 pub returns-in_err-sight-clause-listed : goal.returns-in_err-sight-clause-listed
 returns-in_err-sight-clause-listed g c =
-    let these = Forbidden ∷ NotFound ∷ [] in
+    let these = listed (command.SubDelete c.args.role.now c.args.id.now) in
     let e = c.in_err-sight.field-0.0 in
     handed_on (Listed these) c.from_residual.result e c.from_residual.ensures.1 (one_of_listed these (Forbidden ∷ []) ((0, omega arith, refl), tt) e c.in_err-sight.ensures.refused)
 
@@ -26,10 +27,10 @@ pub returns-clause-carries : goal.returns-clause-carries
 returns-clause-carries g c meta =
     rw c.of_sub.ensures
     (sight_carries g.S.Store c.args.tx.now.conn.now c.sight_in.new.tx.conn.now c.delete.new.tx.conn.now sub_outcome (λ sight mirror p. sub_delete sight c.args.id.now p) c.args.role.now c.in_ok-sight.sight meta c.delete.result
-    (λ clean. omega (arith, clean, c.delete.ensures.stays.crash.clean)) c.in_ok-sight.ensures.finds c.delete.ensures.carries c.delete.ensures.refuses)
+    (λ clean. omega (arith, clean, c.delete.ensures.lent.stays.crash.clean)) c.in_ok-sight.ensures.finds c.delete.ensures.carries c.delete.ensures.refuses)
 
 pub returns-clause-answered : goal.returns-clause-answered
 returns-clause-answered g c = rw c.of_sub.ensures (all_answered (command.SubDelete c.args.role.now c.args.id.now) sub_outcome (λ x before after. tt) c.delete.result)
 
 pub returns-clause-listed : goal.returns-clause-listed
-returns-clause-listed g c = rw c.of_sub.ensures (told_one_of (Forbidden ∷ NotFound ∷ []) sub_outcome (NotFound ∷ Forbidden ∷ []) ((1, omega arith, refl), ((0, omega arith, refl), tt)) c.delete.result c.delete.ensures.refused)
+returns-clause-listed g c = rw c.of_sub.ensures (told_one_of (listed (command.SubDelete c.args.role.now c.args.id.now)) sub_outcome (NotFound ∷ Forbidden ∷ []) ((1, omega arith, refl), ((0, omega arith, refl), tt)) c.delete.result c.delete.ensures.refused)

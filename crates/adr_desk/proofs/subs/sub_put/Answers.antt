@@ -1,6 +1,7 @@
-use Rattle.std.proofs.Common.{[], ◌∷◌, refl, arith}
+use Rattle.std.proofs.Common.{refl, arith}
 use Rattle.adr_db.proofs.Results.{handed_on}
-use Rattle.adr_text.specs.declared.refusal.Refusal.TheVariants.{BadShape, Forbidden, NotFound}
+use Rattle.adr_machine.specs.declared.command.Command.TheVariants as command
+use Rattle.adr_machine.specs.Listed.{listed}
 use Rattle.adr_desk.specs.Decisions.{sub_put_again}
 use Rattle.adr_desk.proofs.DecisionLemmas.{unsettled_carries, settled_carries}
 use Rattle.adr_desk.proofs.ListedLemmas.{Listed, unsettled_listed}
@@ -13,7 +14,7 @@ returns-in_err-body-clause-carries g c meta =
 
 pub returns-in_err-body-clause-listed : goal.returns-in_err-body-clause-listed
 returns-in_err-body-clause-listed g c =
-    let these = BadShape ∷ Forbidden ∷ NotFound ∷ [] in
+    let these = listed (command.SubPut c.args.role.now c.args.id.now c.args.sub.now) in
     let e = c.in_err-body.field-0.0 in
     handed_on (Listed these) c.from_residual.result e c.from_residual.ensures.1 (unsettled_listed these (0, omega arith, refl) c.args.sub.now e c.in_err-body.ensures.gives)
 

@@ -16,7 +16,7 @@ returns-in_err-drop_lost-clause-refuses g c clean =
 
 pub returns-clause-keeps : goal.returns-clause-keeps
 returns-clause-keeps g c clean =
-    let first : HasCleanDisk (state g.S.Store c.drop_lost.new.tx.conn.now) = omega (arith, c.append.ensures.stays.crash.clean) in
+    let first : HasCleanDisk (state g.S.Store c.drop_lost.new.tx.conn.now) = omega (arith, c.append.ensures.lent.stays.crash.clean) in
     on_then c.append.result (λ appends kept was same.
     let lost = c.in_ok-drop_lost.ensures.drops first kept was same in
     told_so c.args.limits.now c.args.meta.now kept c.args.entries.now c.drop_lost.new.meta lost.counted c.append.new.meta (state g.S.Store c.append.new.tx.conn.now)
@@ -24,7 +24,7 @@ returns-clause-keeps g c clean =
 
 pub returns-clause-refuses : goal.returns-clause-refuses
 returns-clause-refuses g c clean =
-    let first : HasCleanDisk (state g.S.Store c.drop_lost.new.tx.conn.now) = omega (arith, c.append.ensures.stays.crash.clean) in
+    let first : HasCleanDisk (state g.S.Store c.drop_lost.new.tx.conn.now) = omega (arith, c.append.ensures.lent.stays.crash.clean) in
     IfErr-weaker c.append.result _ _ (λ e refuses kept was same.
     let lost = c.in_ok-drop_lost.ensures.drops first kept was same in
     refused_so c.args.limits.now c.args.meta.now kept c.args.entries.now c.drop_lost.new.meta lost.counted e (refuses (with_outbox (without_lost c.args.meta.now kept) kept) lost.keeps (ap (λ (m : Meta). m.pending) lost.counted))) (c.append.ensures.refuses clean)

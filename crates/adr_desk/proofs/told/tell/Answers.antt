@@ -2,6 +2,7 @@ use Rattle.std.proofs.Common.{◌≡◌, true, false, List, sym, subst, ◌∙�
 use Rattle.std.proofs.lemmas.Result.{IfErr-weaker}
 use Rattle.adr_delivery.specs.declared.entry.Entry.{Entry}
 use Rattle.adr_db.specs.Calls.{IsOfStore}
+use Rattle.adr_machine.specs.Commands.{traits_of}
 use Rattle.adr_machine.specs.Edits.{is_quiet}
 use Rattle.adr_machine.specs.Listed.{listed}
 use Rattle.adr_machine.proofs.Listed.{room_listed}
@@ -34,5 +35,5 @@ returns-clause-refuses g c =
 pub returns-clause-listed : goal.returns-clause-listed
 returns-clause-listed g c =
     let no : is_quiet c.args.command.now ≡ false = sym c.is_quiet.ensures ∙ c.if-is_quiet.false in
-    let room = room_listed c.args.command.now no in
+    let room = room_listed (traits_of c.args.command.now) no in
     IfErr-weaker c.keep_told.result _ _ (room_or_store (listed c.args.command.now) room.0 room.1) c.keep_told.ensures.refused

@@ -9,7 +9,7 @@ use Rattle.adr_events.proofs.event.shown.Goals as goal
 pub returns-clause-finds : goal.returns-clause-finds
 returns-clause-finds g c clean =
     let id = c.args.event.now in
-    let early : HasCleanDisk (state g.S.Store c.read_known.new.tx.conn.now) = omega (arith, c.rows_known.ensures.stays.crash.clean) in
+    let early : HasCleanDisk (state g.S.Store c.read_known.new.tx.conn.now) = omega (arith, c.rows_known.ensures.lent.stays.crash.clean) in
     ok_then c.rows_known.result (λ rows finds beside base was.
     let known = c.in_ok-known.ensures.finds early (kept_beside beside base) was in
     let found = finds beside base known.1 in

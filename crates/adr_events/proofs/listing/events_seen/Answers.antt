@@ -10,7 +10,7 @@ use Rattle.adr_events.proofs.listing.events_seen.Goals as goal
 pub returns-clause-finds : goal.returns-clause-finds
 unfolding view
 returns-clause-finds g c clean kept was =
-    let early : HasCleanDisk (state g.S.Store c.view.new.tx.conn.now) = omega (arith, c.read_stamps.ensures.stays.crash.clean) in
+    let early : HasCleanDisk (state g.S.Store c.view.new.tx.conn.now) = omega (arith, c.read_stamps.ensures.lent.stays.crash.clean) in
     let beside : Beside = record { numbers = kept.meta; stamps = kept.stamps; remotes = kept.remotes; entries = kept.entries } in
     let base : Base = record { mirror = kept.mirror; scan = Some kept.polled; portfolio = kept.portfolio; serial = kept.meta.serial } in
     let all = c.in_ok-all.ensures.finds early beside base was in

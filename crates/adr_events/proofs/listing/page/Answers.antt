@@ -1,7 +1,6 @@
 use Rattle.std.proofs.Common.{arith}
 use Rattle.adr_db.proofs.Common.{HasCleanDisk, state}
-use Rattle.adr_db.proofs.Results.{handed_on}
-use Rattle.adr_portfolio.proofs.Decisions.{refused_so}
+use Rattle.adr_db.proofs.Results.{handed_on, refused_so}
 use Rattle.adr_db.specs.Images.{image_kept}
 use Rattle.adr_events.proofs.ListingLemmas.{page_replied, page_refused, sight_listed}
 use Rattle.adr_events.proofs.listing.page.Goals as goal
@@ -21,7 +20,7 @@ returns-in_err-sight-clause-listed g c =
 
 pub returns-clause-finds : goal.returns-clause-finds
 returns-clause-finds g c clean kept was =
-    let early : HasCleanDisk (state g.S.Store c.read_base.new.tx.conn.now) = omega (arith, c.events_seen.ensures.stays.crash.clean) in
+    let early : HasCleanDisk (state g.S.Store c.read_base.new.tx.conn.now) = omega (arith, c.events_seen.ensures.lent.stays.crash.clean) in
     let read = c.in_ok-base.ensures.finds early kept was in
     let seen = c.in_ok-events.ensures.finds clean kept read.1 in
     (page_replied (image_kept kept) c.in_ok-base.base read.0 c.args.role.now c.args.filter.now c.args.page _ _ _ c.in_ok-sight.ensures seen.0 c.in_ok-cut.ensures, seen.1)

@@ -1,5 +1,5 @@
 use Rattle.std.proofs.Common.{◌≡◌, ◌+◌, ◌++◌, [], ◌∷◌, take, sym, ap, subst, ◌∙◌, arith, refl}
-use Rattle.adr_db.proofs.Common.{take_more, take_all, state, HasCleanDisk, key_of, mark_of, evidence_of, joined, stays_itself, stays_then}
+use Rattle.adr_db.proofs.Common.{take_more, take_all, state, HasCleanDisk, key_of, mark_of, evidence_of, joined, lent_itself, lent_then}
 use Rattle.adr_db.specs.Kept.{Keeps}
 use Rattle.adr_mirror.specs.Raises.{HasRisen, with_joined}
 use Rattle.adr_mirror.proofs.Rising.{none_risen, risen_more, joined_raises, joined_more}
@@ -8,8 +8,7 @@ use Rattle.adr_mirror.proofs.evidence.join.Goals as goal
 
 pub founds-init : goal.founds-init
 founds-init g c = record {
-  same = refl;
-  stays = stays_itself g.S.Store c.args.tx.now.conn.now _;
+  lent = lent_itself g.S.Store _ _;
   turned = λ clean kept was. (subst (HasRisen kept.mirror kept.mirror) (sym c.new-risen.ensures) (none_risen kept.mirror), was);
 }
 
@@ -23,10 +22,9 @@ founds-preserved g c =
     let now = state g.S.Store c.founds.tx.conn.now in
     let new = state g.S.Store c.join_one.new.tx.conn.now in
     record {
-      same = c.join_one.ensures.same_reference ∙ c.founds.invariant.same;
-      stays = stays_then g.S.Store c.args.tx.now.conn.now c.founds.tx.conn.now c.join_one.new.tx.conn.now _ _ c.founds.invariant.stays c.in_ok-join_one.ensures.stays;
+      lent = lent_then g.S.Store _ _ _ _ _ c.founds.invariant.lent c.in_ok-join_one.ensures.lent;
       turned = λ clean kept was.
-          let early : HasCleanDisk now = omega (arith, c.join_one.ensures.stays.crash.clean) in
+          let early : HasCleanDisk now = omega (arith, c.join_one.ensures.lent.stays.crash.clean) in
           let so_far = c.founds.invariant.turned early kept was in
           let before = with_joined (evidence_of (take i founds)) kept in
           let step = c.in_ok-join_one.ensures.turns clean before so_far.1 in

@@ -1,5 +1,5 @@
 use Rattle.std.proofs.Common.{◌≡◌, ◌+◌, ◌++◌, [], ◌∷◌, take, sym, ap, subst, ◌∙◌, arith}
-use Rattle.adr_db.proofs.Common.{take_more, take_all, state, HasCleanDisk, stays_then, mirror_cmp, insert_key}
+use Rattle.adr_db.proofs.Common.{take_more, take_all, state, HasCleanDisk, lent_then, mirror_cmp, insert_key}
 use Rattle.adr_db.specs.Kept.{Keeps}
 use Rattle.adr_mirror.specs.Raises.{with_keys_polled}
 use Rattle.adr_mirror.proofs.Keeping.{polled_more}
@@ -14,10 +14,9 @@ founds-preserved g c =
     let more : take (i + 1) founds ≡ take i founds ++ f ∷ [] = take_more founds i f c.founds-test.true ∙ ap (λ y. take i founds ++ y ∷ []) (sym c.found-item.is) in
     let new = state g.S.Store c.put_polled.new.tx.conn.now in
     record {
-      same = c.put_polled.ensures.same_reference ∙ c.founds.invariant.same;
-      stays = stays_then g.S.Store c.args.tx.now.conn.now c.founds.tx.conn.now c.put_polled.new.tx.conn.now _ _ c.founds.invariant.stays c.in_ok-put_polled.ensures.stays;
+      lent = lent_then g.S.Store _ _ _ _ _ c.founds.invariant.lent c.in_ok-put_polled.ensures.lent;
       polled = λ clean kept was.
-          let early : HasCleanDisk (state g.S.Store c.founds.tx.conn.now) = omega (arith, c.put_polled.ensures.stays.crash.clean) in
+          let early : HasCleanDisk (state g.S.Store c.founds.tx.conn.now) = omega (arith, c.put_polled.ensures.lent.stays.crash.clean) in
           let before = with_keys_polled (take i founds) kept in
           let put = c.in_ok-put_polled.ensures.leaves clean before (c.founds.invariant.polled early kept was) in
           let named = subst (λ k. Keeps (record kept { polled = insert_key mirror_cmp before.polled k }) new) c.in_ok-key_of.ensures put in

@@ -23,7 +23,7 @@ returns-in_err-count_keys-clause-refuses g c clean =
 
 pub returns-clause-makes : goal.returns-clause-makes
 returns-clause-makes g c clean beside base was same =
-    let joining : HasCleanDisk (state g.S.Store c.join.new.tx.conn.now) = omega (arith, c.poll.ensures.stays.crash.clean) in
+    let joining : HasCleanDisk (state g.S.Store c.join.new.tx.conn.now) = omega (arith, c.poll.ensures.lent.stays.crash.clean) in
     let founds = c.args.founds.now in
     let mirror = joined base.mirror (evidence_of founds) in
     let scan = scan_with base.scan founds c.args.polled in

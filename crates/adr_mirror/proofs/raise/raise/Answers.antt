@@ -16,7 +16,7 @@ returns-then-not-is_raised-clause-turns g c clean kept was =
 pub returns-clause-turns : goal.returns-clause-turns
 returns-clause-turns g c clean kept was =
     let e : MirrorKey × Mark = (c.args.key.now, c.args.mark.now) in
-    let early : HasCleanDisk (state g.S.Store c.read_mark.new.tx.conn.now) = omega (arith, c.put_mark.ensures.stays.crash.clean) in
+    let early : HasCleanDisk (state g.S.Store c.read_mark.new.tx.conn.now) = omega (arith, c.put_mark.ensures.lent.stays.crash.clean) in
     let found = c.in_ok-known.ensures.finds early kept was in
     let is = c.in_ok-rise.ensures (at mirror_cmp e.0 kept.mirror) found.0 in
     let above = sym (raised_tells (at mirror_cmp e.0 kept.mirror) e.1) ∙ ap is_raised (sym is) ∙ sym c.is_raised.ensures ∙ c.if-not-is_raised.false in

@@ -8,7 +8,7 @@ use Rattle.adr_mirror.proofs.scan.scan_end.Goals as goal
 
 pub returns-clause-makes : goal.returns-clause-makes
 returns-clause-makes g c clean beside base was same =
-    let early : HasCleanDisk (state g.S.Store c.probes.new.tx.conn.now) = omega (arith, c.set_scan.ensures.stays.crash.clean) in
+    let early : HasCleanDisk (state g.S.Store c.probes.new.tx.conn.now) = omega (arith, c.set_scan.ensures.lent.stays.crash.clean) in
     let told = c.in_ok-keys.ensures.tells early beside base was same in
     let closes = scan_closes base c.in_ok-keys.keys told.0 in
     record {

@@ -2,7 +2,7 @@ use Rattle.std.proofs.Common.{◌≡◌, ◌+◌, drop, length, refl, sym, ap, s
 use Rattle.std.proofs.lemmas.List.{drop_all}
 use Rattle.adr_delivery.specs.Outboxes.{with_entries}
 use Rattle.adr_notices.specs.Committed.{numbered}
-use Rattle.adr_db.proofs.Common.{state, HasCleanDisk, stays_itself, stays_then, insert_entry, nat_cmp}
+use Rattle.adr_db.proofs.Common.{state, HasCleanDisk, lent_itself, lent_then, insert_entry, nat_cmp}
 use Rattle.adr_db.specs.declared.meta.Meta.{Meta}
 use Rattle.adr_db.specs.Kept.{Keeps}
 use Rattle.adr_outbox.proofs.Further.{first_put}
@@ -10,8 +10,7 @@ use Rattle.adr_outbox.proofs.appending.append_each.Goals as goal
 
 pub entries-init : goal.entries-init
 entries-init g c = record {
-  same = refl;
-  stays = stays_itself g.S.Store c.args.tx.now.conn.now _;
+  lent = lent_itself g.S.Store _ _;
   drawn = omega arith;
   few = omega arith;
   others = refl;
@@ -25,13 +24,12 @@ entries-preserved g c =
     let next = c.append_one.new.tx.conn.now in
     let serial = c.in_ok-append_one.ensures.drawn in
     record {
-      same = c.append_one.ensures.same_reference ∙ c.entries.invariant.same;
-      stays = stays_then g.S.Store old c.entries.tx.conn.now next _ _ c.entries.invariant.stays c.in_ok-append_one.ensures.stays;
+      lent = lent_then g.S.Store _ _ _ _ _ c.entries.invariant.lent c.in_ok-append_one.ensures.lent;
       drawn = omega (arith, serial, c.entries.invariant.drawn);
       few = omega (arith, c.in_ok-append_one.ensures.few, c.entries.invariant.few);
       others = c.in_ok-append_one.ensures.others ∙ ap (λ (m : Meta). let after : Meta = record m { serial = c.append_one.new.meta.serial; pending = c.append_one.new.meta.pending } in after) c.entries.invariant.others;
       put = λ clean kept was.
-          let early : HasCleanDisk (state g.S.Store c.entries.tx.conn.now) = omega (arith, c.append_one.ensures.stays.crash.clean) in
+          let early : HasCleanDisk (state g.S.Store c.entries.tx.conn.now) = omega (arith, c.append_one.ensures.lent.stays.crash.clean) in
           let so_far = c.entries.invariant.put early kept was in
           let now = so_far.0 in
           let step = c.in_ok-append_one.ensures.turns clean (record kept { entries = now }) so_far.1 in

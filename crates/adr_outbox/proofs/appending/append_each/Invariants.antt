@@ -2,15 +2,14 @@ use Rattle.std.proofs.Common.{◌≡◌, ◌+◌, ◌≤◌, ℕ, List, length, 
 use Rattle.adr_delivery.specs.declared.entry.Entry.{Entry}
 use Rattle.adr_delivery.specs.Outboxes.{with_entries}
 use Rattle.adr_notices.specs.Committed.{numbered}
-use Rattle.adr_db.proofs.Common.{state, HasCleanDisk, Refusal, Stays}
+use Rattle.adr_db.proofs.Common.{state, HasCleanDisk, Refusal, LeavesLent}
 use Rattle.adr_db.specs.Kept.{Kept, Keeps}
 use Rattle.adr_outbox.proofs.appending.append_each.Given as goal
 
 -- the entries that are left, appended to those so far, make what all of them make of those at the start
 abbrev pub invariant-entries : goal.invariant-entries
 invariant-entries g l = record {
-  same : l.tx.conn.ghost_name ≡ l.fn.tx.conn.ghost_name;
-  stays : Stays g.S.Store l.fn.tx.conn.now l.tx.conn.now {T = Unit {0}} {E = Refusal} (Ok tt);
+  lent : LeavesLent g.S.Store l.fn.tx.conn l.tx.conn {T = Unit {0}} {E = Refusal} (Ok tt);
   drawn : l.meta.serial ≡ l.fn.meta.serial + l.entry-index;
   few : l.meta.pending ≤ l.fn.meta.pending + l.entry-index;
   others : l.meta ≡ record l.fn.meta { serial = l.meta.serial; pending = l.meta.pending };

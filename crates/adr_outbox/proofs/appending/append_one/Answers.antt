@@ -8,7 +8,7 @@ use Rattle.adr_outbox.proofs.appending.append_one.Goals as goal
 pub returns-clause-turns : goal.returns-clause-turns
 returns-clause-turns g c clean kept was =
     let before = c.args.meta.now in
-    let early : HasCleanDisk (state g.S.Store c.read_entry.new.tx.conn.now) = omega (arith, c.put_entry.ensures.stays.crash.clean) in
+    let early : HasCleanDisk (state g.S.Store c.read_entry.new.tx.conn.now) = omega (arith, c.put_entry.ensures.lent.stays.crash.clean) in
     let found = (rw c.next-number.ensures at c.in_ok-there.ensures.finds) early kept was in
     let put = (rw c.next-number.ensures at c.in_ok-put_entry.ensures.leaves) clean kept found.1 in
     let many = length_put (before.serial + 1) c.args.entry.now kept.entries (waiting_rises kept (state g.S.Store c.args.tx.now.conn.now) was) in

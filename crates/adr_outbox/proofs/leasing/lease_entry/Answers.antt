@@ -16,7 +16,7 @@ returns-clause-leases g c clean kept was =
     let d = c.in_ok-leased.field-0 in
     let l : Entry = c.in_ok-leased-2.leased in
     let is : l ≡ with_delivery d e = c.in_ok-leased-2.ensures in
-    let early : HasCleanDisk (state g.S.Store c.put_entry.new.tx.conn.now) = omega (arith, c.remote_for.ensures.stays.crash.clean) in
+    let early : HasCleanDisk (state g.S.Store c.put_entry.new.tx.conn.now) = omega (arith, c.remote_for.ensures.lent.stays.crash.clean) in
     let waits = c.in_ok-put_entry.ensures.leaves early kept was in
     let found = c.in_ok-remote.ensures.finds clean (with_waiting n l kept) waits in
     record {

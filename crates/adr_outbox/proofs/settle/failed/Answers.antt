@@ -14,8 +14,8 @@ returns-clause-turns g c clean =
     let n = c.args.number in
     let now = c.args.now in
     let entry = c.in_ok-entry.entry in
-    let settled : HasCleanDisk (state g.S.Store c.after_failure.new.tx.conn.now) = omega (arith, c.forget_remote.ensures.stays.crash.clean) in
-    let early : HasCleanDisk (state g.S.Store c.entry_leased.new.tx.conn.now) = omega (arith, settled, c.after_failure.ensures.stays.crash.clean) in
+    let settled : HasCleanDisk (state g.S.Store c.after_failure.new.tx.conn.now) = omega (arith, c.forget_remote.ensures.lent.stays.crash.clean) in
+    let early : HasCleanDisk (state g.S.Store c.entry_leased.new.tx.conn.now) = omega (arith, settled, c.after_failure.ensures.lent.stays.crash.clean) in
     ok_from c.forget_remote.result (λ x forgets kept was same.
     let found = c.in_ok-entry.ensures.finds early kept was in
     let left = c.in_ok-after_failure.ensures.leaves settled kept found.1 in

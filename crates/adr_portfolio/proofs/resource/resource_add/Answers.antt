@@ -1,14 +1,14 @@
 use Rattle.std.proofs.Common.{refl, sym, ◌∙◌, arith}
 use Rattle.adr_db.proofs.Common.{state, HasCleanDisk, Resource, resource_name, fresh, number_in, PortfolioChange, PutResource, putting_resource}
 use Rattle.adr_objects.specs.declared.shown.ResourceObject.{ResourceObject}
-use Rattle.adr_db.proofs.Results.{handed_on}
-use Rattle.adr_portfolio.proofs.Decisions.{refused_so, new_tested, there}
+use Rattle.adr_db.proofs.Results.{handed_on, refused_so}
+use Rattle.adr_portfolio.proofs.Decisions.{new_tested, there}
 use Rattle.adr_portfolio.proofs.resource.resource_add.Goals as goal
 
 pub returns-in_err-check_new-clause-refuses : goal.returns-in_err-check_new-clause-refuses
 returns-in_err-check_new-clause-refuses g c clean =
-    let read : HasCleanDisk (state g.S.Store c.read_resources_named.new.tx.conn.now) = omega (arith, c.count_resources.ensures.stays.crash.clean) in
-    let early : HasCleanDisk (state g.S.Store c.read_ven.new.tx.conn.now) = omega (arith, read, c.read_resources_named.ensures.stays.crash.clean) in
+    let read : HasCleanDisk (state g.S.Store c.read_resources_named.new.tx.conn.now) = omega (arith, c.count_resources.ensures.lent.stays.crash.clean) in
+    let early : HasCleanDisk (state g.S.Store c.read_ven.new.tx.conn.now) = omega (arith, read, c.read_resources_named.ensures.lent.stays.crash.clean) in
     let made : Resource = record { ven = c.in-Some.ven; name = c.args.name.now; stamps = fresh c.args.now } in
     let e = c.in_err-check_new.field-0.0 in
     handed_on _ c.from_residual-in_err-check_new.result e c.from_residual-in_err-check_new.ensures.1 (λ kept was.
@@ -20,9 +20,9 @@ returns-in_err-check_new-clause-refuses g c clean =
 
 pub returns-clause-carries : goal.returns-clause-carries
 returns-clause-carries g c clean kept was =
-    let counted : HasCleanDisk (state g.S.Store c.count_resources.new.tx.conn.now) = omega (arith, c.put_resource.ensures.stays.crash.clean) in
-    let read : HasCleanDisk (state g.S.Store c.read_resources_named.new.tx.conn.now) = omega (arith, counted, c.count_resources.ensures.stays.crash.clean) in
-    let early : HasCleanDisk (state g.S.Store c.read_ven.new.tx.conn.now) = omega (arith, read, c.read_resources_named.ensures.stays.crash.clean) in
+    let counted : HasCleanDisk (state g.S.Store c.count_resources.new.tx.conn.now) = omega (arith, c.put_resource.ensures.lent.stays.crash.clean) in
+    let read : HasCleanDisk (state g.S.Store c.read_resources_named.new.tx.conn.now) = omega (arith, counted, c.count_resources.ensures.lent.stays.crash.clean) in
+    let early : HasCleanDisk (state g.S.Store c.read_ven.new.tx.conn.now) = omega (arith, read, c.read_resources_named.ensures.lent.stays.crash.clean) in
     let found = c.in_ok-read_ven.ensures.finds early kept was in
     let named = c.in_ok-named.ensures.finds read kept found.1 in
     let count = c.in_ok-count.ensures.finds counted kept named.1 in

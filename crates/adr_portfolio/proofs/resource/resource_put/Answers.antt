@@ -1,13 +1,13 @@
 use Rattle.std.proofs.Common.{refl, sym, ◌∙◌, arith}
 use Rattle.adr_db.proofs.Common.{state, HasCleanDisk, Resource, resource_name, modified_at, PortfolioChange, PutResource, putting_resource}
 use Rattle.adr_objects.specs.declared.shown.ResourceObject.{ResourceObject}
-use Rattle.adr_db.proofs.Results.{handed_on}
-use Rattle.adr_portfolio.proofs.Decisions.{refused_so, free_tested}
+use Rattle.adr_db.proofs.Results.{handed_on, refused_so}
+use Rattle.adr_portfolio.proofs.Decisions.{free_tested}
 use Rattle.adr_portfolio.proofs.resource.resource_put.Goals as goal
 
 pub returns-in_err-check_free-clause-refuses : goal.returns-in_err-check_free-clause-refuses
 returns-in_err-check_free-clause-refuses g c clean =
-    let early : HasCleanDisk (state g.S.Store c.read_under.new.tx.conn.now) = omega (arith, c.read_resources_named.ensures.stays.crash.clean) in
+    let early : HasCleanDisk (state g.S.Store c.read_under.new.tx.conn.now) = omega (arith, c.read_resources_named.ensures.lent.stays.crash.clean) in
     let n = c.in-Some.row.0 in
     let old = c.in-Some.row.1 in
     let made : Resource = record { ven = old.ven; name = c.args.name.now; stamps = modified_at c.args.now old.stamps } in
@@ -20,8 +20,8 @@ returns-in_err-check_free-clause-refuses g c clean =
 
 pub returns-clause-carries : goal.returns-clause-carries
 returns-clause-carries g c clean kept was =
-    let read : HasCleanDisk (state g.S.Store c.read_resources_named.new.tx.conn.now) = omega (arith, c.put_resource.ensures.stays.crash.clean) in
-    let early : HasCleanDisk (state g.S.Store c.read_under.new.tx.conn.now) = omega (arith, read, c.read_resources_named.ensures.stays.crash.clean) in
+    let read : HasCleanDisk (state g.S.Store c.read_resources_named.new.tx.conn.now) = omega (arith, c.put_resource.ensures.lent.stays.crash.clean) in
+    let early : HasCleanDisk (state g.S.Store c.read_under.new.tx.conn.now) = omega (arith, read, c.read_resources_named.ensures.lent.stays.crash.clean) in
     let n = c.in-Some.row.0 in
     let old = c.in-Some.row.1 in
     let found = c.in_ok-row.ensures.finds early kept was in

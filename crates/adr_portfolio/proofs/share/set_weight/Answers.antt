@@ -11,7 +11,7 @@ returns-then-share-eq0-clause-sets g c clean =
 
 pub returns-clause-sets : goal.returns-clause-sets
 returns-clause-sets g c clean =
-    let early : HasCleanDisk (state g.S.Store c.is_beyond.new.tx.conn.now) = omega (arith, c.put_share.ensures.stays.crash.clean) in
+    let early : HasCleanDisk (state g.S.Store c.is_beyond.new.tx.conn.now) = omega (arith, c.put_share.ensures.lent.stays.crash.clean) in
     let some : (c.args.share == 0) ≡ false = search rules in
     on_then c.put_share.result (λ leaves kept was.
     let tested = c.in_ok-beyond.ensures.finds early kept was in

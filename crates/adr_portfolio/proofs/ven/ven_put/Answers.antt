@@ -1,13 +1,13 @@
 use Rattle.std.proofs.Common.{refl, sym, ◌∙◌, arith}
 use Rattle.adr_db.proofs.Common.{state, HasCleanDisk, Ven, number_in, ven_name, modified_at, PortfolioChange, PutVen, putting_ven}
 use Rattle.adr_objects.specs.declared.shown.VenObject.{VenObject}
-use Rattle.adr_db.proofs.Results.{handed_on}
-use Rattle.adr_portfolio.proofs.Decisions.{refused_so, free_tested, there}
+use Rattle.adr_db.proofs.Results.{handed_on, refused_so}
+use Rattle.adr_portfolio.proofs.Decisions.{free_tested, there}
 use Rattle.adr_portfolio.proofs.ven.ven_put.Goals as goal
 
 pub returns-in_err-check_free-clause-refuses : goal.returns-in_err-check_free-clause-refuses
 returns-in_err-check_free-clause-refuses g c clean =
-    let early : HasCleanDisk (state g.S.Store c.read_ven.new.tx.conn.now) = omega (arith, c.read_vens_named.ensures.stays.crash.clean) in
+    let early : HasCleanDisk (state g.S.Store c.read_ven.new.tx.conn.now) = omega (arith, c.read_vens_named.ensures.lent.stays.crash.clean) in
     let n = c.in-Some.number in
     let made : Ven = record { name = c.args.name.now; stamps = modified_at c.args.now c.in-Some-2.old.stamps } in
     let e = c.in_err-check_free.field-0.0 in
@@ -19,8 +19,8 @@ returns-in_err-check_free-clause-refuses g c clean =
 
 pub returns-clause-carries : goal.returns-clause-carries
 returns-clause-carries g c clean kept was =
-    let read : HasCleanDisk (state g.S.Store c.read_vens_named.new.tx.conn.now) = omega (arith, c.put_ven.ensures.stays.crash.clean) in
-    let early : HasCleanDisk (state g.S.Store c.read_ven.new.tx.conn.now) = omega (arith, read, c.read_vens_named.ensures.stays.crash.clean) in
+    let read : HasCleanDisk (state g.S.Store c.read_vens_named.new.tx.conn.now) = omega (arith, c.put_ven.ensures.lent.stays.crash.clean) in
+    let early : HasCleanDisk (state g.S.Store c.read_ven.new.tx.conn.now) = omega (arith, read, c.read_vens_named.ensures.lent.stays.crash.clean) in
     let n = c.in-Some.number in
     let found = c.in_ok-old.ensures.finds early kept was in
     let named = c.in_ok-named.ensures.finds read kept found.1 in

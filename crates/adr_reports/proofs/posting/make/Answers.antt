@@ -7,8 +7,8 @@ use Rattle.adr_reports.proofs.posting.make.Goals as goal
 
 pub returns-clause-decides : goal.returns-clause-decides
 returns-clause-decides g c clean =
-    let tested : HasCleanDisk (state g.S.Store c.is_full.new.tx.conn.now) = omega (arith, c.put_kept.ensures.stays.crash.clean) in
-    let early : HasCleanDisk (state g.S.Store c.report_on.new.tx.conn.now) = omega (arith, tested, c.is_full.ensures.stays.crash.clean) in
+    let tested : HasCleanDisk (state g.S.Store c.is_full.new.tx.conn.now) = omega (arith, c.put_kept.ensures.lent.stays.crash.clean) in
+    let early : HasCleanDisk (state g.S.Store c.report_on.new.tx.conn.now) = omega (arith, tested, c.is_full.ensures.lent.stays.crash.clean) in
     ok_then c.put_kept.result (λ x turns kept was.
     let found = c.in_ok-on.ensures.finds early kept was in
     let room = c.in_ok-full.ensures.finds tested kept found.1 in

@@ -7,7 +7,7 @@ use Rattle.adr_reports.proofs.posting.put_at.Goals as goal
 
 pub returns-clause-decides : goal.returns-clause-decides
 returns-clause-decides g c clean =
-    let early : HasCleanDisk (state g.S.Store c.report_on.new.tx.conn.now) = omega (arith, c.put_kept.ensures.stays.crash.clean) in
+    let early : HasCleanDisk (state g.S.Store c.report_on.new.tx.conn.now) = omega (arith, c.put_kept.ensures.lent.stays.crash.clean) in
     ok_then c.put_kept.result (λ x turns kept was.
     let found = c.in_ok-on.ensures.finds early kept was in
     let put = turns kept found.1 in

@@ -8,7 +8,7 @@ use Rattle.adr_reports.proofs.rolled_up.event_rollup.Goals as goal
 
 pub returns-clause-finds : goal.returns-clause-finds
 returns-clause-finds g c clean =
-    let early : HasCleanDisk (state g.S.Store c.named_participants.new.tx.conn.now) = omega (arith, c.read_reports_of.ensures.stays.crash.clean) in
+    let early : HasCleanDisk (state g.S.Store c.named_participants.new.tx.conn.now) = omega (arith, c.read_reports_of.ensures.lent.stays.crash.clean) in
     ok_then c.rolled_up.result (λ rollup is kept was.
     let ps = c.in_ok-ps.ensures.finds early kept was in
     let rows = c.in_ok-rows.ensures.finds clean kept ps.1 in

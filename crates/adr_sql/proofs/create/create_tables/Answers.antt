@@ -5,15 +5,14 @@ use Rattle.adr_sql.proofs.Common.{HasCleanDisk, state}
 use Rattle.adr_sql.specs.Creations.{IsUnderWay}
 use Rattle.adr_sql.specs.Schemas.{no_schema}
 use Rattle.adr_sql.proofs.Creations.{makes_one, all_made, HaveRun, one_ran, one_failed}
-use Rattle.adr_sql.proofs.Transactions.{stays_then}
+use Rattle.adr_sql.proofs.Transactions.{lent_then}
 use Rattle.adr_sql.proofs.create.create_tables.Goals as goal
 
 pub texts-preserved : goal.texts-preserved
 texts-preserved g c = record {
-  same = search rules;
-  stays = stays_then g.S.Store c.args.tx.now.conn.now c.texts.tx.conn.now c.run.new.tx.conn.now _ _ c.texts.invariant.stays c.in_ok-run.ensures.stays;
+  lent = lent_then g.S.Store _ _ _ _ _ c.texts.invariant.lent c.in_ok-run.ensures.lent;
   made = λ clean tables makes was.
-      let early : HasCleanDisk (state g.S.Store c.texts.tx.conn.now) = omega (arith, c.run.ensures.stays.crash.clean) in
+      let early : HasCleanDisk (state g.S.Store c.texts.tx.conn.now) = omega (arith, c.run.ensures.lent.stays.crash.clean) in
       let so_far = c.texts.invariant.made early tables makes was in
       let ran = c.in_ok-run.ensures.runs clean in
       let cell = drop-cons c.args.texts.now c.texts.text-index _ c.texts-test.true in
@@ -21,7 +20,7 @@ texts-preserved g c = record {
       let next = makes_one no_schema tables _ (map (λ t. t.now) (drop (suc c.texts.text-index) c.args.texts.now)) now (state g.S.Store c.run.new.tx.conn.now) ran.0 (subst (λ l. IsUnderWay no_schema tables (map (λ t. t.now) l) now) cell so_far) ran.1 in
       rw add-one next;
   ran = λ clean inside.
-      let early : HasCleanDisk (state g.S.Store c.texts.tx.conn.now) = omega (arith, c.run.ensures.stays.crash.clean) in
+      let early : HasCleanDisk (state g.S.Store c.texts.tx.conn.now) = omega (arith, c.run.ensures.lent.stays.crash.clean) in
       let so_far = c.texts.invariant.ran early inside in
       let executed = c.in_ok-run.ensures.runs clean in
       let cell = drop-cons c.args.texts.now c.texts.text-index _ c.texts-test.true in
@@ -33,13 +32,13 @@ texts-preserved g c = record {
 
 pub returns-in_err-run-clause-fails : goal.returns-in_err-run-clause-fails
 returns-in_err-run-clause-fails g c clean inside =
-    let early : HasCleanDisk (state g.S.Store c.texts.tx.conn.now) = omega (arith, c.run.ensures.stays.crash.clean) in
+    let early : HasCleanDisk (state g.S.Store c.texts.tx.conn.now) = omega (arith, c.run.ensures.lent.stays.crash.clean) in
     let so_far = c.texts.invariant.ran early inside in
     let cell = drop-cons c.args.texts.now c.texts.text-index _ c.texts-test.true in
     let texts = map (λ t. t.now) c.args.texts.now in
     let p = err_from_is_err_and c.from_residual.result c.from_residual.ensures.1 in
     rw (p.1, p.2) (one_failed g.S.Store texts _ (map (λ t. t.now) (drop (suc c.texts.text-index) c.args.texts.now)) c.args.tx.now.conn.now c.texts.tx.conn.now c.run.new.tx.conn.now _
-    (subst (λ l. HaveRun g.S.Store texts (map (λ t. t.now) l) c.args.tx.now.conn.now c.texts.tx.conn.now) cell so_far) (c.in_err-run.ensures.fails clean (c.texts.invariant.stays.inside early inside)))
+    (subst (λ l. HaveRun g.S.Store texts (map (λ t. t.now) l) c.args.tx.now.conn.now c.texts.tx.conn.now) cell so_far) (c.in_err-run.ensures.fails clean (c.texts.invariant.lent.stays.inside early inside)))
 
 pub returns-clause-made : goal.returns-clause-made
 returns-clause-made g c clean tables makes was =

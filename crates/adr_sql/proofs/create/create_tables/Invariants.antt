@@ -4,14 +4,13 @@ use Rattle.adr_sql.proofs.Common.{state, HasCleanDisk, Error}
 use Rattle.adr_sql.specs.Contents.{Holds}
 use Rattle.adr_sql.specs.Schemas.{no_schema}
 use Rattle.adr_sql.specs.Creations.{Makes, IsUnderWay}
-use Rattle.adr_sql.specs.Calls.{Stays}
+use Rattle.adr_sql.specs.Calls.{LeavesLent}
 use Rattle.adr_sql.proofs.Creations.{HaveRun}
 use Rattle.adr_sql.proofs.create.create_tables.Given as goal
 
 abbrev pub invariant-texts : goal.invariant-texts
 invariant-texts g l = record {
-  same : l.tx.conn.ghost_name ≡ l.fn.tx.conn.ghost_name;
-  stays : Stays g.S.Store l.fn.tx.conn.now l.tx.conn.now {T = Unit {0}} {E = Error} (Ok tt);
+  lent : LeavesLent g.S.Store l.fn.tx.conn l.tx.conn {T = Unit {0}} {E = Error} (Ok tt);
   made : HasCleanDisk (state g.S.Store l.tx.conn.now) → (tables : List Table) → Makes no_schema (map (λ t. t.now) l.texts) tables
       → Holds no_schema [] (state g.S.Store l.fn.tx.conn.now) → IsUnderWay no_schema tables (map (λ t. t.now) (drop l.text-index l.texts)) (state g.S.Store l.tx.conn.now);
   ran : HasCleanDisk (state g.S.Store l.tx.conn.now) → IsTrue (state g.S.Store l.fn.tx.conn.now).in_transaction

@@ -5,7 +5,7 @@ use Rattle.adr_subs.proofs.posting.post.Goals as goal
 
 pub returns-clause-carries : goal.returns-clause-carries
 returns-clause-carries g c clean =
-    let tested : HasCleanDisk (state g.S.Store c.is_full.new.tx.conn.now) = omega (arith, c.put_kept.ensures.stays.crash.clean) in
+    let tested : HasCleanDisk (state g.S.Store c.is_full.new.tx.conn.now) = omega (arith, c.put_kept.ensures.lent.stays.crash.clean) in
     ok_then c.put_kept.result (λ x turns kept was.
     let room = c.in_ok-full.ensures.finds tested kept was in
     let put = turns kept room.1 in

@@ -10,7 +10,7 @@ use Rattle.adr_book.specs.Trail.{led, trail_weight}
 use Rattle.adr_book.proofs.Leading.{one_more, led_more, led_same}
 use Rattle.adr_book.proofs.Weighing.{heavier}
 use Rattle.adr_book.proofs.Placed.{step_places, step_confirms}
-use Rattle.adr_book.proofs.Listing.{handed_on, listed_behind, of_desk, ends_after}
+use Rattle.adr_book.proofs.Listing.{handed_on, listed_behind, of_desk, ends_after, entry_listed}
 use Rattle.adr_book.proofs.kept.Book.take.Goals as goal
 
 -- the trail with this command leads to the desk's new state
@@ -47,6 +47,16 @@ returns-clause-confirms g c =
     c.apply.ensures.same_settings (book.leads (c.apply.ensures.was_sound sound)) (c.in_ok-answer.ensures.ok sound)
     (one_more book.trail.items c.reserve.new.self.items c.push_reserved.new.self.items c.args.now c.args.command.now c.in_ok-kept.kept c.in_ok-reserve.ensures.items c.in_ok-kept.ensures c.push_reserved.ensures.items)
     r
+
+-- who is not let in is refused for the pass or for the trail
+pub returns-in_err-admit_step-clause-listed : goal.returns-in_err-admit_step-clause-listed
+returns-in_err-admit_step-clause-listed g c =
+    let P = g.D.Desk.may_refuse in
+    let seen = c.args.pass.now.turn in
+    let these = listed c.args.command.now in
+    let e = c.in_err-admit_step.field-0.0 in
+    handed_on (IsListed P (Stale seen ∷ TrailFull ∷ these)) c.from_residual.result e c.from_residual.ensures.1
+    (entry_listed P these seen e _ _ _ (sym c.admit_step.ensures ∙ c.in_err-admit_step.was))
 
 -- the desk's refusal is handed on
 pub returns-in_err-answer-clause-listed : goal.returns-in_err-answer-clause-listed

@@ -1,4 +1,0 @@
-use Rattle.adr_calls.proofs.counted.writes.Given as goal
-
-abbrev pub ghosts-pushes_to_room : goal.ghosts-pushes_to_room
-ghosts-pushes_to_room g a = record { name = a.blank.name; parts = a.blank.parts }

@@ -1,4 +1,0 @@
-use Rattle.adr_calls.proofs.scripts.reads.Given as goal
-
-abbrev pub ghosts-run_to_memory : goal.ghosts-run_to_memory
-ghosts-run_to_memory a = record { name = a.writes.name; parts = a.writes.parts }

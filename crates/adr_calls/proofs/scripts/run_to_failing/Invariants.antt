@@ -1,4 +1,0 @@
-use Rattle.adr_calls.proofs.scripts.run_to_failing.Given as goal
-
-abbrev pub ghosts-run_into : goal.ghosts-run_into
-ghosts-run_into g a = record { name = a.reads.name; parts = a.reads.parts }

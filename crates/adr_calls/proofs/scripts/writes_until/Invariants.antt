@@ -1,4 +1,0 @@
-use Rattle.adr_calls.proofs.scripts.writes_until.Given as goal
-
-abbrev pub ghosts-run_to_failing_writer : goal.ghosts-run_to_failing_writer
-ghosts-run_to_failing_writer a = record { name = a.writes.name; parts = a.writes.parts }

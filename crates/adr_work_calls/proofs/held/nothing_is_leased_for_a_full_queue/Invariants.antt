@@ -1,4 +1,0 @@
-use Rattle.adr_work_calls.proofs.held.nothing_is_leased_for_a_full_queue.Given as goal
-
-abbrev pub ghosts-steps_of_two : goal.ghosts-steps_of_two
-ghosts-steps_of_two g a = record { name = a.blank.name; parts = a.blank.parts }

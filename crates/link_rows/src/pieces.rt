@@ -1,9 +1,0 @@
-//! How the bytes of a reply come.
-/// In how many pieces.
-#[derive(Clone, Copy)]
-pub enum Pieces {
-    /// Pieces of at most so many bytes.
-    Of(usize),
-    /// Two, of which the first has so many bytes.
-    Cut(usize),
-}

@@ -1,9 +1,0 @@
-//! How a request's bytes come.
-/// In how many pieces.
-#[derive(Clone, Copy)]
-pub enum Pieces {
-    /// Pieces of at most so many bytes.
-    Of(usize),
-    /// Two, of which the first has so many bytes.
-    Cut(usize),
-}
