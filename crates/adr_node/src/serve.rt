@@ -109,11 +109,9 @@ where
     }
 }
 
-/// Keeps open what standard input, output and error are where they are closed, so that no socket takes a number of theirs,
-/// and no line is written into it.
-fn standard_files<R: Files>(rt: &R) -> [Option<R::File>; 3] {
-    let open = || File::open(rt, "/dev/null").ok();
-    [open(), open(), open()]
+/// The least number of an open file that is free, held by a file without bytes, if there is such a file.
+fn hold_number<R: Files>(rt: &R) -> Option<R::File> {
+    File::open(rt, "/dev/null").ok()
 }
 
 /// Serves by the configuration in a file and the system's clock, until it is to stop.
@@ -132,7 +130,10 @@ where
         + Sync
         + 'static,
 {
-    let _standard = standard_files(&rt);
+    // Where standard input, output or error is closed, no socket is to take a number of theirs, or lines would go into it.
+    let _input = hold_number(&rt);
+    let _output = hold_number(&rt);
+    let _error = hold_number(&rt);
     let bytes = bytes(&rt, name)?;
     let level = level(&rt, &bytes)?;
     let writer = writer(rt, level)?;
