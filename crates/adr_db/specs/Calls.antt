@@ -1,4 +1,4 @@
--- What a call makes of what the tables keep. What a call leaves of its transaction is `Stays`.
+-- What a call makes of what the tables keep. What a call leaves of its transaction is `LeavesLent`.
 use Rattle.std.specs.Prelude.{◌≡◌, ◌⊎◌, ℕ, List, [], ◌∷◌, Result, IfOk, OnOk}
 use Rattle.sqlite.specs.Order.{Row}
 use Rattle.sqlite.specs.Store.{Ghosts}
