@@ -2,6 +2,7 @@
 import json
 import os
 import re
+import resource
 import shutil
 import socket
 import subprocess
@@ -82,6 +83,13 @@ class Node:
                     it.write(told)
 
         threading.Thread(target=read, daemon=True).start()
+
+    def bound(self, is_bound):
+        """From now on the system gives it no more memory than it has, or again all that it asks for."""
+        with open(f"/proc/{self.process.pid}/statm", encoding="ascii") as it:
+            has = int(it.read().split()[0]) * resource.getpagesize()
+        _, most = resource.prlimit(self.process.pid, resource.RLIMIT_AS)
+        resource.prlimit(self.process.pid, resource.RLIMIT_AS, (has if is_bound else most, most))
 
     def lines(self):
         """Returns the lines that it wrote so far, with a character for each byte."""
