@@ -10,6 +10,8 @@ use adr_text::{Moment, Refusal};
 pub fn take_asked<D: Desk>(desk: &mut D, now: Moment, asked: &Asked) -> Result<Answer, Refusal>
     ensures outcome { D.is_sound desk.new → Outcome D.may_refuse (asks_desk asked.now) (D.state desk.old) (asked_step (D.settings desk.old) (D.state desk.old) now asked.now) result (D.state desk.new) }
     ensures was_sound { D.is_sound desk.new → D.is_sound desk.old }
+    ensures stays_sound { D.is_sound desk.old → D.stands desk.new → D.is_sound desk.new }
+    ensures stood { D.stands desk.new → D.stands desk.old }
     ensures same_settings { D.settings desk.new ≡ D.settings desk.old }
 {
     match asked {

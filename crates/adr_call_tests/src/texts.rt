@@ -7,63 +7,11 @@ use serde_json::{Map, Value};
 use std::alloc::{AllocError, Global};
 use std::test::Fail;
 
-const REFUSALS: [Refusal; 16] = [
-    Refusal::OutOfMemory,
-    Refusal::Store,
-    Refusal::OutboxFull,
-    Refusal::Exhausted,
-    Refusal::TrailFull,
-    Refusal::NotFound,
-    Refusal::Conflict,
-    Refusal::Forbidden,
-    Refusal::BadShare,
-    Refusal::LimitReached,
-    Refusal::ResourceNotOfEvent,
-    Refusal::NoScan,
-    Refusal::LeaseLost,
-    Refusal::BadShape,
-    Refusal::NotWhole,
-    Refusal::Stale(7),
-];
-
-// The number, the title, the status and the detail of each.
-const TOLD: &str = concat!(
-    "1 OutOfMemory 500 out of memory\n",
-    "2 Store 500 store refused\n",
-    "3 OutboxFull 500 outbox is full\n",
-    "4 Exhausted 500 no numbers left\n",
-    "5 TrailFull 500 trail is full\n",
-    "6 NotFound 404 no such object\n",
-    "7 Conflict 409 name is taken\n",
-    "8 Forbidden 403 not allowed for this token\n",
-    "9 BadShare 400 share above 1000000\n",
-    "10 LimitReached 409 too many objects\n",
-    "11 ResourceNotOfEvent 400 report does not fit its event\n",
-    "12 NoScan 409 no scan is open\n",
-    "13 LeaseLost 500 lease is lost\n",
-    "14 BadShape 400 malformed object\n",
-    "15 NotWhole 400 not a whole number in range\n",
-    "16 Stale 500 pass is ahead\n",
-);
-
-fn told(alloc: Global, refusal: Refusal) -> Result<String, AllocError> {
-    let (number, title) = (refusal.number(), refusal.title());
-    let (status, detail) = (refusal.status(), refusal.detail());
-    format!(in alloc; "{number} {title} {status} {detail}\n")
-}
-
-fn all_told(alloc: Global) -> Result<String, AllocError> {
-    let mut lines = String::new(alloc);
-    for refusal in REFUSALS {
-        lines.push_str(told(alloc, refusal)?.as_str())?;
-    }
-    Ok(lines)
-}
-
+// Number, title, detail and status are said by clauses; its text as an error is said by none.
 #[test]
-fn refusals(rt: HostRuntime) -> Result<(), Fail> {
-    let lines = all_told(rt.alloc())?;
-    assert!(rt; lines.as_str() == TOLD, "{lines}");
+fn refusal_is_told_as_its_detail(rt: HostRuntime) -> Result<(), Fail> {
+    let told = format!(in rt.alloc(); "{}, {}", Refusal::Forbidden, Refusal::Stale(7))?;
+    assert!(rt; told.as_str() == "not allowed for this token, pass is ahead", "{told}");
     Ok(())
 }
 

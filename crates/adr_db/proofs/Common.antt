@@ -61,5 +61,5 @@ pub use Rattle.sqlite_keyed.proofs.ListLemmas.{map_back}
 pub use Rattle.sqlite_rules.specs.Lists.{Has}
 pub use Rattle.sqlite_sql.specs.Query.{Join, Query, counted, end, inner, matches}
 pub use Rattle.sqlite_sql.specs.Term.{Env, Term, col, eval_all, holds, lit, op1, op2}
-pub use Rattle.sqlite_trees.proofs.ListLemmas.{all-map, all_of, all_weaker, ascending_from_map, ascending_weaker, filter-map, flat_map-map, flat_map_none, map-map}
+pub use Rattle.sqlite_trees.proofs.ListLemmas.{all-map, all_of, all_weaker, ascending_from_map, ascending_weaker, filter-map, filter_all, flat_map-map, flat_map_none, map-map}
 pub use Rattle.sqlite_trees.specs.Tree.{IsAscending, Trees}

@@ -15,3 +15,5 @@ pub mod Waiting
 pub mod ReadBack
 pub mod Results
 pub mod Unread
+pub mod VersionStatement
+pub mod Understood

@@ -10,3 +10,4 @@ pub mod Calls
 pub mod Refusals
 pub mod Admitted
 pub mod BaseCalls
+pub mod Versions

@@ -158,6 +158,6 @@ tables =
 abbrev pub schema : Schema
 schema = schema_of tables
 
--- the version of these tables
+-- the version of these tables: a file that was kept with another one is no file of this node
 abbrev pub version : ℕ
-version = 1
+version = 0

@@ -13,9 +13,11 @@ mod sites;
 mod stamps;
 pub mod statement;
 mod sub;
+mod version;
 
 pub use known::MarkColumns;
 pub use meta::{Meta, put_meta, read_meta};
 pub use outbox::RemoteRow;
 pub use report_columns::ReportColumns;
 pub use schema::create;
+pub use version::check_version;

@@ -24,8 +24,11 @@ use sqlite::types::ToSql;
 use sqlite::{Alter, Row, Transaction};
 use std::alloc::Global;
 
+/// The version of these tables. One that is put stands in `PUT`.
+pub(crate) const VERSION: u32 = 0;
+
 const PUT: &str =
-    "INSERT INTO meta (k, version, serial, scan, made, sent, given_up, dropped, pending, keys) VALUES (1, 1, ?1, ?2, ?3, ?4, ?5, ?6, ?7, ?8) ON CONFLICT (k) DO UPDATE SET k = excluded.k, version = excluded.version, serial = excluded.serial, scan = excluded.scan, made = excluded.made, sent = excluded.sent, given_up = excluded.given_up, dropped = excluded.dropped, pending = excluded.pending, keys = excluded.keys";
+    "INSERT INTO meta (k, version, serial, scan, made, sent, given_up, dropped, pending, keys) VALUES (1, 0, ?1, ?2, ?3, ?4, ?5, ?6, ?7, ?8) ON CONFLICT (k) DO UPDATE SET k = excluded.k, version = excluded.version, serial = excluded.serial, scan = excluded.scan, made = excluded.made, sent = excluded.sent, given_up = excluded.given_up, dropped = excluded.dropped, pending = excluded.pending, keys = excluded.keys";
 
 const READ: &str =
     "SELECT k, version, serial, scan, made, sent, given_up, dropped, pending, keys FROM meta ORDER BY k";
@@ -94,7 +97,7 @@ pub fn put_meta<S: Alter>(tx: &mut Transaction<'_, S>, meta: &Meta) -> Result<()
 }
 
 /// A number that has to be this one.
-fn expect(row: &Row, at: usize, wanted: u32) -> Result<(), Refusal>
+pub(crate) fn expect(row: &Row, at: usize, wanted: u32) -> Result<(), Refusal>
     ensures same { IfOk result (λ _. column row.now at ≡ Int (pos wanted)) }
     ensures refused { IfErr result (IsMisread (λ value. value ≡ Int (pos wanted)) (column row.now at)) }
 {
@@ -132,7 +135,7 @@ impl FromRow for Meta {
 
     fn from_row(_: Global, row: &Row) -> Result<Meta, Refusal> {
         expect(row, 0, 1)?;
-        expect(row, 1, 1)?;
+        expect(row, 1, VERSION)?;
         Ok(Meta {
             serial: Serial::at(column(row, 2)?).ok_or(Refusal::Store)?,
             scan: flag_in(row, 3)?,

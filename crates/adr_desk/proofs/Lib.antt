@@ -12,3 +12,6 @@ pub mod ToldLemmas
 pub mod DeliveryLemmas
 pub mod ReplyLemmas
 pub mod Soundness
+pub mod Since
+pub mod Readied
+pub mod Restarts

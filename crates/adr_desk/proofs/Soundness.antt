@@ -15,7 +15,7 @@ use Rattle.adr_db.specs.Images.{image_kept}
 use Rattle.adr_db.specs.ReadBack.{state_in}
 use Rattle.adr_db.proofs.ReadBack.{image_again, state_again}
 use Rattle.adr_queries.specs.declared.answer.Answer.{Answer}
-use Rattle.adr_desk.specs.Holding.{HoldsItsOwn}
+use Rattle.adr_desk.specs.Since.{Stored, WasHeld, HoldsSince}
 use Rattle.adr_desk.specs.Steps.{IsStepped, HoldsStepped}
 use Rattle.adr_desk.specs.Transactions.{IsDropped}
 use Rattle.adr_desk.proofs.Transactions.{held_now}
@@ -56,41 +56,46 @@ holds_again held s h = subst (λ (t : State). HoldsState t s) (sym (state_again 
 pub holds_still : (a b : sql.State) → b.now ≡ a.now → HoldsState (state_in a) a → HoldsState (state_in b) b
 holds_still a b same h = holds_again (state_in a) b (held_now (state_in a) a b same h)
 
-module _ {S : Type 0} (g : Ghosts S) (old new : Held S) where
+-- where the tables held some state as a desk was made, they hold the one that they read back as
+pub holds_now : {S : Type 0} (g : Ghosts S) (stored : Stored) (conn : Held S) → ∥ HoldsSince g stored conn ∥₁ → ∥ ((held : State) × WasHeld held stored) ∥₁
+    → HasCleanDisk (shows g conn) → IsTrue (shows g conn).is_open → ∥ HoldsState (state_in (shows g conn)) (shows g conn) ∥₁
+holds_now g stored conn holds began clean is_open = ∥∥₁_elim holds squash₁ (λ since. ∥∥₁_map began (λ b. since b.0 b.1 clean is_open))
+
+module _ {S : Type 0} (g : Ghosts S) (stored : Stored) (old new : Held S) where
   -- what a transaction that was committed or dropped left is held
   held_after : (step : State → Result (Answer × State) Refusal) (r : Result Answer Refusal)
       → (HasCleanDisk (shows g new) → IsTrue (shows g new).is_open → OnErr r ((shows g new).now ≡ (shows g old).now))
       → {IsLeft : Trees → Type 0} → Commits g old new (λ s. (held : State) → HoldsState held (shows g old) → HoldsStepped step held s) IsLeft r
-      → HoldsItsOwn g old → HoldsItsOwn g new
-  held_after step (Ok x) same whole holds clean is_open =
+      → HoldsSince g stored old → HoldsSince g stored new
+  held_after step (Ok x) same whole since held was clean is_open =
       let early : HasCleanDisk (shows g old) = omega (arith, whole.crash.clean) in
-      let it = (whole.done clean).0 (state_in (shows g old)) (holds early (whole.was_open clean is_open)) in
+      let it = (whole.done clean).0 (state_in (shows g old)) (since held was early (whole.was_open clean is_open)) in
       holds_again it.1 (shows g new) it.3
-  held_after step (Err e) same whole holds clean is_open =
+  held_after step (Err e) same whole since held was clean is_open =
       let early : HasCleanDisk (shows g old) = omega (arith, whole.crash.clean) in
-      holds_still (shows g old) (shows g new) (same clean is_open) (holds early (whole.was_open clean is_open))
+      holds_still (shows g old) (shows g new) (same clean is_open) (since held was early (whole.was_open clean is_open))
 
   pub own_after : (step : State → Result (Answer × State) Refusal) (r : Result Answer Refusal)
       → (HasCleanDisk (shows g new) → IsTrue (shows g new).is_open → OnErr r ((shows g new).now ≡ (shows g old).now))
       → {IsLeft : Trees → Type 0} → Commits g old new (λ s. (held : State) → HoldsState held (shows g old) → HoldsStepped step held s) IsLeft r
-      → ∥ HoldsItsOwn g old ∥₁ → ∥ HoldsItsOwn g new ∥₁
+      → ∥ HoldsSince g stored old ∥₁ → ∥ HoldsSince g stored new ∥₁
   own_after step r same whole holds = ∥∥₁_map holds (held_after step r same whole)
 
   -- and what one left that was only dropped
-  pub own_still : IsDropped g old new → ∥ HoldsItsOwn g old ∥₁ → ∥ HoldsItsOwn g new ∥₁
+  pub own_still : IsDropped g old new → ∥ HoldsSince g stored old ∥₁ → ∥ HoldsSince g stored new ∥₁
   own_still dropped holds =
-      ∥∥₁_map holds (λ own clean is_open.
+      ∥∥₁_map holds (λ since held was clean is_open.
       let early : HasCleanDisk (shows g old) = omega (arith, dropped.crash.clean) in
-      holds_still (shows g old) (shows g new) (dropped.same clean is_open).0 (own early (dropped.was_open clean is_open)))
+      holds_still (shows g old) (shows g new) (dropped.same clean is_open).0 (since held was early (dropped.was_open clean is_open)))
 
   -- what was held before, where the store is open after
-  pub held_before : {IsLeft : Trees → Type 0} → Survives (shows g old) (shows g new) IsLeft → (HasCleanDisk (shows g new) → IsTrue (shows g new).is_open → IsTrue (shows g old).is_open) → ∥ HoldsItsOwn g old ∥₁
-      → HasCleanDisk (shows g new) → IsTrue (shows g new).is_open → HasCleanDisk (shows g old) × IsTrue (shows g old).is_open × ∥ HoldsState (state_in (shows g old)) (shows g old) ∥₁
-  held_before survives was_open holds clean is_open =
+  pub held_before : {IsLeft : Trees → Type 0} → Survives (shows g old) (shows g new) IsLeft → (HasCleanDisk (shows g new) → IsTrue (shows g new).is_open → IsTrue (shows g old).is_open) → ∥ HoldsSince g stored old ∥₁
+      → ∥ ((held : State) × WasHeld held stored) ∥₁ → HasCleanDisk (shows g new) → IsTrue (shows g new).is_open → ∥ HoldsState (state_in (shows g old)) (shows g old) ∥₁
+  held_before survives was_open holds began clean is_open =
       let early : HasCleanDisk (shows g old) = omega (arith, survives.clean) in
-      let open_then = was_open clean is_open in
-      (early, open_then, ∥∥₁_map holds (λ own. own early open_then))
+      holds_now g stored old holds began early (was_open clean is_open)
 
+module _ {S : Type 0} (g : Ghosts S) (old new : Held S) where
   -- what is read is the state that is read back
   pub image_told : (image : State) → ((kept : Kept) → Keeps kept (shows g old) → image ≡ image_kept kept) → ∥ HoldsState (state_in (shows g old)) (shows g old) ∥₁ → image ≡ state_in (shows g old)
   image_told image finds was = ∥∥₁_elim was (Coded-set state_coded _ _) (λ h. finds (kept_of (state_in (shows g old))) h ∙ image_again (state_in (shows g old)))

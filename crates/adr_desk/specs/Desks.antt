@@ -6,9 +6,9 @@ use Rattle.sqlite.specs.State.{HasCleanDisk}
 use Rattle.sqlite.specs.State as sql
 use Rattle.adr_state.specs.declared.limits.Settings.{Settings}
 use Rattle.adr_state.specs.declared.state.State.{State}
-use Rattle.adr_db.specs.Bases.{HoldsState}
 use Rattle.adr_db.specs.ReadBack.{state_in}
 use Rattle.adr_desk.specs.declared.desk.SqlDesk.{SqlDesk}
+use Rattle.adr_desk.specs.Since.{WasHeld}
 
 -- what its store shows
 abbrev pub shown : {S : Type 0} (g : Ghosts S) → SqlDesk S g → sql.State
@@ -22,8 +22,12 @@ settings_of desk = desk.settings
 abbrev pub state_of : {S : Type 0} (g : Ghosts S) → SqlDesk S g → State
 state_of g desk = state_in (shown g desk)
 
--- its store is open and gave back what was written, and its tables hold that state
+-- its store is open and gave back what was written
+abbrev pub Stands : {S : Type 0} (g : Ghosts S) → SqlDesk S g → Type 0
+Stands g desk = HasCleanDisk (shown g desk) × IsTrue (shown g desk).is_open
+
+-- it stands, and its tables held some state as it was made: so they hold its state now
 pub record IsSound {S : Type 0} (g : Ghosts S) (desk : SqlDesk S g) : Type 0 where
   pub clean : HasCleanDisk (shown g desk)
   pub is_open : IsTrue (shown g desk).is_open
-  pub holds : ∥ HoldsState (state_of g desk) (shown g desk) ∥₁
+  pub began : ∥ ((held : State) × WasHeld held desk.first.kept) ∥₁

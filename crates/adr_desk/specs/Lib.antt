@@ -4,6 +4,8 @@ pub mod Decisions
 pub mod Asks
 pub mod Stamps
 pub mod Told
-pub mod Holding
+pub mod Since
 pub mod Desks
 pub mod Laws
+pub mod Preparing
+pub mod Restarts

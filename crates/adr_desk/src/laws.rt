@@ -1,13 +1,19 @@
-//! What is true of each desk in memory, and of what a crash leaves.
+//! What is true of each desk, of each in memory, and of what a crash leaves.
 ghost use Rattle.sqlite.specs.Held.{state};
-ghost use Rattle.adr_desk.specs.Laws.{MemoryIsSound, LeftIsHeld, LeavesLastCommit};
+ghost use Rattle.adr_desk.specs.Laws.{MemoryStands, SoundIsHeld, LeftIsHeld, LeavesLastCommit};
 
+use crate::desk::SqlDesk;
 use sqlite::{Alter, Connection};
 
-/// A desk in memory is sound: its store is open, gave back what was written, and its tables hold a state. So the clauses of
-/// the desk that ask for that always stand, and after each refusal the desk holds what it held.
-pub fn memory_is_sound()
-    ensures { MemoryIsSound }
+/// The store of a desk in memory is always open and gave back what was written. So a desk in memory that is sound stays so,
+/// and after each refusal it holds what it held.
+pub fn memory_stands()
+    ensures { MemoryStands }
+{}
+
+/// The tables of a sound desk hold its state.
+pub fn sound_is_held<S: Alter>(desk: &SqlDesk<S>)
+    ensures { SoundIsHeld S.Store desk.now }
 {}
 
 /// What a crash may leave says all that the tables hold: a connection which is opened over such trees holds the state that

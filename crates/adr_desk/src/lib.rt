@@ -8,9 +8,13 @@ mod deliver;
 mod desk;
 mod frame;
 mod image;
+mod kept;
 pub mod laws;
+pub mod ready;
 mod reports;
+pub mod restart;
 mod seen;
+pub mod sent;
 mod sight;
 mod stamps;
 mod step;
@@ -19,3 +23,4 @@ mod told;
 mod totals;
 
 pub use desk::{MemoryDesk, SqlDesk};
+pub use ready::Start;

@@ -23,6 +23,10 @@ pub trait Desk {
     /// What the clauses ask of the desk as a call ends. One that is sound after a call was so before.
     ghost is_sound: { Self → Type 0 };
 
+    /// That its store is open and gave back what was written. One that stands after a call stood before, and one that was
+    /// sound before and stands after is sound after.
+    ghost stands: { Self → Type 0 };
+
     /// That the desk has a store, which may refuse. Where it is ⊥, the store's refusal is never answered.
     ghost may_refuse: { Type 0 };
 
@@ -35,6 +39,8 @@ pub trait Desk {
         ensures listed { IfErr result (IsListed may_refuse (listed command.now)) }
         ensures unchanged { OnErr result (is_sound self.new → state self.new ≡ state self.old) }
         ensures was_sound { is_sound self.new → is_sound self.old }
+        ensures stays_sound { is_sound self.old → stands self.new → is_sound self.new }
+        ensures stood { stands self.new → stands self.old }
         ensures same_settings { settings self.new ≡ settings self.old };
 
     /// Answers a query, and leaves the state.
@@ -44,6 +50,8 @@ pub trait Desk {
         ensures listed { IfErr result (IsListed may_refuse (listed_for query.now)) }
         ensures unchanged { is_sound self.new → state self.new ≡ state self.old }
         ensures was_sound { is_sound self.new → is_sound self.old }
+        ensures stays_sound { is_sound self.old → stands self.new → is_sound self.new }
+        ensures stood { stands self.new → stands self.old }
         ensures same_settings { settings self.new ≡ settings self.old };
 
     /// The whole state, which stays.
@@ -53,6 +61,8 @@ pub trait Desk {
         ensures listed { IfErr result (IsListed may_refuse []) }
         ensures unchanged { is_sound self.new → state self.new ≡ state self.old }
         ensures was_sound { is_sound self.new → is_sound self.old }
+        ensures stays_sound { is_sound self.old → stands self.new → is_sound self.new }
+        ensures stood { stands self.new → stands self.old }
         ensures same_settings { settings self.new ≡ settings self.old };
 
     /// What the desk is set to.

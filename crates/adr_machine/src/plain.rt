@@ -68,6 +68,8 @@ impl Desk for PlainDesk {
 
     ghost is_sound = { λ _. Unit {0} };
 
+    ghost stands = { λ _. Unit {0} };
+
     ghost may_refuse = { ⊥ };
 
     fn apply(&mut self, now: Moment, command: &Command) -> Result<Answer, Refusal>
@@ -76,6 +78,8 @@ impl Desk for PlainDesk {
         ensures listed { IfErr result (IsListed ⊥ (listed command.now)) }
         ensures unchanged { OnErr result (Unit {0} → self.new.image ≡ self.old.image) }
         ensures was_sound { Unit {0} → Unit {0} }
+        ensures stays_sound { Unit {0} → Unit {0} → Unit {0} }
+        ensures stood { Unit {0} → Unit {0} }
         ensures same_settings { self.new.settings ≡ self.old.settings }
     {
         let state = self.image.state();
@@ -90,6 +94,8 @@ impl Desk for PlainDesk {
         ensures listed { IfErr result (IsListed ⊥ (listed_for query.now)) }
         ensures unchanged { Unit {0} → self.new.image ≡ self.old.image }
         ensures was_sound { Unit {0} → Unit {0} }
+        ensures stays_sound { Unit {0} → Unit {0} → Unit {0} }
+        ensures stood { Unit {0} → Unit {0} }
         ensures same_settings { self.new.settings ≡ self.old.settings }
     {
         reply(self.alloc, self.image.state(), query)
@@ -101,6 +107,8 @@ impl Desk for PlainDesk {
         ensures listed { IfErr result (IsListed ⊥ []) }
         ensures unchanged { Unit {0} → self.new.image ≡ self.old.image }
         ensures was_sound { Unit {0} → Unit {0} }
+        ensures stays_sound { Unit {0} → Unit {0} → Unit {0} }
+        ensures stood { Unit {0} → Unit {0} }
         ensures same_settings { self.new.settings ≡ self.old.settings }
     {
         Ok(self.image.copy()?)

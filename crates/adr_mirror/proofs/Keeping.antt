@@ -11,7 +11,7 @@ use Rattle.adr_db.specs.declared.meta.Meta.{Meta}
 use Rattle.adr_db.specs.Kept.{Kept, Keeps, at_most, with_mark}
 use Rattle.adr_db.specs.Bases.{Beside, keys_polled, with_base, kept_beside}
 use Rattle.adr_mirror.specs.Raises.{are_beyond, with_raised, with_polled_if}
-use Rattle.adr_mirror.specs.Missed.{missed, closing}
+use Rattle.adr_mirror.specs.Missed.{missed, if_open, closing}
 
 -- ---- the mirror
 
@@ -65,6 +65,15 @@ still_open None founds true = refl
 still_open None founds false = refl
 still_open (Some keys) founds true = refl
 still_open (Some keys) founds false = refl
+
+-- whether one is open, by what the test of it tells
+pub told_open : (scan : Bool) (u : Unit {0}) → if_open scan ≡ Ok u → scan ≡ true
+told_open true u h = refl
+told_open false u h = absurd cc
+
+pub told_shut : (scan : Bool) (e : Refusal) → if_open scan ≡ Err e → (scan ≡ false) × (e ≡ NoScan)
+told_shut true e h = absurd cc
+told_shut false e h = (refl, let it : NoScan ≡ e = cc in sym it)
 
 -- none is missed where no scan is open
 pub none_open : (limit : Option ℕ) (base : Base) → is_some base.scan ≡ false → missed limit base ≡ Err NoScan

@@ -10,7 +10,7 @@ ghost use Rattle.adr_node.specs.Script.{settings_of, RunsFromEmpty, StopsFromEmp
 
 use crate::ending::NodeFault;
 use adr_desk::MemoryDesk;
-use adr_desk::laws::memory_is_sound;
+use adr_desk::laws::memory_stands;
 use adr_http::{ScriptFault, run_script};
 use adr_machine::Desk;
 use adr_state::{Limits, Settings};
@@ -28,6 +28,7 @@ const CLIENT: &str = "aggregator";
 fn open(alloc: Global, limits: Limits) -> Result<MemoryDesk, NodeFault>
     ensures state { IfOk result (λ desk. ⟦<MemoryDesk as Desk>⟧.state desk ≡ empty) }
     ensures settings { IfOk result (λ desk. ⟦<MemoryDesk as Desk>⟧.settings desk ≡ settings_of limits) }
+    ensures sound { IfOk result (λ desk. ⟦<MemoryDesk as Desk>⟧.is_sound desk) }
     ensures refused { IfErr result IsOfOpening }
 {
     let Ok(client) = Name::new(alloc, CLIENT) else {
@@ -59,7 +60,7 @@ fn run_from_empty<S: Source, W: Sink>(
     ensures few_lines { OnOk result (IfSome (S.left source.old) (λ text. ¬ HasManyLines text)) }
 {
     let mut desk = open(alloc, limits)?;
-    memory_is_sound();
+    memory_stands();
     Ok(run_script(alloc, &mut desk, source, sink)?)
 }
 

@@ -1,12 +1,19 @@
--- What a failed delivery makes of what is kept, and of the numbers.
-use Rattle.std.specs.Prelude.{ℕ, ◌-◌, is_some, if◌then◌else◌}
+-- Which entry is settled, and what a failed delivery makes of what is kept, and of the numbers.
+use Rattle.std.specs.Prelude.{ℕ, ◌-◌, Option, is_some, Result, Ok, Err, if◌then◌else◌}
 use Rattle.std.specs.Option.{option_map_or}
+use Rattle.adr_text.specs.Refusals.{◌>>=◌, or_else}
+use Rattle.adr_text.specs.declared.refusal.Refusal.{Refusal}
+use Rattle.adr_text.specs.declared.refusal.Refusal.TheVariants.{LeaseLost}
 use Rattle.adr_delivery.specs.declared.entry.Entry.{Entry}
-use Rattle.adr_delivery.specs.Deliveries.{after_failure}
+use Rattle.adr_delivery.specs.Deliveries.{has_lease, after_failure}
 use Rattle.adr_delivery.specs.Outboxes.{with_delivery}
 use Rattle.adr_delivery.specs.Tallies.{plus}
 use Rattle.adr_db.specs.declared.meta.Meta.{Meta}
 use Rattle.adr_db.specs.Kept.{Kept, with_waiting, without_waiting}
+
+-- the entry that was found at a number, where it has the lease of a number, which may have ended; else 13
+abbrev pub with_lease : ℕ → Option Entry → Result Entry Refusal
+with_lease lease found = or_else LeaseLost found >>= λ e. if has_lease lease e.delivery then Ok e else Err LeaseLost
 
 -- the entry of a number waits for its next time, or leaves
 abbrev pub after_failed : ℕ → ℕ → Entry → Kept → Kept

@@ -8,7 +8,7 @@ ghost use Rattle.adr_db.specs.Calls.{Finds, LeavesKept, IsOfStore};
 ghost use Rattle.adr_db.specs.BaseCalls.{Refuses};
 ghost use Rattle.adr_outbox.specs.Turned.{TurnsOutbox, RefusesOutbox};
 ghost use Rattle.adr_outbox.specs.Told.{done};
-ghost use Rattle.adr_outbox.specs.Settled.{after_failed, counted_failed};
+ghost use Rattle.adr_outbox.specs.Settled.{with_lease, after_failed, counted_failed};
 
 use adr_db::Meta;
 use adr_db_outbox::{put_entry, put_remote, read_entry, remove_entry, remove_remote};
@@ -17,6 +17,20 @@ use adr_objects::Number;
 use adr_text::{Moment, ObjectId, Refusal};
 use sqlite::{Alter, Transaction};
 use std::alloc::Global;
+
+// The entry that was found, where it has the lease of that number; else `LeaseLost`.
+fn with_lease(lease: u64, found: Option<Entry>) -> Result<Entry, Refusal>
+    ensures gives { result ≡ with_lease lease found }
+    ensures refused { IfErr result (λ refusal. refusal ≡ LeaseLost) }
+{
+    let Some(entry) = found else {
+        return Err(Refusal::LeaseLost);
+    };
+    if !entry.delivery.has_lease(lease) {
+        return Err(Refusal::LeaseLost);
+    }
+    Ok(entry)
+}
 
 // The entry of that number, where it has the lease of that number; else `LeaseLost`.
 fn entry_leased<S: Alter>(
@@ -30,13 +44,8 @@ fn entry_leased<S: Alter>(
     ensures refuses { Refuses S.Store tx.old.conn.now tx.new.conn.now (λ kept. entry_leased number lease kept.entries) result }
     ensures refused { IfErr result (λ refusal. IsOfStore refusal ⊎ (refusal ≡ LeaseLost)) }
 {
-    let Some(entry) = read_entry(alloc, tx, number)? else {
-        return Err(Refusal::LeaseLost);
-    };
-    if !entry.delivery.has_lease(lease) {
-        return Err(Refusal::LeaseLost);
-    }
-    Ok(entry)
+    let found = read_entry(alloc, tx, number)?;
+    with_lease(lease, found)
 }
 
 // Notes the utility's id of the report that the entry told it, if there is one.

@@ -2,7 +2,7 @@
 use Rattle.std.specs.Prelude.{Bool, true, false, List, [], ◌∷◌}
 use Rattle.std.specs.List.{Contains}
 use Rattle.adr_text.specs.declared.refusal.Refusal.{Refusal}
-use Rattle.adr_text.specs.declared.refusal.Refusal.TheVariants.{OutOfMemory, Store, TrailFull, NotFound, Forbidden, NoScan, Stale}
+use Rattle.adr_text.specs.declared.refusal.Refusal.TheVariants.{OutOfMemory, Store, TrailFull, NotFound, Forbidden, NoScan, Stale, BadFile}
 use Rattle.adr_queries.specs.declared.query.Query.{Query}
 use Rattle.adr_queries.specs.declared.query.Query.TheVariants as query
 
@@ -25,12 +25,13 @@ listed_for (query.Sub role id) = Forbidden ∷ NotFound ∷ []
 listed_for (query.Outbox role) = Forbidden ∷ []
 listed_for (query.Probes limit) = NoScan ∷ []
 
--- whether a refusal is the machine's: want of memory and the store's stand only in place of its answer, and it keeps no trail and takes no pass
+-- whether a refusal is the machine's: want of memory and the store's stand only in place of its answer, and it keeps no trail, takes no pass and opens no file
 abbrev pub is_of_machine : Refusal → Bool
 is_of_machine OutOfMemory = false
 is_of_machine Store = false
 is_of_machine TrailFull = false
 is_of_machine (Stale turn) = false
+is_of_machine BadFile = false
 is_of_machine refusal = true
 
 -- how a desk may refuse: as is listed, for want of memory, and by its store, where that may refuse

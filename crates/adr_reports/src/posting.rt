@@ -1,6 +1,6 @@
 //! Reports are posted, replaced and removed.
 ghost use Rattle.std.specs.Prelude.{◌≡◌, [], ◌∷◌, option_map, IfErr};
-ghost use Rattle.std.specs.Option.{option_copied};
+ghost use Rattle.adr_text.specs.Refusals.{or_else};
 ghost use Rattle.adr_text.specs.declared.refusal.Refusal.TheVariants.{Forbidden, NotFound, ResourceNotOfEvent, LimitReached};
 ghost use Rattle.adr_state.specs.Names.{is_full};
 ghost use Rattle.adr_state.specs.Portfolios.{with_report};
@@ -9,7 +9,7 @@ ghost use Rattle.adr_sql.specs.Calls.{LeavesLent};
 ghost use Rattle.adr_db.specs.Kept.{with_portfolio};
 ghost use Rattle.adr_db.specs.Calls.{Turns, Finds, IsOfStore, IsOneOf};
 ghost use Rattle.adr_db.specs.BaseCalls.{Carries, Refuses};
-ghost use Rattle.adr_reports.specs.Decided.{FindsOr, Decides, put_again, replaced, removed};
+ghost use Rattle.adr_reports.specs.Decided.{fitting, room, allowed, FindsOr, Decides, put_again, replaced, removed};
 
 use crate::on::reported;
 use crate::sight::{may_change, may_put, may_report};
@@ -20,6 +20,50 @@ use adr_text::{ObjectId, Refusal};
 use adr_view::{Reported, Sight, fits, kept_report};
 use sqlite::{Alter, Transaction};
 use std::alloc::Global;
+
+// The shown event that was found, where the report fits it.
+fn fitting(found: Option<Reported>, report: &ReportIn) -> Result<Reported, Refusal>
+    ensures gives { result ≡ fitting found report.now }
+    ensures refused { IfErr result (IsOneOf (NotFound ∷ ResourceNotOfEvent ∷ [])) }
+{
+    let Some(on) = found else {
+        return Err(Refusal::NotFound);
+    };
+    if !fits(&on, report) {
+        return Err(Refusal::ResourceNotOfEvent);
+    }
+    Ok(on)
+}
+
+// Refuses one more than there may be.
+fn check_room(full: bool) -> Result<(), Refusal>
+    ensures gives { result ≡ room full }
+    ensures refused { IfErr result (IsOneOf (LimitReached ∷ [])) }
+{
+    if full {
+        return Err(Refusal::LimitReached);
+    }
+    Ok(())
+}
+
+// Refuses what is out of sight.
+fn check_allowed(may: bool) -> Result<(), Refusal>
+    ensures gives { result ≡ allowed may }
+    ensures refused { IfErr result (IsOneOf (Forbidden ∷ [])) }
+{
+    if !may {
+        return Err(Refusal::Forbidden);
+    }
+    Ok(())
+}
+
+// The report that was found.
+fn there(found: Option<(Number, Report)>) -> Result<(Number, Report), Refusal>
+    ensures gives { result ≡ or_else NotFound found }
+    ensures refused { IfErr result (IsOneOf (NotFound ∷ [])) }
+{
+    found.ok_or(Refusal::NotFound)
+}
 
 /// The shown event that a report is on, which it fits.
 fn report_on<S: Alter>(
@@ -32,13 +76,8 @@ fn report_on<S: Alter>(
     ensures refuses { Refuses S.Store tx.old.conn.now tx.new.conn.now (λ kept. report_on report.now kept.mirror kept.portfolio) result }
     ensures refused { IfErr result (IsOneOf (NotFound ∷ ResourceNotOfEvent ∷ [])) }
 {
-    let Some(on) = reported(alloc, tx, &report.event)? else {
-        return Err(Refusal::NotFound);
-    };
-    if !fits(&on, report) {
-        return Err(Refusal::ResourceNotOfEvent);
-    }
-    Ok(on)
+    let found = reported(alloc, tx, &report.event)?;
+    fitting(found, report)
 }
 
 // Whether there are as many as may be.
@@ -83,9 +122,7 @@ fn make<S: Alter>(
 {
     let on = report_on(alloc, tx, report)?;
     let full = is_full(tx, limits)?;
-    if full {
-        return Err(Refusal::LimitReached);
-    }
+    check_room(full)?;
     put_kept(tx, number, number, &on, report)
 }
 
@@ -107,9 +144,7 @@ pub fn post<S: Alter>(
     ensures refused { IfErr result (IsOneOf (Forbidden ∷ NotFound ∷ ResourceNotOfEvent ∷ LimitReached ∷ [])) }
 {
     let may = may_report(alloc, tx, sight, report)?;
-    if !may {
-        return Err(Refusal::Forbidden);
-    }
+    check_allowed(may)?;
     make(alloc, tx, limits, number, report)
 }
 
@@ -163,21 +198,17 @@ fn put_found<S: Alter>(
     tx: &mut Transaction<'_, S>,
     sight: Sight,
     revision: Number,
-    found: Option<&(Number, Report)>,
+    found: Option<(Number, Report)>,
     report: &ReportIn,
 ) -> Result<(Number, Report), Refusal>
     ensures lent { LeavesLent S.Store tx.old.conn tx.new.conn result }
-    ensures decides { Decides S.Store tx.old.conn.now tx.new.conn.now (replaced sight revision (option_copied found.entry) report.now) result }
-    ensures refuses { Refuses S.Store tx.old.conn.now tx.new.conn.now (λ kept. replaced sight revision (option_copied found.entry) report.now kept.mirror kept.portfolio) result }
+    ensures decides { Decides S.Store tx.old.conn.now tx.new.conn.now (replaced sight revision found report.now) result }
+    ensures refuses { Refuses S.Store tx.old.conn.now tx.new.conn.now (λ kept. replaced sight revision found report.now kept.mirror kept.portfolio) result }
     ensures refused { IfErr result (IsOneOf (Forbidden ∷ NotFound ∷ ResourceNotOfEvent ∷ [])) }
 {
-    let may = may_put(alloc, tx, sight, found, report)?;
-    if !may {
-        return Err(Refusal::Forbidden);
-    }
-    let Some(old) = found else {
-        return Err(Refusal::NotFound);
-    };
+    let may = may_put(alloc, tx, sight, found.as_ref(), report)?;
+    check_allowed(may)?;
+    let old = there(found)?;
     put_at(alloc, tx, revision, old.0, report)
 }
 
@@ -199,7 +230,7 @@ pub fn put<S: Alter>(
     ensures refused { IfErr result (IsOneOf (Forbidden ∷ NotFound ∷ ResourceNotOfEvent ∷ [])) }
 {
     let found = report_with_id(alloc, tx, id)?;
-    put_found(alloc, tx, sight, revision, found.as_ref(), report)
+    put_found(alloc, tx, sight, revision, found, report)
 }
 
 // Removes a report that was found.
@@ -212,9 +243,7 @@ fn remove<S: Alter>(
     ensures refuses { Refuses S.Store tx.old.conn.now tx.new.conn.now (λ kept. removed found kept.portfolio) result }
     ensures refused { IfErr result (IsOneOf (NotFound ∷ [])) }
 {
-    let Some(old) = found else {
-        return Err(Refusal::NotFound);
-    };
+    let old = there(found)?;
     remove_report(tx, old.0)?;
     Ok(old)
 }
@@ -234,8 +263,6 @@ pub fn delete<S: Alter>(
 {
     let found = report_with_id(alloc, tx, id)?;
     let may = may_change(alloc, tx, sight, found.as_ref())?;
-    if !may {
-        return Err(Refusal::Forbidden);
-    }
+    check_allowed(may)?;
     remove(tx, found)
 }

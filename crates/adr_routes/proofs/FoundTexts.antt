@@ -1,5 +1,5 @@
 -- A path is found under its text, and under no other.
-use Rattle.std.proofs.Common.{◌≡◌, ℕ, suc, ◌<◌, inl, inr, List, [], ◌∷◌, length, map, Bool, true, false, cond, refl, sym, ap, subst, ◌∙◌, arith, Option, Some, None, option_map, bytes_eq, IsTrue, ◌==◌}
+use Rattle.std.proofs.Common.{◌≡◌, ℕ, suc, ◌<◌, inl, inr, List, [], ◌∷◌, ◌++◌, length, map, append-nil, codes, Bool, true, false, cond, refl, sym, ap, subst, ◌∙◌, arith, Option, Some, None, option_map, bytes_eq, IsTrue, ◌==◌}
 use Rattle.std.specs.List.{All}
 use Rattle.std.proofs.lemmas.List.Elements.{All-nil, All-cons, All-head, All-tail}
 use Rattle.std.proofs.lemmas.Slice.Eq.{bytes_eq-Decides}
@@ -8,7 +8,7 @@ use Rattle.adr_wire.specs.Cuts.{parts}
 use Rattle.adr_text.specs.Ids.{is_id}
 use Rattle.adr_routes.specs.declared.place.Root.TheVariants.{Programs}
 use Rattle.adr_routes.specs.declared.place.One.TheVariants.{Program}
-use Rattle.adr_routes.specs.declared.place.Two.TheVariants.{Resource}
+use Rattle.adr_routes.specs.declared.place.Two.TheVariants.{Resource, Share}
 use Rattle.adr_routes.specs.declared.place.Place.{Place}
 use Rattle.adr_routes.specs.declared.place.Place.TheVariants.{Root, One, Two}
 use Rattle.adr_routes.specs.declared.path.Path.{Path}
@@ -17,7 +17,7 @@ use Rattle.adr_routes.specs.Words.{id_from}
 use Rattle.adr_routes.specs.Places.{text_of, entry_of, entries_of, all_places, table}
 use Rattle.adr_routes.specs.Shapes.{Part, word, any, part_of, part_fits, fits, shape_of, names_in, filled, joined, entry_in, value_of}
 use Rattle.adr_routes.specs.Paths.{place_of, two_ids, path_at, names_at, path_in, place_in, path_of}
-use Rattle.adr_routes.specs.Laws.{ids_of, HasIds, text_at, EveryPathIsFound, NoOtherTextIsFound}
+use Rattle.adr_routes.specs.Laws.{ids_of, HasIds, text_with, text_at, EveryPathIsFound, NoOtherTextIsFound}
 use Rattle.adr_routes.proofs.Shapes.{both, AreSlashFree, parts_free, some_parts, joined_parts, parts_joined}
 use Rattle.adr_routes.proofs.TableRows.{Among, the_entry, some_mapped}
 use Rattle.adr_routes.proofs.PlaceTable.{table_apart}
@@ -103,7 +103,7 @@ some_fit (p ∷ ps) [] some e = absurd cc
 some_fit (p ∷ ps) (s ∷ ss) some e = omega arith
 
 found_at : (p : Place) (ids : List (List ℕ)) (path : Path) → length ids ≡ arity p → All IsId ids → path_at p (map id_from ids) ≡ Some path
-    → path_of (joined (filled (shape_of (text_of p)) ids)) ≡ Some path
+    → path_of (text_with p ids) ≡ Some path
 unfolding path_of place_in
 found_at p ids path n good is =
     let text : List ℕ = text_of p in
@@ -118,6 +118,13 @@ found_at p ids path n good is =
     ∙ ap (λ names. path_at p (map id_from names)) h.2
     ∙ is
 
+-- the two texts that are written out are those of their kinds, filled
+filled_text : (path : Path) → text_at path ≡ text_with (place_of path) (ids_of path)
+filled_text (At root) = refl
+filled_text (Of one id) = refl
+filled_text (Under Resource a b) = ap (λ end. codes "/vens/" ++ (a ++ (codes "/resources/" ++ end))) (sym (append-nil b))
+filled_text (Under Share a b) = ap (λ end. codes "/shares/" ++ (a ++ (codes "/" ++ end))) (sym (append-nil b))
+
 two_read : (a b : List ℕ) → is_id a ≡ true → is_id b ≡ true → two_ids (id_from a ∷ id_from b ∷ []) ≡ Some (a, b)
 two_read a b e f =
     ap (λ o. two_ids (o ∷ id_from b ∷ [])) (id_read a e) ∙ ap (λ o. two_ids (Some a ∷ o ∷ [])) (id_read b f)
@@ -127,7 +134,8 @@ every_path (At root) good = found_at (Root root) [] (At root) refl good refl
 every_path (Of one id) good = found_at (One one) (id ∷ []) (Of one id) refl good (ap (option_map (λ i. Of one i)) (id_read id (All-head IsId id [] good)))
 every_path (Under two a b) good =
     let b_is = All-head IsId b [] (All-tail IsId a (b ∷ []) good) in
-    found_at (Two two) (a ∷ b ∷ []) (Under two a b) refl good (ap (option_map (λ ids. Under two ids.0 ids.1)) (two_read a b (All-head IsId a (b ∷ []) good) b_is))
+    ap path_of (filled_text (Under two a b))
+    ∙ found_at (Two two) (a ∷ b ∷ []) (Under two a b) refl good (ap (option_map (λ ids. Under two ids.0 ids.1)) (two_read a b (All-head IsId a (b ∷ []) good) b_is))
 
 -- ---- a text that is found is its path's
 
@@ -186,8 +194,9 @@ no_other_text text path e = by (place_in text) refl e
         let back = again (shape_of (text_of p)) (parts 47 text) (fitting all_places (parts 47 text) p f).1 in
         let m = made p (names_at p text) path (back.1 ∙ braces_are p) h in
         let written : text_at path ≡ text =
-        ap (λ q. joined (filled (shape_of (text_of q)) (ids_of path))) m.0
-        ∙ ap (λ ids. joined (filled (shape_of (text_of p)) ids)) m.1
+        filled_text path
+        ∙ ap (λ q. text_with q (ids_of path)) m.0
+        ∙ ap (text_with p) m.1
         ∙ ap joined back.0
         ∙ joined_parts text in
         (sym written, subst (All IsId) (sym m.1) m.2)

@@ -41,6 +41,8 @@ fn end_line<D: Desk, W: Sink>(
     ensures no_long_line { result ≢ Err LineTooLong }
     ensures no_long_script { result ≢ Err ScriptTooLong }
     ensures was_sound { D.is_sound desk.new → D.is_sound desk.old }
+    ensures stays_sound { D.is_sound desk.old → D.stands desk.new → D.is_sound desk.new }
+    ensures stood { D.stands desk.new → D.stands desk.old }
     ensures same_settings { D.settings desk.new ≡ D.settings desk.old }
 {
     let line = progress.line.as_slice();
@@ -69,6 +71,8 @@ fn take_end<D: Desk, W: Sink>(
     ensures write_fault { result ≡ Err Write → LastFails (W.calls sink.old) (W.calls sink.new) }
     ensures no_read_fault { result ≢ Err Read }
     ensures was_sound { D.is_sound desk.new → D.is_sound desk.old }
+    ensures stays_sound { D.is_sound desk.old → D.stands desk.new → D.is_sound desk.new }
+    ensures stood { D.stands desk.new → D.stands desk.old }
     ensures same_settings { D.settings desk.new ≡ D.settings desk.old }
 {
     progress.printed = end_line(alloc, routes, desk, sink, progress)?;
@@ -94,6 +98,8 @@ fn take_byte<D: Desk, W: Sink>(
     ensures write_fault { result ≡ Err Write → LastFails (W.calls sink.old) (W.calls sink.new) }
     ensures no_read_fault { result ≢ Err Read }
     ensures was_sound { D.is_sound desk.new → D.is_sound desk.old }
+    ensures stays_sound { D.is_sound desk.old → D.stands desk.new → D.is_sound desk.new }
+    ensures stood { D.stands desk.new → D.stands desk.old }
     ensures same_settings { D.settings desk.new ≡ D.settings desk.old }
 {
     if progress.seen == MOST_LINES {
@@ -125,6 +131,8 @@ fn take_piece<D: Desk, W: Sink>(
     ensures write_fault { result ≡ Err Write → LastFails (W.calls sink.old) (W.calls sink.new) }
     ensures no_read_fault { result ≢ Err Read }
     ensures was_sound { D.is_sound desk.new → D.is_sound desk.old }
+    ensures stays_sound { D.is_sound desk.old → D.stands desk.new → D.is_sound desk.new }
+    ensures stood { D.stands desk.new → D.stands desk.old }
     ensures same_settings { D.settings desk.new ≡ D.settings desk.old }
 {
     for byte in piece {
@@ -153,6 +161,8 @@ fn run_lines<D: Desk, S: Source, W: Sink>(
     ensures short_lines { OnOk result (IfSome (S.left source.old) (λ text. ¬ HasLongLine text)) }
     ensures few_lines { OnOk result (IfSome (S.left source.old) (λ text. ¬ HasManyLines text)) }
     ensures was_sound { D.is_sound desk.new → D.is_sound desk.old }
+    ensures stays_sound { D.is_sound desk.old → D.stands desk.new → D.is_sound desk.new }
+    ensures stood { D.stands desk.new → D.stands desk.old }
     ensures same_settings { D.settings desk.new ≡ D.settings desk.old }
 {
     let mut progress = Progress {
@@ -197,6 +207,8 @@ pub fn run_script<D: Desk, S: Source, W: Sink>(
     ensures short_lines { OnOk result (IfSome (S.left source.old) (λ text. ¬ HasLongLine text)) }
     ensures few_lines { OnOk result (IfSome (S.left source.old) (λ text. ¬ HasManyLines text)) }
     ensures was_sound { D.is_sound desk.new → D.is_sound desk.old }
+    ensures stays_sound { D.is_sound desk.old → D.stands desk.new → D.is_sound desk.new }
+    ensures stood { D.stands desk.new → D.stands desk.old }
     ensures same_settings { D.settings desk.new ≡ D.settings desk.old }
 {
     let routes = Routes::new(alloc)?;

@@ -29,6 +29,8 @@ fn answer_asked<D: Desk>(
     ensures ok { IfOk result (λ out. D.is_sound desk.new → Takes D.may_refuse (want_by role.now) (D.state desk.old) (turn_of (D.settings desk.old) (D.state desk.old) now role.now (Ok (Some asked.now))) (string_bytes out) (D.state desk.new)) }
     ensures err { OnErr result (D.is_sound desk.new → MayLeave (D.state desk.old) (turn_of (D.settings desk.old) (D.state desk.old) now role.now (Ok (Some asked.now))) (D.state desk.new)) }
     ensures was_sound { D.is_sound desk.new → D.is_sound desk.old }
+    ensures stays_sound { D.is_sound desk.old → D.stands desk.new → D.is_sound desk.new }
+    ensures stood { D.stands desk.new → D.stands desk.old }
     ensures same_settings { D.settings desk.new ≡ D.settings desk.old }
 {
     let outcome = take_asked(desk, now, asked);
@@ -63,6 +65,8 @@ fn answer_words<D: Desk>(
     ensures ok { IfOk result (λ out. D.is_sound desk.new → Takes D.may_refuse (want_by role.now) (D.state desk.old) (turn_of (D.settings desk.old) (D.state desk.old) now role.now words.now) (string_bytes out) (D.state desk.new)) }
     ensures err { OnErr result (D.is_sound desk.new → MayLeave (D.state desk.old) (turn_of (D.settings desk.old) (D.state desk.old) now role.now words.now) (D.state desk.new)) }
     ensures was_sound { D.is_sound desk.new → D.is_sound desk.old }
+    ensures stays_sound { D.is_sound desk.old → D.stands desk.new → D.is_sound desk.new }
+    ensures stood { D.stands desk.new → D.stands desk.old }
     ensures same_settings { D.settings desk.new ≡ D.settings desk.old }
 {
     match words {
@@ -84,6 +88,8 @@ fn answer_role<D: Desk>(
     ensures ok { IfOk result (λ out. D.is_sound desk.new → Takes D.may_refuse (want_by role.now) (D.state desk.old) (turn_of (D.settings desk.old) (D.state desk.old) now role.now (words_asked role.now rest.now)) (string_bytes out) (D.state desk.new)) }
     ensures err { OnErr result (D.is_sound desk.new → MayLeave (D.state desk.old) (turn_of (D.settings desk.old) (D.state desk.old) now role.now (words_asked role.now rest.now)) (D.state desk.new)) }
     ensures was_sound { D.is_sound desk.new → D.is_sound desk.old }
+    ensures stays_sound { D.is_sound desk.old → D.stands desk.new → D.is_sound desk.new }
+    ensures stood { D.stands desk.new → D.stands desk.old }
     ensures same_settings { D.settings desk.new ≡ D.settings desk.old }
 {
     // The words are looked at by reference: taken apart, each kind of what is asked would be a path of its own here.
@@ -103,6 +109,8 @@ fn take_line<D: Desk>(
     ensures ok { IfOk result (λ out. D.is_sound desk.new → IsTurn D.may_refuse (D.settings desk.old) (D.state desk.old) line.now (string_bytes out) (D.state desk.new)) }
     ensures err { OnErr result (D.is_sound desk.new → MayLeave (D.state desk.old) (line_turn (D.settings desk.old) (D.state desk.old) line.now) (D.state desk.new)) }
     ensures was_sound { D.is_sound desk.new → D.is_sound desk.old }
+    ensures stays_sound { D.is_sound desk.old → D.stands desk.new → D.is_sound desk.new }
+    ensures stood { D.stands desk.new → D.stands desk.old }
     ensures same_settings { D.settings desk.new ≡ D.settings desk.old }
 {
     let (moment, Some(rest)) = cut(b' ', line) else {
@@ -144,6 +152,8 @@ pub fn answer_line<D: Desk>(
     ensures ok { IfOk result (λ out. D.is_sound desk.new → IsTurn D.may_refuse (D.settings desk.old) (D.state desk.old) line.now (string_bytes out) (D.state desk.new)) }
     ensures err { OnErr result (D.is_sound desk.new → MayLeave (D.state desk.old) (line_turn (D.settings desk.old) (D.state desk.old) line.now) (D.state desk.new)) }
     ensures was_sound { D.is_sound desk.new → D.is_sound desk.old }
+    ensures stays_sound { D.is_sound desk.old → D.stands desk.new → D.is_sound desk.new }
+    ensures stood { D.stands desk.new → D.stands desk.old }
     ensures same_settings { D.settings desk.new ≡ D.settings desk.old }
 {
     match take_line(alloc, routes, desk, line) {

@@ -1,15 +1,20 @@
--- What is decided of a subscription that was looked for.
-use Rattle.std.specs.Prelude.{ℕ, Option, Result, Ok, Err, if◌then◌else◌}
+-- What is decided of a new subscription, and of one that was looked for.
+use Rattle.std.specs.Prelude.{ℕ, Bool, Option, Result, Ok, Err, if◌then◌else◌}
 use Rattle.adr_text.specs.Refusals.{◌>>=◌, or_else}
 use Rattle.adr_text.specs.declared.refusal.Refusal.{Refusal}
-use Rattle.adr_text.specs.declared.refusal.Refusal.TheVariants.{NotFound, Forbidden}
+use Rattle.adr_text.specs.declared.refusal.Refusal.TheVariants.{NotFound, Forbidden, LimitReached}
 use Rattle.adr_subscription.specs.declared.kept_sub.Sub.{Sub}
 use Rattle.adr_subscription.specs.declared.object.SubObject.{SubObject}
 use Rattle.adr_subscription.specs.declared.subscription.SubIn.{SubIn}
 use Rattle.adr_state.specs.Portfolios.{PortfolioChange}
+use Rattle.adr_state.specs.Stamping.{fresh}
 use Rattle.adr_state.specs.Subs.{sub_replaced, sub_removed}
 use Rattle.adr_view.specs.declared.sight.Sight.{Sight}
 use Rattle.adr_view.specs.Sights.{sees_owner}
+
+-- a new one of an owner, and 10 where there are as many as may be
+abbrev pub made : Bool → ℕ → Option ℕ → SubIn → Result Sub Refusal
+made full now owner body = if full then Err LimitReached else Ok (record { owner = owner; body = body; stamps = fresh now })
 
 -- the one that was found, where it is in sight
 abbrev pub in_sight : Sight → Option (ℕ × Sub) → Result (ℕ × Sub) Refusal

@@ -10,7 +10,7 @@ ghost use Rattle.adr_sql.specs.Calls.{LeavesLent};
 ghost use Rattle.adr_db.specs.Kept.{with_portfolio};
 ghost use Rattle.adr_db.specs.Calls.{Turns, Finds, IsOfStore, IsOneOf};
 ghost use Rattle.adr_db.specs.BaseCalls.{Carries, Refuses};
-ghost use Rattle.adr_subs.specs.Found.{replaced, removed};
+ghost use Rattle.adr_subs.specs.Found.{made, replaced, removed};
 
 use crate::found::{in_sight, sub_with_id};
 use adr_db_portfolio::{count_subs, put_sub, remove_sub};
@@ -58,6 +58,21 @@ fn put_kept<S: Alter>(
     Ok(told(number, sub))
 }
 
+// A new subscription of that owner, unless there are as many as may be.
+fn made(full: bool, now: Moment, owner: Option<Number>, body: SubIn) -> Result<Sub, Refusal>
+    ensures gives { result ≡ made full now owner body }
+    ensures refused { IfErr result (λ refusal. refusal ≡ LimitReached) }
+{
+    if full {
+        return Err(Refusal::LimitReached);
+    }
+    Ok(Sub {
+        owner,
+        body,
+        stamps: fresh(now),
+    })
+}
+
 /// Posts a subscription of that owner, or of the operator where there is none, under the number that is handed
 /// in. Refused with `LimitReached`.
 pub fn post<S: Alter>(
@@ -75,20 +90,8 @@ pub fn post<S: Alter>(
     ensures refused { IfErr result (IsOneOf (LimitReached ∷ [])) }
 {
     let full = is_full(tx, limits)?;
-    if full {
-        return Err(Refusal::LimitReached);
-    }
-    let stamps = fresh(now);
-    put_kept(
-        alloc,
-        tx,
-        number,
-        Sub {
-            owner,
-            body,
-            stamps,
-        },
-    )
+    let sub = made(full, now, owner, body)?;
+    put_kept(alloc, tx, number, sub)
 }
 
 // One that says something else from now on: its owner stays, and it keeps when it was created.

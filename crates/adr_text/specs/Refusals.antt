@@ -1,83 +1,54 @@
 -- Refusals, and what a call that can run out of memory gives.
-use Rattle.std.specs.Prelude.{◌≡◌, ℕ, List, codes, Result, Ok, Err, Option, Some, None}
+use Rattle.std.specs.Prelude.{◌≡◌, ℕ, Bool, List, codes, Result, Ok, Err, Option, Some, None, if◌then◌else◌}
 use Rattle.adr_text.specs.declared.refusal.Refusal.{Refusal}
-use Rattle.adr_text.specs.declared.refusal.Refusal.TheVariants.{OutOfMemory, Store, OutboxFull, Exhausted, TrailFull, NotFound, Conflict, Forbidden, BadShare, LimitReached, ResourceNotOfEvent, NoScan, LeaseLost, BadShape, NotWhole, Stale}
+use Rattle.adr_text.specs.declared.refusal.Refusal.TheVariants.{OutOfMemory, Store, OutboxFull, Exhausted, TrailFull, NotFound, Conflict, Forbidden, BadShare, LimitReached, ResourceNotOfEvent, NoScan, LeaseLost, BadShape, NotWhole, Stale, BadFile}
 
--- from 1 (want of memory) to 16 (a pass that is ahead)
+-- its number, which never changes; its name; what went wrong in a few words; and the HTTP status of a reply that says so
+pub record Said : Type 0 where
+  pub number : ℕ
+  pub title : List ℕ
+  pub detail : List ℕ
+  pub status : ℕ
+
+-- what is said of each refusal
+abbrev pub said : Refusal → Said
+said OutOfMemory = record { number = 1; title = codes "OutOfMemory"; detail = codes "out of memory"; status = 500 }
+said Store = record { number = 2; title = codes "Store"; detail = codes "store refused"; status = 500 }
+said OutboxFull = record { number = 3; title = codes "OutboxFull"; detail = codes "outbox is full"; status = 500 }
+said Exhausted = record { number = 4; title = codes "Exhausted"; detail = codes "no numbers left"; status = 500 }
+said TrailFull = record { number = 5; title = codes "TrailFull"; detail = codes "trail is full"; status = 500 }
+said NotFound = record { number = 6; title = codes "NotFound"; detail = codes "no such object"; status = 404 }
+said Conflict = record { number = 7; title = codes "Conflict"; detail = codes "name is taken"; status = 409 }
+said Forbidden = record { number = 8; title = codes "Forbidden"; detail = codes "not allowed for this token"; status = 403 }
+said BadShare = record { number = 9; title = codes "BadShare"; detail = codes "share above 1000000"; status = 400 }
+said LimitReached = record { number = 10; title = codes "LimitReached"; detail = codes "too many objects"; status = 409 }
+said ResourceNotOfEvent = record { number = 11; title = codes "ResourceNotOfEvent"; detail = codes "report does not fit its event"; status = 400 }
+said NoScan = record { number = 12; title = codes "NoScan"; detail = codes "no scan is open"; status = 409 }
+said LeaseLost = record { number = 13; title = codes "LeaseLost"; detail = codes "lease is lost"; status = 500 }
+said BadShape = record { number = 14; title = codes "BadShape"; detail = codes "malformed object"; status = 400 }
+said NotWhole = record { number = 15; title = codes "NotWhole"; detail = codes "not a whole number in range"; status = 400 }
+said (Stale turn) = record { number = 16; title = codes "Stale"; detail = codes "pass is ahead"; status = 500 }
+said BadFile = record { number = 17; title = codes "BadFile"; detail = codes "not a file of this node"; status = 500 }
+
+-- its number, from 1 (want of memory) to 17 (a file that is none of this node)
 abbrev pub number_of : Refusal → ℕ
-number_of OutOfMemory = 1
-number_of Store = 2
-number_of OutboxFull = 3
-number_of Exhausted = 4
-number_of TrailFull = 5
-number_of NotFound = 6
-number_of Conflict = 7
-number_of Forbidden = 8
-number_of BadShare = 9
-number_of LimitReached = 10
-number_of ResourceNotOfEvent = 11
-number_of NoScan = 12
-number_of LeaseLost = 13
-number_of BadShape = 14
-number_of NotWhole = 15
-number_of (Stale turn) = 16
+number_of refusal = (said refusal).number
 
--- the one word by which a problem names the refusal, such as `NotFound`
+-- the one word by which a problem names it, such as `NotFound`
 abbrev pub title_of : Refusal → List ℕ
-title_of OutOfMemory = codes "OutOfMemory"
-title_of Store = codes "Store"
-title_of OutboxFull = codes "OutboxFull"
-title_of Exhausted = codes "Exhausted"
-title_of TrailFull = codes "TrailFull"
-title_of NotFound = codes "NotFound"
-title_of Conflict = codes "Conflict"
-title_of Forbidden = codes "Forbidden"
-title_of BadShare = codes "BadShare"
-title_of LimitReached = codes "LimitReached"
-title_of ResourceNotOfEvent = codes "ResourceNotOfEvent"
-title_of NoScan = codes "NoScan"
-title_of LeaseLost = codes "LeaseLost"
-title_of BadShape = codes "BadShape"
-title_of NotWhole = codes "NotWhole"
-title_of (Stale turn) = codes "Stale"
+title_of refusal = (said refusal).title
 
--- the few words that a problem tells of the refusal, such as `no such object`
+-- the few words that a problem tells of it, such as `no such object`
 abbrev pub detail_of : Refusal → List ℕ
-detail_of OutOfMemory = codes "out of memory"
-detail_of Store = codes "store refused"
-detail_of OutboxFull = codes "outbox is full"
-detail_of Exhausted = codes "no numbers left"
-detail_of TrailFull = codes "trail is full"
-detail_of NotFound = codes "no such object"
-detail_of Conflict = codes "name is taken"
-detail_of Forbidden = codes "not allowed for this token"
-detail_of BadShare = codes "share above 1000000"
-detail_of LimitReached = codes "too many objects"
-detail_of ResourceNotOfEvent = codes "report does not fit its event"
-detail_of NoScan = codes "no scan is open"
-detail_of LeaseLost = codes "lease is lost"
-detail_of BadShape = codes "malformed object"
-detail_of NotWhole = codes "not a whole number in range"
-detail_of (Stale turn) = codes "pass is ahead"
+detail_of refusal = (said refusal).detail
 
--- the HTTP status of the refusal: 400, 403, 404, 409 or 500
+-- the HTTP status of a reply that says so: 400, 403, 404, 409 or 500
 abbrev pub status_of : Refusal → ℕ
-status_of OutOfMemory = 500
-status_of Store = 500
-status_of OutboxFull = 500
-status_of Exhausted = 500
-status_of TrailFull = 500
-status_of NotFound = 404
-status_of Conflict = 409
-status_of Forbidden = 403
-status_of BadShare = 400
-status_of LimitReached = 409
-status_of ResourceNotOfEvent = 400
-status_of NoScan = 409
-status_of LeaseLost = 500
-status_of BadShape = 400
-status_of NotWhole = 400
-status_of (Stale turn) = 500
+status_of refusal = (said refusal).status
+
+-- nothing where it holds, else this refusal
+abbrev pub unless : Refusal → Bool → Result Unit Refusal
+unless refusal holds = if holds then Ok tt else Err refusal
 
 -- one reading after another: the first fault wins
 infixl 10 ◌>>=◌

@@ -105,6 +105,8 @@ impl Desk for Twin {
 
     ghost is_sound = { λ twin. ⟦<PlainDesk as Desk>⟧.is_sound twin.plain };
 
+    ghost stands = { λ twin. ⟦<PlainDesk as Desk>⟧.stands twin.plain };
+
     // The plain desk answers: what the tables answer is compared, and not answered.
     ghost may_refuse = { ⟦<PlainDesk as Desk>⟧.may_refuse };
 

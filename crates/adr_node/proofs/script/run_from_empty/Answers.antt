@@ -52,22 +52,22 @@ pub returns-in_err-run_script-clause-some : goal.returns-in_err-run_script-claus
 returns-in_err-run_script-clause-some g c =
     let desk = c.in_ok-desk.ensures in
     let handed = err_from_is_err_and c.from_residual-in_err-run_script.result c.from_residual-in_err-run_script.ensures.1 in
-    rw handed.1 (stops c.args.limits (c.memory_is_sound.ensures c.run_script.new.desk) desk.settings desk.state _ _ _ _ c.in_err-run_script.ensures.some)
+    rw handed.1 (stops c.args.limits (c.in_err-run_script.ensures.stays_sound desk.sound (c.memory_stands.ensures c.run_script.new.desk)) desk.settings desk.state _ _ _ _ c.in_err-run_script.ensures.some)
 
 pub returns-in_err-run_script-clause-long_line : goal.returns-in_err-run_script-clause-long_line
 returns-in_err-run_script-clause-long_line g c =
     let desk = c.in_ok-desk.ensures in
     let handed = err_from_is_err_and c.from_residual-in_err-run_script.result c.from_residual-in_err-run_script.ensures.1 in
-    λ e. at_long_line c.args.limits (c.memory_is_sound.ensures c.run_script.new.desk) desk.settings desk.state _ _ _ _ (c.in_err-run_script.ensures.long_line cc)
+    λ e. at_long_line c.args.limits (c.in_err-run_script.ensures.stays_sound desk.sound (c.memory_stands.ensures c.run_script.new.desk)) desk.settings desk.state _ _ _ _ (c.in_err-run_script.ensures.long_line cc)
 
 pub returns-in_err-run_script-clause-long_script : goal.returns-in_err-run_script-clause-long_script
 returns-in_err-run_script-clause-long_script g c =
     let desk = c.in_ok-desk.ensures in
     let handed = err_from_is_err_and c.from_residual-in_err-run_script.result c.from_residual-in_err-run_script.ensures.1 in
-    λ e. at_many_lines c.args.limits (c.memory_is_sound.ensures c.run_script.new.desk) desk.settings desk.state _ _ _ _ (c.in_err-run_script.ensures.long_script cc)
+    λ e. at_many_lines c.args.limits (c.in_err-run_script.ensures.stays_sound desk.sound (c.memory_stands.ensures c.run_script.new.desk)) desk.settings desk.state _ _ _ _ (c.in_err-run_script.ensures.long_script cc)
 
 -- it ran to its end
 pub returns-clause-all : goal.returns-clause-all
 returns-clause-all g c =
     let desk = c.in_ok-desk.ensures in
-    runs c.args.limits (c.memory_is_sound.ensures c.run_script.new.desk) desk.settings desk.state _ _ _ _ _ c.in_ok-run_script.ensures.all
+    runs c.args.limits (c.in_ok-run_script.ensures.stays_sound desk.sound (c.memory_stands.ensures c.run_script.new.desk)) desk.settings desk.state _ _ _ _ _ c.in_ok-run_script.ensures.all

@@ -16,6 +16,8 @@ loop-init g c =
       consumed = Consumes-nil (g.S.Source.left c.args.source.now);
       read = HasRead-nothing;
       was_sound = λ sound. sound;
+      stays_sound = λ sound stands. sound;
+      stood = λ stands. stands;
       settings = refl;
     }
 
@@ -32,6 +34,8 @@ loop-preserved g c =
       consumed = Consumes-trans _ _ _ before.bytes _ before.consumed c.in-Ok.ensures.bytes.0;
       read = HasRead-append piece.was_sound before.read (rw before.settings at piece.ok);
       was_sound = λ sound. before.was_sound (piece.was_sound sound);
+      stays_sound = λ sound stands. piece.stays_sound (before.stays_sound sound (piece.stood stands)) stands;
+      stood = λ stands. before.stood (piece.stood stands);
       settings = piece.same_settings ∙ before.settings;
     }
 

@@ -18,5 +18,7 @@ invariant-loop g l =
       consumed : Consumes (source.left l.fn.source) (source.left l.source) bytes;
       read : HasRead (desk.is_sound l.desk) desk.may_refuse (desk.settings l.fn.desk) (desk.state l.fn.desk) (desk.state l.desk) (sink.written l.fn.sink) (sink.written l.sink) l.initial.progress l.progress bytes;
       was_sound : desk.is_sound l.desk → desk.is_sound l.fn.desk;
+      stays_sound : desk.is_sound l.fn.desk → desk.stands l.desk → desk.is_sound l.desk;
+      stood : desk.stands l.desk → desk.stands l.fn.desk;
       settings : desk.settings l.desk ≡ desk.settings l.fn.desk;
     }

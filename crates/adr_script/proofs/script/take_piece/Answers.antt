@@ -6,7 +6,7 @@ use Rattle.adr_script.proofs.Readings.{HasRead-nothing, HasRead-append, HasStopp
 use Rattle.adr_script.proofs.script.take_piece.Goals as goal
 
 pub loop-byte-init : goal.loop-byte-init
-loop-byte-init g c = record { read = HasRead-nothing; write_failed = refl; was_sound = λ sound. sound; settings = refl }
+loop-byte-init g c = record { read = HasRead-nothing; write_failed = refl; was_sound = λ sound. sound; stays_sound = λ sound stands. sound; stood = λ stands. stands; settings = refl }
 
 -- a byte more
 pub loop-byte-preserved : goal.loop-byte-preserved
@@ -17,6 +17,8 @@ loop-byte-preserved g c =
       read = rw (take_more c.args.piece.now c.loop-byte.byte-index 0 c.loop-byte-test.true) (HasRead-append byte.was_sound before.read (rw before.settings at byte.ok));
       write_failed = byte.no_write_fault (λ e. cc) ∙ before.write_failed;
       was_sound = λ sound. before.was_sound (byte.was_sound sound);
+      stays_sound = λ sound stands. byte.stays_sound (before.stays_sound sound (byte.stood stands)) stands;
+      stood = λ stands. before.stood (byte.stood stands);
       settings = byte.same_settings ∙ before.settings;
     }
 

@@ -1,0 +1,32 @@
+-- What is left of a desk, and what is found of it.
+use Rattle.std.proofs.Common.{◌≡◌, ◌⊎◌, inl, inr, false, Option, Some, None, Result, Ok, Err, IfSome, IfOk, OnOk, sym, ap, subst, ◌∙◌}
+use Rattle.std.specs.Prelude.{is_err}
+use Rattle.adr_db.proofs.Common.{Trees, HasCleanDisk, Refusal}
+use Rattle.sqlite.specs.State.{Survives}
+use Rattle.sqlite.specs.State as sql
+use Rattle.adr_state.specs.declared.state.State.{State}
+use Rattle.adr_db.specs.Bases.{HoldsState, AreLeftWith}
+use Rattle.adr_queries.specs.declared.answer.Answer.{Answer}
+use Rattle.adr_desk.specs.Restarts.{IsStepOf}
+
+pub some_then : {T : Type 0} {P Q : T → Type 0} (o : Option T) → ((x : T) → P x → Q x) → IfSome o P → IfSome o Q
+some_then (Some x) f h = f x h
+some_then None f h = tt
+
+pub went_well : {T E : Type 0} (P : Type 0) (r : Result T E) → is_err r ≡ false → OnOk r P → P
+went_well P (Ok x) is h = h
+went_well P (Err e) is h = absurd cc
+
+-- what tables hold is left by trees that are theirs
+pub left_by : (held : State) (s : sql.State) (trees : Trees) → trees ≡ s.now.trees → HoldsState held s → AreLeftWith held trees
+left_by held s trees is h = subst (AreLeftWith held) (sym is) (record { sound = h.rows.sound; rows = h.rows.each; marks = h.marks; subs = h.subs })
+
+-- a crash leaves what was held before, or what comes after
+pub before_or_after : (old new : sql.State) (IsAfter : State → Trees → Type 0) (held : State) → Survives old new (λ trees. (h : State) → HoldsState h old → IsAfter h trees) → HasCleanDisk new
+    → ((trees : Trees) → old.may_leave trees → trees ≡ old.now.trees) → HoldsState held old → (trees : Trees) → new.may_leave trees → AreLeftWith held trees ⊎ IsAfter held trees
+before_or_after old new IsAfter held survives clean leaves was trees may = elim (survives.crash clean trees may) [ inl early ↦ inl (left_by held old trees (leaves trees early) was) | inr late ↦ inr (late held was) ]
+
+-- a step that was taken leads to the state that is found
+pub step_led : {Sound : Type 0} (r : Result Answer Refusal) (stepped : Result (Answer × State) Refusal) (held again : State) → is_err r ≡ false → IfOk r (λ answer. Sound → stepped ≡ Ok (answer, held)) → Sound → again ≡ held → IsStepOf stepped again
+step_led (Ok answer) stepped held again ok leads sound same = (answer, leads sound ∙ ap (λ (t : State). Ok (answer, t)) (sym same))
+step_led (Err e) stepped held again ok leads sound same = absurd cc
