@@ -11,7 +11,10 @@ use std::test::Fail;
 #[test]
 fn refusal_is_told_as_its_detail(rt: HostRuntime) -> Result<(), Fail> {
     let told = format!(in rt.alloc(); "{}, {}", Refusal::Forbidden, Refusal::Stale(7))?;
-    assert!(rt; told.as_str() == "not allowed for this token, pass is ahead", "{told}");
+    assert!(rt;
+        told.as_str() == "not allowed for this token, pass is ahead",
+        "{told}"
+    );
     Ok(())
 }
 
