@@ -2,6 +2,7 @@ pub mod Transactions
 pub mod Steps
 pub mod Decisions
 pub mod Asks
+pub mod Sights
 pub mod Stamps
 pub mod Told
 pub mod Since

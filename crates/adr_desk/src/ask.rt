@@ -151,9 +151,7 @@ fn rolled_up<S: Alter>(
     ensures refuses { RefusesAs (λ held. reply held (query.Rollup role.now event.now)) (state S.Store tx.old.conn.now) (state S.Store tx.new.conn.now) result }
     ensures listed { IfErr result (IsListed (Unit {0}) (listed_for (query.Rollup role.now event.now))) }
 {
-    if !is_operator(role) {
-        return Err(Refusal::Forbidden);
-    }
+    Refusal::Forbidden.unless(is_operator(role))?;
     let found = rollup(alloc, tx, event)?;
     rollup_told(copy_of(event)?, found)
 }

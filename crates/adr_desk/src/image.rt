@@ -2,6 +2,8 @@
 ghost use Rattle.std.specs.Prelude.{◌≡◌, false, IfOk, IfErr};
 ghost use Rattle.sqlite.specs.Held.{state};
 ghost use Rattle.sqlite.specs.State.{HasCleanDisk};
+ghost use Rattle.adr_text.specs.declared.refusal.Refusal.TheVariants.{Store};
+ghost use Rattle.adr_state.specs.Fitting.{Fits};
 ghost use Rattle.adr_db.specs.Kept.{Kept, Keeps};
 ghost use Rattle.adr_db.specs.Calls.{IsOfStore};
 ghost use Rattle.adr_desk.specs.Transactions.{IsDropped};
@@ -14,10 +16,10 @@ use adr_text::Refusal;
 use sqlite::{Alter, Connection};
 use std::alloc::Global;
 
-// More than a node has is the store's refusal.
+// Tables of a node hold a state that is an image; one that is none is the store's refusal.
 fn of_store(state: State) -> Result<Image, Refusal>
     ensures ok { IfOk result (λ image. image ≡ state) }
-    ensures refused { IfErr result IsOfStore }
+    ensures refused { IfErr result (λ refusal. (refusal ≡ Store) × (¬ (Fits state))) }
 {
     Image::of(state).ok_or(Refusal::Store)
 }

@@ -107,9 +107,7 @@ fn acted<S: Alter>(
     if command.is_delivery() {
         return delivered(alloc, tx, &settings.limits, now, meta, command);
     }
-    if !command.is_allowed() {
-        return Err(Refusal::Forbidden);
-    }
+    Refusal::Forbidden.unless(command.is_allowed())?;
     committed(alloc, tx, settings, now, meta, command)
 }
 

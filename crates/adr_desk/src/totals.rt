@@ -20,8 +20,6 @@ pub(crate) fn counted<S: Alter>(tx: &mut Transaction<'_, S>, role: &Role) -> Res
     ensures refuses { RefusesAs (λ held. reply held (query.Outbox role.now)) (state S.Store tx.old.conn.now) (state S.Store tx.new.conn.now) result }
     ensures listed { IfErr result (IsListed (Unit {0}) (listed_for (query.Outbox role.now))) }
 {
-    if !is_operator(role) {
-        return Err(Refusal::Forbidden);
-    }
+    Refusal::Forbidden.unless(is_operator(role))?;
     Ok(Answer::Counts(counts(tx)?))
 }

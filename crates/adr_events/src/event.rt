@@ -1,7 +1,7 @@
 //! What is shown of one upstream event.
-ghost use Rattle.std.specs.Prelude.{◌≡◌, IfOk, IfErr};
+ghost use Rattle.std.specs.Prelude.{◌≡◌, IfErr};
 ghost use Rattle.adr_sql.specs.Calls.{LeavesLent};
-ghost use Rattle.adr_view.specs.Views.{rows_for, event_rows};
+ghost use Rattle.adr_view.specs.Views.{event_rows};
 ghost use Rattle.adr_db.specs.Calls.{IsOfStore};
 ghost use Rattle.adr_db.specs.BaseCalls.{FindsOn};
 ghost use Rattle.adr_events.specs.Shown.{IsShown};
@@ -10,27 +10,11 @@ use crate::mark::rows_known;
 use adr_db_mirror::read_known;
 use adr_db_portfolio::named_participants;
 use adr_objects::EventBody;
-use adr_state::{Participant, ViewKey};
+use adr_state::ViewKey;
 use adr_text::{ObjectId, Refusal, Rows};
 use adr_view::{Content, carries, event_key, rows_for};
 use sqlite::{Alter, Transaction};
 use std::alloc::Global;
-
-// What those who take part are shown. More of them than a node has resources is the store's refusal.
-fn rows_of(
-    alloc: Global,
-    id: &ObjectId,
-    event: &EventBody,
-    ps: &[Participant],
-) -> Result<Rows<(ViewKey, Content)>, Refusal>
-    ensures rows { IfOk result (λ rows. rows ≡ rows_for id.now event.now ps.now) }
-    ensures refused { IfErr result IsOfStore }
-{
-    if ps.len() > 10_000 {
-        return Err(Refusal::Store);
-    }
-    Ok(rows_for(alloc, id, event, ps)?)
-}
 
 /// What is shown of an event whose body was read.
 pub(crate) fn event_rows<S: Alter>(
@@ -47,7 +31,7 @@ pub(crate) fn event_rows<S: Alter>(
         return Ok(Rows::new(alloc));
     }
     let ps = named_participants(alloc, tx, event)?;
-    rows_of(alloc, id, event, ps.as_slice())
+    Ok(rows_for(alloc, id, event, ps.as_slice())?)
 }
 
 /// What is shown of an upstream event: for each of its participants, in the order of their numbers, its key

@@ -11,16 +11,15 @@ use adr_state::{Mark, MirrorKey, ViewKey};
 use adr_text::{Name, ObjectId, Refusal, Rows};
 use adr_view::Content;
 use sqlite::{Alter, Transaction};
-use std::alloc::Global;
+use std::alloc::{AllocError, Global};
 
 // What is shown of a program.
 fn program_rows(
     alloc: Global,
     id: &ObjectId,
     name: &Name,
-) -> Result<Rows<(ViewKey, Content)>, Refusal>
-    ensures rows { IfOk result (λ rows. rows ≡ program_rows id.now name.now) }
-    ensures refused { IfErr result IsOfStore }
+) -> Result<Rows<(ViewKey, Content)>, AllocError>
+    ensures { IfOk result (λ rows. rows ≡ program_rows id.now name.now) }
 {
     let mut rows = Rows::new(alloc);
     rows.push((
@@ -42,7 +41,9 @@ pub(crate) fn mark_rows<S: Alter>(
     ensures refused { IfErr result IsOfStore }
 {
     match (key.kind, mark) {
-        (Kind::Program, Mark::Live(_, Body::Program(name))) => program_rows(alloc, &key.id, name),
+        (Kind::Program, Mark::Live(_, Body::Program(name))) => {
+            Ok(program_rows(alloc, &key.id, name)?)
+        }
         (Kind::Event, Mark::Live(_, Body::Event(event))) => event_rows(alloc, tx, &key.id, event),
         _ => Ok(Rows::new(alloc)),
     }

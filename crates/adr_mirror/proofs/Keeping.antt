@@ -4,14 +4,14 @@ use Rattle.std.specs.Prelude.{is_some, nat_lt}
 use Rattle.adr_db.proofs.Common.{insert_entry, insert_key, State, IsRefusalOf, Refusal, OutOfMemory, Store, LimitReached, NoScan, Base, Mark, MirrorKey, Limits, mirror_cmp, at, key_of, joined, keys_found, probes, BaseChange, JoinMarks, SetScan, joining, scan_with, open_scan, scan_end}
 use Rattle.std.proofs.lemmas.Bool.Decides.{nat_tests}
 use Rattle.std.proofs.lemmas.List.Sums.{fold-append}
-use Rattle.adr_text.specs.Refusals.{◌>>=◌}
+use Rattle.adr_text.specs.Refusals.{unless, ◌>>=◌}
 use Rattle.adr_objects.specs.declared.body.Found.{Found}
 use Rattle.adr_state.specs.Marks.{is_below}
 use Rattle.adr_db.specs.declared.meta.Meta.{Meta}
 use Rattle.adr_db.specs.Kept.{Kept, Keeps, at_most, with_mark}
 use Rattle.adr_db.specs.Bases.{Beside, keys_polled, with_base, kept_beside}
 use Rattle.adr_mirror.specs.Raises.{are_beyond, with_raised, with_polled_if}
-use Rattle.adr_mirror.specs.Missed.{missed, if_open, closing}
+use Rattle.adr_mirror.specs.Missed.{missed, closing}
 
 -- ---- the mirror
 
@@ -67,11 +67,11 @@ still_open (Some keys) founds true = refl
 still_open (Some keys) founds false = refl
 
 -- whether one is open, by what the test of it tells
-pub told_open : (scan : Bool) (u : Unit {0}) → if_open scan ≡ Ok u → scan ≡ true
+pub told_open : (scan : Bool) (u : Unit {0}) → unless NoScan scan ≡ Ok u → scan ≡ true
 told_open true u h = refl
 told_open false u h = absurd cc
 
-pub told_shut : (scan : Bool) (e : Refusal) → if_open scan ≡ Err e → (scan ≡ false) × (e ≡ NoScan)
+pub told_shut : (scan : Bool) (e : Refusal) → unless NoScan scan ≡ Err e → (scan ≡ false) × (e ≡ NoScan)
 told_shut true e h = absurd cc
 told_shut false e h = (refl, let it : NoScan ≡ e = cc in sym it)
 

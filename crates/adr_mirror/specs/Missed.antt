@@ -1,11 +1,10 @@
 -- The live keys that an open scan missed.
-use Rattle.std.specs.Prelude.{◌≡◌, ℕ, Bool, List, Option, None, Some, Result, Ok, Err, IfOk, if◌then◌else◌}
+use Rattle.std.specs.Prelude.{◌≡◌, ℕ, List, Option, None, Some, Result, Ok, IfOk}
 use Rattle.sqlite.specs.Store.{Ghosts}
 use Rattle.sqlite.specs.Held.{Held, state}
 use Rattle.sqlite.specs.State.{HasCleanDisk}
 use Rattle.adr_text.specs.Refusals.{◌>>=◌}
 use Rattle.adr_text.specs.declared.refusal.Refusal.{Refusal}
-use Rattle.adr_text.specs.declared.refusal.Refusal.TheVariants.{NoScan}
 use Rattle.adr_state.specs.declared.base.Base.{Base}
 use Rattle.adr_state.specs.declared.keys.MirrorKey.{MirrorKey}
 use Rattle.adr_state.specs.Scans.{probes}
@@ -19,10 +18,6 @@ use Rattle.adr_db.specs.Bases.{Beside, with_base, HoldsBeside}
 -- none is open
 abbrev pub missed : Option ℕ → Base → Result (List MirrorKey) Refusal
 missed limit base = open_scan base.scan >>= λ polled. Ok (at_most limit (probes base.mirror polled))
-
--- a scan is open, else 12
-abbrev pub if_open : Bool → Result Unit Refusal
-if_open is_open = if is_open then Ok tt else Err NoScan
 
 -- the change that the end of a scan makes
 abbrev pub closing : Base → Result BaseChange Refusal

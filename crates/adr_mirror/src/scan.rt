@@ -7,7 +7,7 @@ ghost use Rattle.adr_sql.specs.Calls.{LeavesLent};
 ghost use Rattle.adr_db.specs.Kept.{with_none_polled};
 ghost use Rattle.adr_db.specs.Calls.{LeavesKept, IsOfStore};
 ghost use Rattle.adr_db.specs.BaseCalls.{Makes, RefusesOn};
-ghost use Rattle.adr_mirror.specs.Missed.{missed, if_open, closing, TellsOn};
+ghost use Rattle.adr_mirror.specs.Missed.{missed, closing, TellsOn};
 
 use adr_db::Meta;
 use adr_db_mirror::{clear_polled, read_unseen};
@@ -41,17 +41,6 @@ pub fn scan_begin<S: Alter>(tx: &mut Transaction<'_, S>, meta: &mut Meta) -> Res
     set_scan(tx, meta, true)
 }
 
-// Refuses where no scan is open.
-fn check_open(is_open: bool) -> Result<(), Refusal>
-    ensures gives { result ≡ if_open is_open }
-    ensures refused { IfErr result (λ refusal. refusal ≡ NoScan) }
-{
-    if !is_open {
-        return Err(Refusal::NoScan);
-    }
-    Ok(())
-}
-
 /// The live keys outside the set of polled ones, programs before events, each by the bytes of its id;
 /// with a limit the first of them, at most so many. Refused with `NoScan` where no scan is open.
 pub fn probes<S: Alter>(
@@ -65,7 +54,7 @@ pub fn probes<S: Alter>(
     ensures refuses { RefusesOn S.Store tx.old.conn.now tx.new.conn.now (missed limit) meta.now result }
     ensures refused { IfErr result (λ refusal. IsOfStore refusal ⊎ (refusal ≡ NoScan)) }
 {
-    check_open(meta.scan)?;
+    Refusal::NoScan.unless(meta.scan)?;
     read_unseen(alloc, tx, limit)
 }
 

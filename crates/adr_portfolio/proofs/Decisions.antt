@@ -1,8 +1,8 @@
 -- What is decided, where its tests were made.
-use Rattle.std.proofs.Common.{◌≡◌, ◌==◌, ℕ, Bool, true, false, not, nat_le, List, length, map, filter, Option, Some, Result, Ok, Err, refl, sym, ap, ap₂, ◌∙◌}
-use Rattle.std.specs.Prelude.{bytes_eq, option_map, option_and_then}
-use Rattle.adr_db.proofs.Common.{list_any, nat_cmp, IsRefusalOf, Refusal, OutOfMemory, Store, at, is_taken, is_taken_by_another, is_full, if_new, if_free}
-use Rattle.adr_text.specs.Refusals.{◌>>=◌}
+use Rattle.std.proofs.Common.{◌≡◌, ◌==◌, ℕ, Bool, true, false, not, nat_le, List, length, map, filter, Result, Ok, Err, refl, sym, ap, ap₂, ◌∙◌}
+use Rattle.std.specs.Prelude.{bytes_eq}
+use Rattle.adr_db.proofs.Common.{list_any, Refusal, is_taken, is_taken_by_another, is_full, if_new, if_free}
+use Rattle.adr_text.specs.Refusals.{unless, ◌>>=◌}
 use Rattle.adr_portfolio.proofs.NameLemmas.{taken_is, another_is}
 
 -- what is made is made behind the tests, or is refused by them
@@ -30,6 +30,11 @@ module _ {A : Type 0} (made : A) where
         free_made (is_taken_by_another name_of n name rows)
         ∙ ap (λ (r : Result Unit Refusal). r >>= λ u. Ok made) (ap (λ taken. if_free {A = Unit {0}} taken tt) (sym (another_is name_of name rows numbers found n shown another is same)) ∙ sym tested ∙ ends)
 
--- what an id names is there
-pub there : {V : Type 0} (rows : List (ℕ × V)) (o : Option ℕ) (n : ℕ) (found : Option V) (v : V) → o ≡ Some n → found ≡ at nat_cmp n rows → found ≡ Some v → ◌≡◌ {A = Option (ℕ × V)} (option_and_then (λ m. option_map (λ v. (m, v)) (at nat_cmp m rows)) o) (Some (n, v))
-there rows o n found v number finds is = rw (number, ← finds, is) refl
+-- a test passes where what was tested holds, and tells its own refusal where it does not
+pub passed : (own : Refusal) (holds : Bool) (u : Unit {0}) → unless own holds ≡ Ok u → holds ≡ true
+passed own true u h = refl
+passed own false u h = absurd cc
+
+pub stopped : (own : Refusal) (holds : Bool) (e : Refusal) → unless own holds ≡ Err e → (holds ≡ false) × (e ≡ own)
+stopped own true e h = absurd cc
+stopped own false e h = (refl, let it : own ≡ e = cc in sym it)

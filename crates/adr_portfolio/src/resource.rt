@@ -8,7 +8,9 @@ ghost use Rattle.adr_db.specs.Calls.{Finds, IsOfStore, IsOneOf};
 ghost use Rattle.adr_db.specs.BaseCalls.{Carries, Refuses};
 ghost use Rattle.adr_portfolio.specs.Found.{found_under};
 
+use crate::found::there;
 use crate::names::is_another_there;
+use crate::ven::ven_at;
 use adr_db_portfolio::{
     count_resources, put_resource, read_resource, read_resources_named, read_ven, remove_resource,
 };
@@ -51,12 +53,8 @@ pub fn resource_add<S: Alter>(
     ensures refuses { Refuses S.Store tx.old.conn.now tx.new.conn.now (λ kept. resource_add limits.now now number ven.now name.now kept.portfolio) result }
     ensures refused { IfErr result (IsOneOf (NotFound ∷ Conflict ∷ LimitReached ∷ [])) }
 {
-    let Some(ven) = number_in(b'v', ven) else {
-        return Err(Refusal::NotFound);
-    };
-    let Some(_) = read_ven(alloc, tx, ven)? else {
-        return Err(Refusal::NotFound);
-    };
+    let found = ven_at(alloc, tx, ven)?;
+    let ven = there(found)?;
     let named = read_resources_named(alloc, tx, name)?;
     let count = count_resources(tx)?;
     check_new(!named.is_empty(), limits.resources.get() <= count)?;
@@ -133,9 +131,8 @@ pub fn resource_put<S: Alter>(
     ensures refuses { Refuses S.Store tx.old.conn.now tx.new.conn.now (λ kept. resource_put now ven.now id.now name.now kept.portfolio) result }
     ensures refused { IfErr result (IsOneOf (NotFound ∷ Conflict ∷ [])) }
 {
-    let Some(row) = read_under(alloc, tx, ven, id)? else {
-        return Err(Refusal::NotFound);
-    };
+    let found = read_under(alloc, tx, ven, id)?;
+    let row = there(found)?;
     let number = row.0;
     let named = read_resources_named(alloc, tx, name)?;
     check_free(is_another_there(number, named.as_slice()))?;
@@ -157,9 +154,8 @@ pub fn resource_remove<S: Alter>(
     ensures refuses { Refuses S.Store tx.old.conn.now tx.new.conn.now (λ kept. resource_remove ven.now id.now kept.portfolio) result }
     ensures refused { IfErr result (IsOneOf (NotFound ∷ [])) }
 {
-    let Some(row) = read_under(alloc, tx, ven, id)? else {
-        return Err(Refusal::NotFound);
-    };
+    let found = read_under(alloc, tx, ven, id)?;
+    let row = there(found)?;
     let number = row.0;
     remove_resource(tx, number)?;
     Ok(shown(alloc, number, &row.1)?)

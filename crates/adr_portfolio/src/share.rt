@@ -1,15 +1,17 @@
 //! Shares of resources in programs are set.
-ghost use Rattle.std.specs.Prelude.{◌≡◌, ◌≤◌, IfOk, [], ◌∷◌, IfErr};
+ghost use Rattle.std.specs.Prelude.{◌≡◌, ◌≤◌, [], ◌∷◌, IfErr};
 ghost use Rattle.adr_text.specs.declared.refusal.Refusal.TheVariants.{NotFound, BadShare, LimitReached};
 ghost use Rattle.adr_state.specs.Weights.{most_weight};
+ghost use Rattle.adr_state.specs.Resources.{resource_at};
 ghost use Rattle.adr_state.specs.Shares.{is_beyond, weight_set, share_of, share_set};
 ghost use Rattle.adr_sql.specs.Calls.{LeavesLent};
 ghost use Rattle.adr_db.specs.Calls.{Finds, IsOfStore, IsOneOf};
 ghost use Rattle.adr_db.specs.BaseCalls.{Carries, Refuses};
 ghost use Rattle.adr_portfolio.specs.Weights.{Sets};
 
+use crate::found::there;
 use adr_db_portfolio::{count_shares, put_share, read_resource, read_share, remove_share};
-use adr_objects::ShareObject;
+use adr_objects::{Number, ShareObject};
 use adr_state::{Limits, ShareKey, Weight, number_in};
 use adr_text::{ObjectId, Refusal};
 use sqlite::{Alter, Transaction};
@@ -61,9 +63,7 @@ fn set_weight<S: Alter>(
         return remove_share(tx, key);
     }
     let beyond = is_beyond(tx, limits, key)?;
-    if beyond {
-        return Err(Refusal::LimitReached);
-    }
+    Refusal::LimitReached.unless(!beyond)?;
     put_share(tx, key, weight_of(share))
 }
 
@@ -79,15 +79,30 @@ fn set_of<S: Alter>(
     ensures refuses { Refuses S.Store tx.old.conn.now tx.new.conn.now (λ kept. share_of limits.now key share kept.portfolio) result }
     ensures refused { IfErr result (IsOneOf (BadShare ∷ LimitReached ∷ [])) }
 {
-    if 1_000_000 < share {
-        return Err(Refusal::BadShare);
-    }
+    Refusal::BadShare.unless(share <= 1_000_000)?;
     set_weight(tx, limits, &key, share)?;
     Ok(ShareObject {
         program: key.program,
         resource: key.resource,
         share,
     })
+}
+
+// The number of the resource of an id, where it is there.
+fn resource_at<S: Alter>(
+    alloc: Global,
+    tx: &mut Transaction<'_, S>,
+    id: &ObjectId,
+) -> Result<Option<Number>, Refusal>
+    ensures lent { LeavesLent S.Store tx.old.conn tx.new.conn result }
+    ensures finds { Finds S.Store tx.old.conn.now tx.new.conn.now (λ kept found. found ≡ resource_at id.now kept.portfolio) result }
+    ensures refused { IfErr result IsOfStore }
+{
+    let Some(number) = number_in(b'r', id) else {
+        return Ok(None);
+    };
+    let resource = read_resource(alloc, tx, number)?;
+    Ok(resource.map(|_| number))
 }
 
 /// Sets the share of a resource in a program, known or not; 0 removes it. Refused with `NotFound` where the
@@ -106,11 +121,7 @@ pub fn share_set<S: Alter>(
     ensures refused { IfErr result (IsOneOf (NotFound ∷ BadShare ∷ LimitReached ∷ [])) }
 {
     let program = program.clone()?;
-    let Some(resource) = number_in(b'r', resource) else {
-        return Err(Refusal::NotFound);
-    };
-    let Some(_) = read_resource(alloc, tx, resource)? else {
-        return Err(Refusal::NotFound);
-    };
+    let found = resource_at(alloc, tx, resource)?;
+    let resource = there(found)?;
     set_of(tx, limits, ShareKey { program, resource }, share)
 }

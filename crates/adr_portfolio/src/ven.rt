@@ -1,18 +1,20 @@
 //! Vens are enrolled, renamed and removed.
-ghost use Rattle.std.specs.Prelude.{◌≡◌, [], ◌∷◌, IfErr};
+ghost use Rattle.std.specs.Prelude.{◌≡◌, [], ◌∷◌, option_map, IfOk, IfErr};
 ghost use Rattle.adr_text.specs.declared.refusal.Refusal.TheVariants.{NotFound, Conflict, LimitReached};
-ghost use Rattle.adr_state.specs.Vens.{ven_object, ven_add, ven_put, ven_remove};
+ghost use Rattle.adr_state.specs.Stamping.{modified_at};
+ghost use Rattle.adr_state.specs.Vens.{ven_with_id, ven_at, ven_object, ven_add, ven_put, ven_remove};
 ghost use Rattle.adr_sql.specs.Calls.{LeavesLent};
 ghost use Rattle.adr_db.specs.BaseCalls.{Carries, Refuses};
-ghost use Rattle.adr_db.specs.Calls.{IsOneOf};
+ghost use Rattle.adr_db.specs.Calls.{Finds, IsOfStore, IsOneOf};
 
+use crate::found::there;
 use crate::names::is_another_there;
 use adr_db_portfolio::{count_vens, put_ven, read_ven, read_vens_named, remove_ven};
 use adr_objects::{Number, VenObject};
 use adr_state::{Limits, Ven, check_free, check_new, fresh, modified_at, number_in};
 use adr_text::{Moment, Name, ObjectId, Refusal};
 use sqlite::{Alter, Transaction};
-use std::alloc::Global;
+use std::alloc::{AllocError, Global};
 
 fn shown(number: Number, ven: Ven) -> VenObject
     ensures { result ≡ ven_object (number, ven) }
@@ -50,6 +52,59 @@ pub fn ven_add<S: Alter>(
     Ok(shown(number, ven))
 }
 
+// With its number, where it is there.
+fn numbered(number: Number, found: Option<Ven>) -> Option<(Number, Ven)>
+    ensures { result ≡ option_map (λ ven. (number, ven)) found }
+{
+    match found {
+        Some(ven) => Some((number, ven)),
+        None => None,
+    }
+}
+
+// The ven of an id with its number, where it is there.
+fn ven_with_id<S: Alter>(
+    alloc: Global,
+    tx: &mut Transaction<'_, S>,
+    id: &ObjectId,
+) -> Result<Option<(Number, Ven)>, Refusal>
+    ensures lent { LeavesLent S.Store tx.old.conn tx.new.conn result }
+    ensures finds { Finds S.Store tx.old.conn.now tx.new.conn.now (λ kept found. found ≡ ven_with_id id.now kept.portfolio) result }
+    ensures refused { IfErr result IsOfStore }
+{
+    let Some(number) = number_in(b'v', id) else {
+        return Ok(None);
+    };
+    let found = read_ven(alloc, tx, number)?;
+    Ok(numbered(number, found))
+}
+
+/// The number of the ven of an id, where it is there.
+pub fn ven_at<S: Alter>(
+    alloc: Global,
+    tx: &mut Transaction<'_, S>,
+    id: &ObjectId,
+) -> Result<Option<Number>, Refusal>
+    ensures lent { LeavesLent S.Store tx.old.conn tx.new.conn result }
+    ensures finds { Finds S.Store tx.old.conn.now tx.new.conn.now (λ kept ven. ven ≡ ven_at id.now kept.portfolio) result }
+    ensures refused { IfErr result IsOfStore }
+{
+    let Some(number) = number_in(b'v', id) else {
+        return Ok(None);
+    };
+    let ven = read_ven(alloc, tx, number)?;
+    Ok(ven.map(|_| number))
+}
+
+fn renamed(alloc: Global, now: Moment, name: &Name, ven: &Ven) -> Result<Ven, AllocError>
+    ensures { IfOk result (λ again. again ≡ record { name = name.now; stamps = modified_at now ven.now.stamps }) }
+{
+    Ok(Ven {
+        name: name.copy(alloc)?,
+        stamps: modified_at(now, ven.stamps),
+    })
+}
+
 /// Gives a ven its name anew: it keeps when it was created, and was modified now. Refused with `NotFound`
 /// where it isn't there, and with `Conflict` where another ven has the name.
 pub fn ven_put<S: Alter>(
@@ -64,18 +119,12 @@ pub fn ven_put<S: Alter>(
     ensures refuses { Refuses S.Store tx.old.conn.now tx.new.conn.now (λ kept. ven_put now id.now name.now kept.portfolio) result }
     ensures refused { IfErr result (IsOneOf (NotFound ∷ Conflict ∷ [])) }
 {
-    let Some(number) = number_in(b'v', id) else {
-        return Err(Refusal::NotFound);
-    };
-    let Some(old) = read_ven(alloc, tx, number)? else {
-        return Err(Refusal::NotFound);
-    };
+    let found = ven_with_id(alloc, tx, id)?;
+    let old = there(found)?;
+    let number = old.0;
     let named = read_vens_named(alloc, tx, name)?;
     check_free(is_another_there(number, named.as_slice()))?;
-    let ven = Ven {
-        name: name.copy(alloc)?,
-        stamps: modified_at(now, old.stamps),
-    };
+    let ven = renamed(alloc, now, name, &old.1)?;
     put_ven(tx, number, &ven)?;
     Ok(shown(number, ven))
 }
@@ -92,12 +141,8 @@ pub fn ven_remove<S: Alter>(
     ensures refuses { Refuses S.Store tx.old.conn.now tx.new.conn.now (λ kept. ven_remove id.now kept.portfolio) result }
     ensures refused { IfErr result (IsOneOf (NotFound ∷ [])) }
 {
-    let Some(number) = number_in(b'v', id) else {
-        return Err(Refusal::NotFound);
-    };
-    let Some(ven) = read_ven(alloc, tx, number)? else {
-        return Err(Refusal::NotFound);
-    };
-    remove_ven(tx, number)?;
-    Ok(shown(number, ven))
+    let found = ven_with_id(alloc, tx, id)?;
+    let ven = there(found)?;
+    remove_ven(tx, ven.0)?;
+    Ok(shown(ven.0, ven.1))
 }

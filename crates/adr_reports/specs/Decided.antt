@@ -1,12 +1,12 @@
 -- What a call makes of the reports that the tables keep, where what is decided looks at the mirror too.
-use Rattle.std.specs.Prelude.{◌≡◌, ℕ, Bool, List, Option, ◌&&◌, option_and_then, Result, Ok, Err, IfOk, if◌then◌else◌}
+use Rattle.std.specs.Prelude.{◌≡◌, ℕ, List, Option, ◌&&◌, option_and_then, Result, Ok, Err, IfOk, if◌then◌else◌}
 use Rattle.std.specs.Ordering.{nat_cmp}
 use Rattle.sqlite.specs.Store.{Ghosts}
 use Rattle.sqlite.specs.Held.{Held, state}
 use Rattle.sqlite.specs.State.{HasCleanDisk}
 use Rattle.adr_text.specs.Refusals.{◌>>=◌, or_else}
 use Rattle.adr_text.specs.declared.refusal.Refusal.{Refusal}
-use Rattle.adr_text.specs.declared.refusal.Refusal.TheVariants.{NotFound, Forbidden, ResourceNotOfEvent, LimitReached}
+use Rattle.adr_text.specs.declared.refusal.Refusal.TheVariants.{NotFound, Forbidden, ResourceNotOfEvent}
 use Rattle.adr_objects.specs.declared.site.ReportIn.{ReportIn}
 use Rattle.adr_state.specs.declared.base.Mark.{Mark}
 use Rattle.adr_state.specs.declared.keys.MirrorKey.{MirrorKey}
@@ -24,14 +24,6 @@ use Rattle.adr_db.specs.BaseCalls.{IsCarriedOut}
 -- the shown event that was found is the one that a report is on, where the report fits it: 6 where none was found, and 11 where it does not fit
 abbrev pub fitting : Option Reported → ReportIn → Result Reported Refusal
 fitting found report = or_else NotFound found >>= λ on. if fits on report then Ok on else Err ResourceNotOfEvent
-
--- there is room for one more; 10 where there are as many as may be
-abbrev pub room : Bool → Result Unit Refusal
-room full = if full then Err LimitReached else Ok tt
-
--- what is asked for is in sight, else 8
-abbrev pub allowed : Bool → Result Unit Refusal
-allowed may = if may then Ok tt else Err Forbidden
 
 -- the resource that a report that was found is on, where both are there
 abbrev pub resource_of : Option (ℕ × Report) → Portfolio → Option Resource

@@ -9,7 +9,7 @@ ghost use Rattle.adr_sql.specs.Calls.{LeavesLent};
 ghost use Rattle.adr_db.specs.Kept.{with_portfolio};
 ghost use Rattle.adr_db.specs.Calls.{Turns, Finds, IsOfStore, IsOneOf};
 ghost use Rattle.adr_db.specs.BaseCalls.{Carries, Refuses};
-ghost use Rattle.adr_reports.specs.Decided.{fitting, room, allowed, FindsOr, Decides, put_again, replaced, removed};
+ghost use Rattle.adr_reports.specs.Decided.{fitting, FindsOr, Decides, put_again, replaced, removed};
 
 use crate::on::reported;
 use crate::sight::{may_change, may_put, may_report};
@@ -33,28 +33,6 @@ fn fitting(found: Option<Reported>, report: &ReportIn) -> Result<Reported, Refus
         return Err(Refusal::ResourceNotOfEvent);
     }
     Ok(on)
-}
-
-// Refuses one more than there may be.
-fn check_room(full: bool) -> Result<(), Refusal>
-    ensures gives { result ≡ room full }
-    ensures refused { IfErr result (IsOneOf (LimitReached ∷ [])) }
-{
-    if full {
-        return Err(Refusal::LimitReached);
-    }
-    Ok(())
-}
-
-// Refuses what is out of sight.
-fn check_allowed(may: bool) -> Result<(), Refusal>
-    ensures gives { result ≡ allowed may }
-    ensures refused { IfErr result (IsOneOf (Forbidden ∷ [])) }
-{
-    if !may {
-        return Err(Refusal::Forbidden);
-    }
-    Ok(())
 }
 
 // The report that was found.
@@ -122,7 +100,7 @@ fn make<S: Alter>(
 {
     let on = report_on(alloc, tx, report)?;
     let full = is_full(tx, limits)?;
-    check_room(full)?;
+    Refusal::LimitReached.unless(!full)?;
     put_kept(tx, number, number, &on, report)
 }
 
@@ -144,7 +122,7 @@ pub fn post<S: Alter>(
     ensures refused { IfErr result (IsOneOf (Forbidden ∷ NotFound ∷ ResourceNotOfEvent ∷ LimitReached ∷ [])) }
 {
     let may = may_report(alloc, tx, sight, report)?;
-    check_allowed(may)?;
+    Refusal::Forbidden.unless(may)?;
     make(alloc, tx, limits, number, report)
 }
 
@@ -207,7 +185,7 @@ fn put_found<S: Alter>(
     ensures refused { IfErr result (IsOneOf (Forbidden ∷ NotFound ∷ ResourceNotOfEvent ∷ [])) }
 {
     let may = may_put(alloc, tx, sight, found.as_ref(), report)?;
-    check_allowed(may)?;
+    Refusal::Forbidden.unless(may)?;
     let old = there(found)?;
     put_at(alloc, tx, revision, old.0, report)
 }
@@ -263,6 +241,6 @@ pub fn delete<S: Alter>(
 {
     let found = report_with_id(alloc, tx, id)?;
     let may = may_change(alloc, tx, sight, found.as_ref())?;
-    check_allowed(may)?;
+    Refusal::Forbidden.unless(may)?;
     remove(tx, found)
 }

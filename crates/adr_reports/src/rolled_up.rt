@@ -1,5 +1,6 @@
 //! The roll-up of an upstream event, from the tables.
-ghost use Rattle.std.specs.Prelude.{◌≡◌, map, IfOk, IfErr};
+ghost use Rattle.std.specs.Prelude.{◌≡◌, ◌≤◌, length, map, IfOk, IfErr};
+ghost use Rattle.adr_state.specs.Weights.{most_resources};
 ghost use Rattle.adr_view.specs.Rollups.{reporters, rollup_for, rollup_of, rollup_at};
 ghost use Rattle.adr_sql.specs.Calls.{LeavesLent};
 ghost use Rattle.adr_db.specs.Calls.{Finds, IsOfStore};
@@ -24,22 +25,18 @@ fn without_numbers(alloc: Global, rows: Rows<(Number, Report)>) -> Result<Vec<Re
     Ok(reports)
 }
 
-// The roll-up of those who take part, by these reports. More of them than a node has resources is the
-// store's refusal.
+// The roll-up of those who take part, by these reports.
 fn rolled_up(
     alloc: Global,
     event: &EventBody,
     ps: &[Participant],
     reports: &[Report],
-) -> Result<Option<Rollup>, Refusal>
-    ensures rollup { IfOk result (λ rollup. rollup ≡ rollup_for event.now (reporters reports.now ps.now)) }
-    ensures refused { IfErr result IsOfStore }
+) -> Result<Option<Rollup>, AllocError>
+    requires { length ps.now ≤ most_resources }
+    ensures { IfOk result (λ rollup. rollup ≡ rollup_for event.now (reporters reports.now ps.now)) }
 {
-    if ps.len() > 10_000 {
-        return Err(Refusal::Store);
-    }
     let rs = reporters(alloc, reports, ps)?;
-    Ok(rollup_for(alloc, event, &rs)?)
+    rollup_for(alloc, event, &rs)
 }
 
 // The roll-up of an event whose body was read.
@@ -56,7 +53,7 @@ fn event_rollup<S: Alter>(
     let ps = named_participants(alloc, tx, event)?;
     let rows = read_reports_of(alloc, tx, id)?;
     let reports = without_numbers(alloc, rows)?;
-    rolled_up(alloc, event, ps.as_slice(), reports.as_slice())
+    Ok(rolled_up(alloc, event, ps.as_slice(), reports.as_slice())?)
 }
 
 /// The roll-up of an upstream event over its participants: for each interval that carries a setpoint the

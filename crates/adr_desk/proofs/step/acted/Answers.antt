@@ -1,12 +1,16 @@
-use Rattle.std.proofs.Common.{◌≡◌, Bool, true, false, cond, Err, refl, sym, subst, ◌∙◌}
+use Rattle.std.proofs.Common.{◌≡◌, Bool, true, false, cond, Err, sym, ap, subst, ◌∙◌}
 use Rattle.adr_db.proofs.Common.{state, Forbidden}
+use Rattle.adr_db.proofs.Results.{handed_on, refused_so}
 use Rattle.adr_state.specs.declared.state.State.{State}
 use Rattle.adr_machine.specs.Commands.{traits_of}
 use Rattle.adr_machine.specs.Edits.{is_allowed, is_delivery, edit_of, edit}
 use Rattle.adr_machine.specs.Steps.{delivery_step}
+use Rattle.adr_machine.specs.Listed.{listed}
 use Rattle.adr_machine.proofs.Listed.{forbidden_listed}
 use Rattle.adr_desk.specs.Steps.{step_of, CommitsTables, RefusesToCommit}
 use Rattle.adr_desk.proofs.DeliveryLemmas.{delivery_commits, delivery_refused}
+use Rattle.adr_reports.proofs.Testing.{passed, stopped}
+use Rattle.adr_desk.proofs.ListedLemmas.{Listed, contained_listed}
 use Rattle.adr_desk.proofs.step.acted.Goals as goal
 
 -- what is about an entry
@@ -19,22 +23,27 @@ returns-then-is_delivery-clause-refuses g c =
     delivery_refused g.S.Store c.args.tx.now.conn.now c.delivered.new.tx.conn.now c.args.settings.now c.args.now c.args.command.now (sym c.is_delivery.ensures ∙ c.if-is_delivery.true) c.args.meta.now c.delivered.result c.delivered.ensures.refuses
 
 -- another may not give it
-pub returns-then-not-is_allowed-clause-refuses : goal.returns-then-not-is_allowed-clause-refuses
+pub returns-in_err-unless-clause-refuses : goal.returns-in_err-unless-clause-refuses
 unfolding edit
-returns-then-not-is_allowed-clause-refuses g c clean held was same =
+returns-in_err-unless-clause-refuses g c clean =
+    let e = c.in_err-unless.field-0.0 in
     let other : is_delivery c.args.command.now ≡ false = sym c.is_delivery.ensures ∙ c.if-is_delivery.false in
-    let no : is_allowed c.args.command.now ≡ false = sym c.is_allowed.ensures ∙ c.if-not-is_allowed.true in
-    rw (other, no) refl
+    let no = stopped Forbidden _ e (sym c.unless.ensures.gives ∙ c.in_err-unless.was) in
+    handed_on _ c.from_residual.result e c.from_residual.ensures.1 (λ held was same. refused_so e _ (rw (other, sym c.is_allowed.ensures ∙ no.0) (ap Err (sym no.1))))
 
-pub returns-then-not-is_allowed-clause-listed : goal.returns-then-not-is_allowed-clause-listed
-returns-then-not-is_allowed-clause-listed g c = forbidden_listed (traits_of c.args.command.now) (sym c.is_allowed.ensures ∙ c.if-not-is_allowed.true)
+pub returns-in_err-unless-clause-listed : goal.returns-in_err-unless-clause-listed
+returns-in_err-unless-clause-listed g c =
+    let e = c.in_err-unless.field-0.0 in
+    let these = listed c.args.command.now in
+    let no = stopped Forbidden _ e (sym c.unless.ensures.gives ∙ c.in_err-unless.was) in
+    handed_on (Listed these) c.from_residual.result e c.from_residual.ensures.1 (subst (Listed these) (sym no.1) (contained_listed these Forbidden (forbidden_listed (traits_of c.args.command.now) (sym c.is_allowed.ensures ∙ no.0))))
 
 -- what one edits who may
 pub returns-clause-makes : goal.returns-clause-makes
 unfolding edit
 returns-clause-makes g c =
     let other : is_delivery c.args.command.now ≡ false = sym c.is_delivery.ensures ∙ c.if-is_delivery.false in
-    let yes : is_allowed c.args.command.now ≡ true = sym c.is_allowed.ensures ∙ c.if-not-is_allowed.false in
+    let yes : is_allowed c.args.command.now ≡ true = sym c.is_allowed.ensures ∙ passed Forbidden _ _ (sym c.unless.ensures.gives ∙ c.in_ok-unless.was) in
     let settings = c.args.settings.now in
     let command = c.args.command.now in
     let edits = λ (b : Bool) (held : State). step_of settings (λ base. cond b (edit_of settings.limits c.args.now base command) (Err Forbidden)) c.args.now held in
@@ -45,7 +54,7 @@ pub returns-clause-refuses : goal.returns-clause-refuses
 unfolding edit
 returns-clause-refuses g c =
     let other : is_delivery c.args.command.now ≡ false = sym c.is_delivery.ensures ∙ c.if-is_delivery.false in
-    let yes : is_allowed c.args.command.now ≡ true = sym c.is_allowed.ensures ∙ c.if-not-is_allowed.false in
+    let yes : is_allowed c.args.command.now ≡ true = sym c.is_allowed.ensures ∙ passed Forbidden _ _ (sym c.unless.ensures.gives ∙ c.in_ok-unless.was) in
     let settings = c.args.settings.now in
     let command = c.args.command.now in
     let edits = λ (b : Bool) (held : State). step_of settings (λ base. cond b (edit_of settings.limits c.args.now base command) (Err Forbidden)) c.args.now held in

@@ -1,6 +1,5 @@
 use Rattle.std.proofs.Common.{refl, arith}
-use Rattle.adr_db.proofs.Common.{state, HasCleanDisk, Ven, ven_name, fresh, PortfolioChange, PutVen, putting_ven}
-use Rattle.adr_objects.specs.declared.shown.VenObject.{VenObject}
+use Rattle.adr_db.proofs.Common.{state, HasCleanDisk, Ven, ven_name, fresh, PutVen, putting_ven}
 use Rattle.adr_db.proofs.Results.{handed_on, refused_so}
 use Rattle.adr_portfolio.proofs.Decisions.{new_tested}
 use Rattle.adr_portfolio.proofs.ven.ven_add.Goals as goal

@@ -1,16 +1,24 @@
-use Rattle.std.proofs.Common.{refl, sym, ◌∙◌, arith}
-use Rattle.adr_db.proofs.Common.{state, HasCleanDisk, number_in, PortfolioChange, DropVen}
-use Rattle.adr_portfolio.proofs.Decisions.{there}
+use Rattle.std.proofs.Common.{refl, sym, ap, ◌∙◌, arith}
+use Rattle.adr_db.proofs.Common.{state, HasCleanDisk, DropVen}
+use Rattle.adr_text.specs.Refusals.{or_else}
+use Rattle.adr_text.specs.declared.refusal.Refusal.TheVariants.{NotFound}
+use Rattle.adr_db.proofs.Results.{handed_on, refused_so}
 use Rattle.adr_portfolio.proofs.ven.ven_remove.Goals as goal
+
+pub returns-in_err-ven-clause-refuses : goal.returns-in_err-ven-clause-refuses
+returns-in_err-ven-clause-refuses g c clean =
+    let e = c.in_err-ven.field-0.0 in
+    handed_on _ c.from_residual-in_err-ven.result e c.from_residual-in_err-ven.ensures.1 (λ kept was.
+    let found = c.in_ok-found.ensures.finds clean kept was in
+    refused_so e _ (rw (ap (or_else NotFound) (sym found.0) ∙ sym c.there.ensures.gives ∙ c.in_err-ven.was) refl))
 
 pub returns-clause-carries : goal.returns-clause-carries
 returns-clause-carries g c clean kept was =
-    let early : HasCleanDisk (state g.S.Store c.read_ven.new.tx.conn.now) = omega (arith, c.remove_ven.ensures.lent.stays.crash.clean) in
-    let n = c.in-Some.number in
-    let found = c.in_ok-ven.ensures.finds early kept was in
-    let there_is = there kept.portfolio.vens (number_in 118 c.args.id.now) n c.in_ok-ven.field-0 c.in-Some-2.ven (sym c.number_in.ensures ∙ c.in-Some.is) found.0 c.in-Some-2.is in
+    let early : HasCleanDisk (state g.S.Store c.ven_with_id.new.tx.conn.now) = omega (arith, c.remove_ven.ensures.lent.stays.crash.clean) in
+    let found = c.in_ok-found.ensures.finds early kept was in
+    let there_is = ap (or_else NotFound) (sym found.0) ∙ sym c.there.ensures.gives ∙ c.in_ok-ven.was in
     record {
-      change = DropVen n;
+      change = DropVen c.in_ok-ven.ven.0;
       decided = rw (there_is, c.shown.ensures) refl;
       keeps = c.in_ok-remove_ven.ensures.leaves clean kept found.1;
     }

@@ -1,19 +1,18 @@
-use Rattle.std.proofs.Common.{◌≡◌, Option, ℕ, Err, refl, sym, ap, subst, ◌∙◌, arith}
-use Rattle.adr_db.proofs.Common.{state, HasCleanDisk, IsRefusalOf}
-use Rattle.adr_db.specs.Kept.{Kept}
+use Rattle.std.proofs.Common.{Option, ℕ, Err, sym, ap, subst, ◌∙◌, arith}
+use Rattle.adr_db.proofs.Common.{state, HasCleanDisk, IsRefusalOf, Forbidden}
 use Rattle.adr_db.proofs.Results.{handed_on, ok_then, refused_so}
 use Rattle.adr_state.specs.declared.portfolio.Report.{Report}
 use Rattle.adr_view.specs.Reports.{sees_resource}
 use Rattle.adr_reports.specs.Decided.{resource_of, removed}
-use Rattle.adr_reports.proofs.Testing.{is_allowed, is_not, behind, err_then}
+use Rattle.adr_reports.proofs.Testing.{passed, stopped, behind, err_then}
 use Rattle.adr_reports.proofs.posting.delete.Goals as goal
 
-pub returns-in_err-check_allowed-clause-refuses : goal.returns-in_err-check_allowed-clause-refuses
-returns-in_err-check_allowed-clause-refuses g c clean =
+pub returns-in_err-unless-clause-refuses : goal.returns-in_err-unless-clause-refuses
+returns-in_err-unless-clause-refuses g c clean =
     let early : HasCleanDisk (state g.S.Store c.report_with_id.new.tx.conn.now) = omega (arith, clean, c.may_change.ensures.lent.stays.crash.clean) in
-    let e = c.in_err-check_allowed.field-0.0 in
-    let no = is_not _ e (sym c.check_allowed.ensures.gives ∙ c.in_err-check_allowed.was) in
-    handed_on _ c.from_residual-in_err-check_allowed.result e c.from_residual-in_err-check_allowed.ensures.1 (λ kept was.
+    let e = c.in_err-unless.field-0.0 in
+    let no = stopped Forbidden _ e (sym c.unless.ensures.gives ∙ c.in_err-unless.was) in
+    handed_on _ c.from_residual-in_err-unless.result e c.from_residual-in_err-unless.ensures.1 (λ kept was.
     let found = c.in_ok-found.ensures.finds early kept was in
     let may = c.in_ok-may.ensures.finds clean kept found.1 in
     let tested = ap (λ (found : Option (ℕ × Report)). sees_resource c.args.sight (resource_of found kept.portfolio)) (sym found.0 ∙ sym c.as_ref.ensures.value) ∙ sym may.0 in
@@ -23,7 +22,7 @@ pub returns-clause-carries : goal.returns-clause-carries
 returns-clause-carries g c clean =
     let changed : HasCleanDisk (state g.S.Store c.may_change.new.tx.conn.now) = omega (arith, c.remove.ensures.lent.stays.crash.clean) in
     let early : HasCleanDisk (state g.S.Store c.report_with_id.new.tx.conn.now) = omega (arith, changed, c.may_change.ensures.lent.stays.crash.clean) in
-    let yes = is_allowed _ _ (sym c.check_allowed.ensures.gives ∙ c.in_ok-check_allowed.was) in
+    let yes = passed Forbidden _ _ (sym c.unless.ensures.gives ∙ c.in_ok-unless.was) in
     ok_then c.remove.result (λ x removes kept was.
     let found = c.in_ok-found.ensures.finds early kept was in
     let may = c.in_ok-may.ensures.finds changed kept found.1 in
@@ -35,7 +34,7 @@ pub returns-clause-refuses : goal.returns-clause-refuses
 returns-clause-refuses g c clean =
     let changed : HasCleanDisk (state g.S.Store c.may_change.new.tx.conn.now) = omega (arith, clean, c.remove.ensures.lent.stays.crash.clean) in
     let early : HasCleanDisk (state g.S.Store c.report_with_id.new.tx.conn.now) = omega (arith, changed, c.may_change.ensures.lent.stays.crash.clean) in
-    let yes = is_allowed _ _ (sym c.check_allowed.ensures.gives ∙ c.in_ok-check_allowed.was) in
+    let yes = passed Forbidden _ _ (sym c.unless.ensures.gives ∙ c.in_ok-unless.was) in
     err_then c.remove.result (λ e refuses kept was.
     let found = c.in_ok-found.ensures.finds early kept was in
     let may = c.in_ok-may.ensures.finds changed kept found.1 in

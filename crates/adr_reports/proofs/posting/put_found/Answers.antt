@@ -1,19 +1,18 @@
-use Rattle.std.proofs.Common.{◌≡◌, ◌&&◌, Option, ℕ, Result, Err, refl, sym, ap, subst, ◌∙◌, arith}
+use Rattle.std.proofs.Common.{◌&&◌, Option, ℕ, Result, Err, refl, sym, ap, subst, ◌∙◌, arith}
 use Rattle.adr_text.specs.Refusals.{◌>>=◌}
-use Rattle.adr_db.proofs.Common.{state, HasCleanDisk, Refusal, IsRefusalOf}
-use Rattle.adr_db.specs.Kept.{Kept}
+use Rattle.adr_db.proofs.Common.{state, HasCleanDisk, Refusal, IsRefusalOf, Forbidden}
 use Rattle.adr_db.proofs.Results.{handed_on, ok_then, refused_so}
 use Rattle.adr_state.specs.declared.portfolio.Report.{Report}
 use Rattle.adr_view.specs.Reports.{sees_resource, may_report}
 use Rattle.adr_reports.specs.Decided.{resource_of, put_again}
-use Rattle.adr_reports.proofs.Testing.{is_allowed, is_not, behind, err_then}
+use Rattle.adr_reports.proofs.Testing.{passed, stopped, behind, err_then}
 use Rattle.adr_reports.proofs.posting.put_found.Goals as goal
 
-pub returns-in_err-check_allowed-clause-refuses : goal.returns-in_err-check_allowed-clause-refuses
-returns-in_err-check_allowed-clause-refuses g c clean =
-    let e = c.in_err-check_allowed.field-0.0 in
-    let no = is_not _ e (sym c.check_allowed.ensures.gives ∙ c.in_err-check_allowed.was) in
-    handed_on _ c.from_residual-in_err-check_allowed.result e c.from_residual-in_err-check_allowed.ensures.1 (λ kept was.
+pub returns-in_err-unless-clause-refuses : goal.returns-in_err-unless-clause-refuses
+returns-in_err-unless-clause-refuses g c clean =
+    let e = c.in_err-unless.field-0.0 in
+    let no = stopped Forbidden _ e (sym c.unless.ensures.gives ∙ c.in_err-unless.was) in
+    handed_on _ c.from_residual-in_err-unless.result e c.from_residual-in_err-unless.ensures.1 (λ kept was.
     let may = c.in_ok-may.ensures.finds clean kept was in
     let tested = ap (λ (found : Option (ℕ × Report)). sees_resource c.args.sight (resource_of found kept.portfolio) && may_report c.args.sight c.args.report.now kept.portfolio) (sym c.as_ref.ensures.value) ∙ sym may.0 in
     refused_so e _ (rw (tested ∙ no.0) (ap Err (sym no.1))))
@@ -21,7 +20,7 @@ returns-in_err-check_allowed-clause-refuses g c clean =
 pub returns-in_err-old-clause-refuses : goal.returns-in_err-old-clause-refuses
 returns-in_err-old-clause-refuses g c clean =
     let e = c.in_err-old.field-0.0 in
-    let yes = is_allowed _ _ (sym c.check_allowed.ensures.gives ∙ c.in_ok-check_allowed.was) in
+    let yes = passed Forbidden _ _ (sym c.unless.ensures.gives ∙ c.in_ok-unless.was) in
     handed_on _ c.from_residual-in_err-old.result e c.from_residual-in_err-old.ensures.1 (λ kept was.
     let may = c.in_ok-may.ensures.finds clean kept was in
     let tested = ap (λ (found : Option (ℕ × Report)). sees_resource c.args.sight (resource_of found kept.portfolio) && may_report c.args.sight c.args.report.now kept.portfolio) (sym c.as_ref.ensures.value) ∙ sym may.0 in
@@ -30,7 +29,7 @@ returns-in_err-old-clause-refuses g c clean =
 pub returns-clause-decides : goal.returns-clause-decides
 returns-clause-decides g c clean =
     let early : HasCleanDisk (state g.S.Store c.may_put.new.tx.conn.now) = omega (arith, c.put_at.ensures.lent.stays.crash.clean) in
-    let yes = is_allowed _ _ (sym c.check_allowed.ensures.gives ∙ c.in_ok-check_allowed.was) in
+    let yes = passed Forbidden _ _ (sym c.unless.ensures.gives ∙ c.in_ok-unless.was) in
     ok_then c.put_at.result (λ x puts kept was.
     let may = c.in_ok-may.ensures.finds early kept was in
     let tested = ap (λ (found : Option (ℕ × Report)). sees_resource c.args.sight (resource_of found kept.portfolio) && may_report c.args.sight c.args.report.now kept.portfolio) (sym c.as_ref.ensures.value) ∙ sym may.0 in
@@ -40,7 +39,7 @@ returns-clause-decides g c clean =
 pub returns-clause-refuses : goal.returns-clause-refuses
 returns-clause-refuses g c clean =
     let early : HasCleanDisk (state g.S.Store c.may_put.new.tx.conn.now) = omega (arith, clean, c.put_at.ensures.lent.stays.crash.clean) in
-    let yes = is_allowed _ _ (sym c.check_allowed.ensures.gives ∙ c.in_ok-check_allowed.was) in
+    let yes = passed Forbidden _ _ (sym c.unless.ensures.gives ∙ c.in_ok-unless.was) in
     err_then c.put_at.result (λ e refuses kept was.
     let may = c.in_ok-may.ensures.finds early kept was in
     let tested = ap (λ (found : Option (ℕ × Report)). sees_resource c.args.sight (resource_of found kept.portfolio) && may_report c.args.sight c.args.report.now kept.portfolio) (sym c.as_ref.ensures.value) ∙ sym may.0 in
