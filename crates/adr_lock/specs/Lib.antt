@@ -1,3 +1,4 @@
 pub mod Rooms
 pub mod Outcomes
 pub mod Steps
+pub mod Halting

@@ -3,6 +3,7 @@
 
 mod call;
 mod clock;
+mod halt;
 mod in_book;
 mod room;
 mod steps;
@@ -11,6 +12,7 @@ mod under_lock;
 
 pub use call::Call;
 pub use clock::Clock;
+pub use halt::halts;
 pub use in_book::take_in_book;
 pub use room::MOST_WEIGHT;
 pub use steps::Steps;

@@ -13,7 +13,7 @@ use adr_link::Upstream;
 use adr_lock::{Clock, Steps};
 use adr_machine::Desk;
 use adr_text::Refusal;
-use adr_work::{JobQueue, Peers, ROOM, poll_loop, start, stop};
+use adr_work::{JobQueue, Peers, Polled, ROOM, poll_loop, start, stop};
 use log::Log;
 use std::alloc::{AllocError, AllocFailed, Global};
 use std::marker::Brand;
@@ -156,7 +156,7 @@ where
     let work = move || -> Pass<L> {
         let mut gate = gate;
         let mut steps = Steps::new();
-        poll_loop(
+        let Polled { pass, halted: _ } = poll_loop(
             &rt,
             alloc,
             &*office,
@@ -165,9 +165,11 @@ where
             &*clock,
             seconds,
             &*stopped,
+            None,
             pass,
             &mut steps,
-        )
+        );
+        pass
     };
     Ok(thread::spawn(&rt, work)?)
 }
@@ -266,6 +268,7 @@ where
         &served.clock,
         sending,
         gates,
+        None,
     )?;
     tell_start(&rt, alloc, config, &listener);
     let seconds = config.poll.get();

@@ -128,6 +128,15 @@ sends_more peers old mid new before between after first some last job s taken d 
   delivers = more peers s.jobs (job ∷ []) before between after first some last s.delivers d;
 }
 
+-- these were taken, and sent and settled, and then those
+pub sends_both : (peers : Peers) (old mid new : Seat) (before between after : List Exchange) (first some last : List Step)
+    → SendsTaken peers old mid before between first some → SendsTaken peers mid new between after some last → SendsTaken peers old new before after first last
+sends_both peers old mid new before between after first some last s t = record {
+  jobs = s.jobs ++ t.jobs;
+  taken = behind (view old).taken s.jobs t.jobs s.taken t.taken refl;
+  delivers = more peers s.jobs t.jobs before between after first some last s.delivers t.delivers;
+}
+
 -- none was taken
 pub sends_same : (peers : Peers) (old mid new : Seat) (before after : List Exchange) (first last : List Step)
     → SendsTaken peers old mid before after first last → view new ≡ view mid → SendsTaken peers old new before after first last

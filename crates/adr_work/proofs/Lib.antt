@@ -8,4 +8,5 @@ pub mod Rounding
 pub mod Accepting
 pub mod Delivering
 pub mod Leasing
+pub mod Halting
 pub mod Taking

@@ -11,14 +11,20 @@ use adr_delivery::Job;
 use std::alloc::Global;
 use std::snapshot::Snapshot;
 use std::sync::Arc;
+use std::sync::atomic::AtomicBool;
 use std::sync::ledger::Ledger;
 use std::thread::{Promise, PromisedHandle};
+
+/// The flag that a thread sets where the store refuses it, and ends: over a file. With none it goes on.
+pub type Halt = Option<Arc<AtomicBool, Global>>;
 
 /// What a thread hands back as it ends.
 #[derive(Drop)]
 pub struct Ended<L: Ledger> {
     pub pass: Pass<L>,
     pub seat: Seat,
+    /// Whether it ended because the store refused.
+    pub halted: bool,
 }
 
 /// The seat as a thread was handed it. The thread hands it back with all its parts.
@@ -55,4 +61,7 @@ pub struct Stopped<L: Ledger> {
     pub passes: Vec<Pass<L>>,
     /// The jobs that were put and not taken.
     pub left: Vec<Job>,
+    /// Whether a thread ended because the store refused. No clause says so: what a thread hands back is promised of its
+    /// seat alone.
+    pub halted: bool,
 }

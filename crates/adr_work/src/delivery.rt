@@ -2,6 +2,7 @@
 ghost use Rattle.std.specs.Prelude.{◌≡◌, ◌↔◌, [], ◌∷◌, IfOk, IfErr, IsTrue};
 ghost use Rattle.adr_text.specs.Refusals.{Fails};
 ghost use Rattle.adr_link.specs.Targets.{job_bytes};
+ghost use Rattle.adr_lock.specs.Halting.{by_store, EndsByStore};
 ghost use Rattle.adr_work.specs.Rounds.{Asks};
 ghost use Rattle.adr_work.specs.Deliveries.{IsCalleeOf, IsRequestOf, MayCall, IsSent, Delivers, outcome_in};
 
@@ -16,7 +17,7 @@ use adr_delivery::Job;
 use adr_link::{Outcome, Upstream, is_for_utility, outcome_of};
 use adr_lock::{Call, Clock, Steps, take_under_lock};
 use adr_log::Stopwatch;
-use adr_machine::Desk;
+use adr_machine::{Answer, Desk};
 use adr_network::Networks;
 use adr_text::{Refusal, Rows};
 use log::Log;
@@ -86,9 +87,8 @@ fn outcome_in(sent: Result<Outcome, SendFault>) -> Outcome
     }
 }
 
-/// Sends a job outside the lock, and then settles it by one step under it. A settlement that is refused is passed over:
-/// the lease expires then.
-#[tactic(auto, using(crate::proofs::Delivering::one))]
+/// Sends a job outside the lock, and then settles it by one step under it; and hands back what came of that. Where the
+/// settlement is refused, the lease expires.
 pub(crate) fn deliver<D: Desk + Drop, L: Ledger, G: Gate, C: Clock, R: Wait + time::Clock + Log>(
     rt: &R,
     alloc: Global,
@@ -99,13 +99,14 @@ pub(crate) fn deliver<D: Desk + Drop, L: Ledger, G: Gate, C: Clock, R: Wait + ti
     pass: &mut Pass<L>,
     steps: &mut Steps,
     job: &Job,
-)
-    ensures { Delivers peers.now (job.now ∷ []) (G.exchanges gate.old) (G.exchanges gate.new) steps.old.items steps.new.items }
+) -> Result<Answer, Refusal>
+    ensures delivers { Delivers peers.now (job.now ∷ []) (G.exchanges gate.old) (G.exchanges gate.new) steps.old.items steps.new.items }
+    ensures ends { EndsByStore (by_store result) steps.old.items steps.new.items }
 {
     let begun = Stopwatch::start(rt);
     let sent = send(alloc, gate, peers, job);
     tell_message(rt, job, gate.account(), &sent, begun);
     let outcome = outcome_in(sent);
     let command = settlement_of(job, outcome);
-    let _ = take_under_lock(rt, office, clock, pass, steps, Call::Step(&command));
+    take_under_lock(rt, office, clock, pass, steps, Call::Step(&command))
 }

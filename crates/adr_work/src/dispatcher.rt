@@ -1,9 +1,10 @@
 //! What the dispatcher does: it leases what is due, a job at a time, and puts it into the queue.
-ghost use Rattle.std.specs.Prelude.{◌≡◌, ◌<◌, IfErr};
+ghost use Rattle.std.specs.Prelude.{◌≡◌, ◌<◌, IfErr, is_some};
 ghost use Rattle.crossbeam_queue.specs.Passes.{view};
 ghost use Rattle.adr_machine.specs.declared.command.Command.TheVariants.{Lease};
 ghost use Rattle.adr_book.specs.Refused.{MayRefuse};
 ghost use Rattle.adr_book.specs.Words.{seen_by};
+ghost use Rattle.adr_lock.specs.Halting.{by_store, EndsByStore, HaltsByCall};
 ghost use Rattle.adr_work.specs.Leased.{LeasesOnce, OnlyLeases};
 ghost use Rattle.adr_work.specs.Seats.{IsSeatOf, OnlyPuts};
 ghost use Rattle.adr_work.specs.Waiting.{may_wait};
@@ -13,11 +14,12 @@ use crate::leased::job_in;
 use crate::queue::{JobQueue, Seat};
 use adr_book::{Office, Pass};
 use adr_delivery::Job;
-use adr_lock::{Call, Clock, Steps, take_under_lock};
+use adr_lock::{Call, Clock, Steps, halts, take_under_lock};
 use adr_machine::{Answer, Command, Desk, Query, Role};
 use adr_text::Refusal;
 use log::Log;
 use std::sync::Wait;
+use std::sync::atomic::AtomicBool;
 use std::sync::ledger::Ledger;
 use std::time;
 
@@ -31,6 +33,7 @@ pub(crate) fn lease<D: Desk + Drop, L: Ledger, C: Clock, R: Wait + Log>(
     steps: &mut Steps,
 ) -> Result<Option<Job>, Refusal>
     ensures once { LeasesOnce steps.old.items steps.new.items result }
+    ensures ends { EndsByStore (by_store result) steps.old.items steps.new.items }
     ensures refusal { IfErr result (MayRefuse D.may_refuse (seen_by pass.new) Lease) }
 {
     let answer = take_under_lock(rt, office, clock, pass, steps, Call::Step(&Command::Lease))?;
@@ -39,7 +42,7 @@ pub(crate) fn lease<D: Desk + Drop, L: Ledger, C: Clock, R: Wait + Log>(
 
 /// Leases jobs and puts each into the queue, outside the lock, while the queue is open and has room and a job is due. A
 /// refusal ends it and is handed back. A job that was leased and cannot be put is left: its lease expires.
-#[tactic(auto, using(crate::proofs::Leasing::leases_none, crate::proofs::Leasing::leases_more))]
+#[tactic(auto, using(crate::proofs::Leasing::leases_none, crate::proofs::Leasing::leases_more, crate::proofs::Halting::ends_none, crate::proofs::Halting::ends_both))]
 pub fn dispatch<D: Desk + Drop, L: Ledger, C: Clock, R: Wait + Log>(
     rt: &R,
     office: &Office<D, L>,
@@ -52,18 +55,19 @@ pub fn dispatch<D: Desk + Drop, L: Ledger, C: Clock, R: Wait + Log>(
     requires { IsSeatOf queue.now seat.old × (0 < (view seat.old).parts) }
     ensures puts { OnlyPuts seat.old seat.new }
     ensures leases { OnlyLeases steps.old.items steps.new.items }
+    ensures ends { EndsByStore (by_store result) steps.old.items steps.new.items }
     ensures refusal { IfErr result (MayRefuse D.may_refuse (seen_by pass.new) Lease) }
 {
     for _ in rt.forever() {
         if queue.is_closed(rt) || queue.is_full(seat) {
-            break;
+            return Ok(());
         }
         let Some(job) = lease(rt, office, clock, pass, steps)? else {
-            break;
+            return Ok(());
         };
         let _ = queue.put(rt, seat, job);
     }
-    Ok(())
+    unreachable!()
 }
 
 /// Whether an entry may wait, by what was answered to a look at the outbox. Where that is refused, one may.
@@ -76,30 +80,60 @@ fn may_wait(looked: &Result<Answer, Refusal>) -> bool
     }
 }
 
-/// Whether an entry waits in the outbox. It takes no turn, as a lease does that finds none.
-fn waits<D: Desk + Drop, L: Ledger, C: Clock, R: Wait + Log>(
+/// Looks at the outbox. It takes no turn, as a lease does that finds none.
+fn look<D: Desk + Drop, L: Ledger, C: Clock, R: Wait + Log>(
     rt: &R,
     office: &Office<D, L>,
     clock: &C,
     pass: &mut Pass<L>,
     steps: &mut Steps,
-) -> bool
+) -> Result<Answer, Refusal>
     ensures { steps.new.items ≡ steps.old.items }
 {
     let query = Query::Outbox {
         role: Role::Operator,
     };
-    may_wait(&take_under_lock(rt, office, clock, pass, steps, Call::Look(&query)))
+    take_under_lock(rt, office, clock, pass, steps, Call::Look(&query))
+}
+
+/// Dispatches where an entry may wait. Answers whether the dispatcher halts, by the look or by a lease that the store
+/// refused; any other refusal is passed over.
+#[tactic(auto, using(crate::proofs::Leasing::leases_none, crate::proofs::Halting::calls_none, crate::proofs::Halting::calls_looked, crate::proofs::Halting::calls_one))]
+fn dispatch_next<D: Desk + Drop, L: Ledger, C: Clock, R: Wait + Log>(
+    rt: &R,
+    office: &Office<D, L>,
+    queue: &JobQueue,
+    clock: &C,
+    halt: Option<&AtomicBool>,
+    pass: &mut Pass<L>,
+    seat: &mut Seat,
+    steps: &mut Steps,
+) -> bool
+    requires { IsSeatOf queue.now seat.old × (0 < (view seat.old).parts) }
+    ensures puts { OnlyPuts seat.old seat.new }
+    ensures leases { OnlyLeases steps.old.items steps.new.items }
+    ensures halts { HaltsByCall (is_some halt.entry) result steps.old.items steps.new.items }
+{
+    let looked = look(rt, office, clock, pass, steps);
+    if halts(halt, &looked) {
+        return true;
+    }
+    if !may_wait(&looked) {
+        return false;
+    }
+    let dispatched = dispatch(rt, office, queue, clock, pass, seat, steps);
+    halts(halt, &dispatched)
 }
 
 /// Dispatches again after each job that was taken or settled, and at least once a second, until the queue is closed, where
-/// an entry waits. A refusal is passed over.
-#[tactic(auto, using(crate::proofs::Leasing::leases_none, crate::proofs::Leasing::leases_both))]
+/// an entry waits; or, with a flag to set, until the store refuses a look or a lease. Any other refusal is passed over.
+#[tactic(auto, using(crate::proofs::Leasing::leases_none, crate::proofs::Leasing::leases_both, crate::proofs::Halting::calls_none, crate::proofs::Halting::calls_then))]
 pub fn dispatch_loop<D: Desk + Drop, L: Ledger, C: Clock, R: Wait + time::Clock + Log>(
     rt: &R,
     office: &Office<D, L>,
     queue: &JobQueue,
     clock: &C,
+    halt: Option<&AtomicBool>,
     mut pass: Pass<L>,
     mut seat: Seat,
     steps: &mut Steps,
@@ -107,15 +141,21 @@ pub fn dispatch_loop<D: Desk + Drop, L: Ledger, C: Clock, R: Wait + time::Clock 
     requires { IsSeatOf queue.now seat × (0 < (view seat).parts) }
     ensures puts { OnlyPuts seat result.seat }
     ensures leases { OnlyLeases steps.old.items steps.new.items }
+    ensures halts { HaltsByCall (is_some halt.entry) result.halted steps.old.items steps.new.items }
 {
     for _ in rt.forever() {
         let Some(seen) = queue.ends(rt) else {
-            break;
+            return Ended {
+                pass,
+                seat,
+                halted: false,
+            };
         };
-        if waits(rt, office, clock, &mut pass, steps) {
-            let _ = dispatch(rt, office, queue, clock, &mut pass, &mut seat, steps);
+        let halted = dispatch_next(rt, office, queue, clock, halt, &mut pass, &mut seat, steps);
+        if halted {
+            return Ended { pass, seat, halted };
         }
         queue.wait_for_end(rt, seen);
     }
-    Ended { pass, seat }
+    unreachable!()
 }

@@ -34,7 +34,7 @@ mod workers;
 
 pub use account::{Account, Failure};
 pub use adr_lock::{Clock, Steps};
-pub use crew::{Ended, Handed, Stopped, Thread, Workers};
+pub use crew::{Ended, Halt, Handed, Stopped, Thread, Workers};
 pub use delivery::send;
 pub use dispatcher::{dispatch, dispatch_loop};
 pub use gate::Gate;
@@ -42,7 +42,7 @@ pub use hand::Hand;
 pub use naming::kind_name;
 pub use page::{MOST_ELEMENTS, PageRead, PollEnd, page_read};
 pub use peers::Peers;
-pub use poller::poll_loop;
+pub use poller::{Polled, poll_loop};
 pub use polling::{MOST_PAGES, poll};
 pub use probe::probe_told;
 pub use queue::{JobQueue, Seat};

@@ -1,4 +1,6 @@
 //! The rounds in which the utility is asked.
+ghost use Rattle.std.specs.Prelude.{is_some};
+ghost use Rattle.adr_lock.specs.Halting.{HaltsByStep};
 ghost use Rattle.adr_work.specs.OfficeRounds.{TakesRounds};
 
 use crate::gate::Gate;
@@ -6,7 +8,7 @@ use crate::round::poll_round;
 use crate::round_log::RoundLog;
 use adr_book::{Office, Pass};
 use adr_link::Upstream;
-use adr_lock::{Clock, Steps};
+use adr_lock::{Clock, Steps, halts};
 use adr_machine::Desk;
 use log::Log;
 use std::alloc::Global;
@@ -15,6 +17,14 @@ use std::sync::atomic::{AtomicBool, Ordering};
 use std::sync::ledger::Ledger;
 use std::time::Duration;
 use std::{thread, time};
+
+/// What the poller hands back as it ends.
+#[derive(Drop)]
+pub struct Polled<L: Ledger> {
+    pub pass: Pass<L>,
+    /// Whether it ended because the store refused.
+    pub halted: bool,
+}
 
 /// Waits so many seconds, and looks before each and behind the last whether it is to stop.
 fn is_stopped_within<R: Wait + time::Clock>(rt: &R, seconds: u64, stopped: &AtomicBool) -> bool {
@@ -27,9 +37,9 @@ fn is_stopped_within<R: Wait + time::Clock>(rt: &R, seconds: u64, stopped: &Atom
     stopped.load(Ordering::SeqCst)
 }
 
-/// Asks the utility in rounds, the first at once, until it is told to stop. A round that is broken or refused is passed
-/// over: the next one asks for everything again.
-#[tactic(auto, using(crate::proofs::Taking::rounds_none, crate::proofs::Taking::rounds_more))]
+/// Asks the utility in rounds, the first at once, until it is told to stop, or, with a flag to set, until the store refuses
+/// a command. A round that is broken or otherwise refused is passed over: the next one asks for everything again.
+#[tactic(auto, using(crate::proofs::Taking::rounds_none, crate::proofs::Taking::rounds_more, crate::proofs::Halting::halts_none))]
 pub fn poll_loop<D: Desk + Drop, L: Ledger, G: Gate, C: Clock, R: Wait + time::Clock + Log>(
     rt: &R,
     alloc: Global,
@@ -39,10 +49,12 @@ pub fn poll_loop<D: Desk + Drop, L: Ledger, G: Gate, C: Clock, R: Wait + time::C
     clock: &C,
     seconds: u64,
     stopped: &AtomicBool,
+    halt: Option<&AtomicBool>,
     mut pass: Pass<L>,
     steps: &mut Steps,
-) -> Pass<L>
-    ensures { TakesRounds upstream.now (G.exchanges gate.old) (G.exchanges gate.new) steps.old.items steps.new.items }
+) -> Polled<L>
+    ensures rounds { TakesRounds upstream.now (G.exchanges gate.old) (G.exchanges gate.new) steps.old.items steps.new.items }
+    ensures halts { HaltsByStep (is_some halt.entry) result.halted steps.old.items steps.new.items }
 {
     let mut log = RoundLog::new(rt, alloc);
     for _ in rt.forever() {
@@ -51,9 +63,13 @@ pub fn poll_loop<D: Desk + Drop, L: Ledger, G: Gate, C: Clock, R: Wait + time::C
             rt, alloc, office, gate, upstream, clock, &mut pass, steps, &mut log,
         );
         log.end(&end);
+        let halted = halts(halt, &end);
+        if halted {
+            return Polled { pass, halted };
+        }
         if is_stopped_within(rt, seconds, stopped) {
-            break;
+            return Polled { pass, halted };
         }
     }
-    pass
+    unreachable!()
 }

@@ -1,6 +1,7 @@
 //! A round of polling, over whoever asks and whoever is told.
 ghost use Rattle.std.specs.Prelude.{◌≡◌, ◌≤◌, IfOk, IfErr};
 ghost use Rattle.adr_text.specs.declared.refusal.Refusal.TheVariants.{OutOfMemory};
+ghost use Rattle.adr_lock.specs.Halting.{by_store, EndsByStore};
 ghost use Rattle.adr_work.specs.Pages.{most_elements, elements};
 ghost use Rattle.adr_work.specs.Rounds.{Asks, Goes, AsksPage, IsPaging, IsListing, IsProbe, IsProbing, IsEnding, IsRound};
 ghost use Rattle.adr_work.specs.Refused.{EndsBy};
@@ -53,6 +54,7 @@ fn poll_pages<G: Gate, T: Teller, W: Watch>(
     watch: &mut W,
 ) -> Result<PollEnd, Refusal>
     ensures round { Goes (G.exchanges gate.old) (G.exchanges gate.new) (T.memory teller.old) (T.memory teller.new) (IsPaging upstream.now kind result) }
+    ensures ends { EndsByStore (by_store result) (T.steps teller.old) (T.steps teller.new) }
     ensures refusal { IfErr result (λ refusal. EndsBy (T.refuses teller.new) refusal) }
 {
     let mut skip = 0;
@@ -78,6 +80,7 @@ fn poll_both<G: Gate, T: Teller, W: Watch>(
     watch: &mut W,
 ) -> Result<PollEnd, Refusal>
     ensures round { Goes (G.exchanges gate.old) (G.exchanges gate.new) (T.memory teller.old) (T.memory teller.new) (IsListing upstream.now result) }
+    ensures ends { EndsByStore (by_store result) (T.steps teller.old) (T.steps teller.new) }
     ensures refusal { IfErr result (λ refusal. EndsBy (T.refuses teller.new) refusal) }
 {
     match poll_pages(alloc, gate, teller, upstream, Kind::Program, watch)? {
@@ -97,6 +100,7 @@ fn probe<G: Gate, T: Teller, W: Watch>(
     watch: &mut W,
 ) -> Result<(), Refusal>
     ensures round { Goes (G.exchanges gate.old) (G.exchanges gate.new) (T.memory teller.old) (T.memory teller.new) (IsProbe upstream.now key.now result) }
+    ensures ends { EndsByStore (by_store result) (T.steps teller.old) (T.steps teller.new) }
     ensures refusal { IfErr result (λ refusal. EndsBy (T.refuses teller.new) refusal) }
 {
     let request = to_utility(upstream.probe_request(alloc, key.kind, &key.id)?);
@@ -119,6 +123,7 @@ fn probe_each<G: Gate, T: Teller, W: Watch>(
     watch: &mut W,
 ) -> Result<(), Refusal>
     ensures round { Goes (G.exchanges gate.old) (G.exchanges gate.new) (T.memory teller.old) (T.memory teller.new) (IsProbing upstream.now keys.now result) }
+    ensures ends { EndsByStore (by_store result) (T.steps teller.old) (T.steps teller.new) }
     ensures refusal { IfErr result (λ refusal. EndsBy (T.refuses teller.new) refusal) }
 {
     for key in keys {
@@ -137,6 +142,7 @@ fn end_scan<G: Gate, T: Teller, W: Watch>(
     watch: &mut W,
 ) -> Result<(), Refusal>
     ensures round { Goes (G.exchanges gate.old) (G.exchanges gate.new) (T.memory teller.old) (T.memory teller.new) (IsEnding upstream.now result) }
+    ensures ends { EndsByStore (by_store result) (T.steps teller.old) (T.steps teller.new) }
     ensures refusal { IfErr result (λ refusal. EndsBy (T.refuses teller.new) refusal) }
 {
     let missed = teller.tell(&Command::ScanEnd)?;
@@ -155,6 +161,7 @@ pub fn poll<G: Gate, T: Teller, W: Watch>(
     watch: &mut W,
 ) -> Result<PollEnd, Refusal>
     ensures round { Goes (G.exchanges gate.old) (G.exchanges gate.new) (T.memory teller.old) (T.memory teller.new) (IsRound upstream.now result) }
+    ensures ends { EndsByStore (by_store result) (T.steps teller.old) (T.steps teller.new) }
     ensures refusal { IfErr result (λ refusal. EndsBy (T.refuses teller.new) refusal) }
 {
     teller.tell(&Command::ScanBegin)?;

@@ -1,5 +1,6 @@
 //! A round of polling by the office and the gate, or over a book alone.
 ghost use Rattle.std.specs.Prelude.{IfErr};
+ghost use Rattle.adr_lock.specs.Halting.{by_store, EndsByStore};
 ghost use Rattle.adr_work.specs.BookRounds.{KeepsRound};
 ghost use Rattle.adr_work.specs.OfficeRounds.{TakesRound};
 ghost use Rattle.adr_work.specs.Refused.{MayRefuseSome, Refuses, EndsBy};
@@ -37,6 +38,7 @@ pub fn poll_round<D: Desk + Drop, L: Ledger, G: Gate, C: Clock, R: Wait + time::
     log: &mut RoundLog<'_, R>,
 ) -> Result<PollEnd, Refusal>
     ensures round { TakesRound upstream.now (G.exchanges gate.old) (G.exchanges gate.new) steps.old.items steps.new.items result }
+    ensures ends { EndsByStore (by_store result) steps.old.items steps.new.items }
     ensures refusal { IfErr result (λ refusal. EndsBy (MayRefuseSome D.may_refuse) refusal) }
 {
     let mut teller = OfficeTeller {

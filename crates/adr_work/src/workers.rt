@@ -6,7 +6,7 @@ ghost use Rattle.adr_work.specs.Fair.{hand, all_parts};
 ghost use Rattle.adr_work.specs.Seats.{IsSeatOf, IsFresh, IsBack, IsShared};
 ghost use Rattle.adr_work.specs.Crew.{threads_of, queue_of, IsWholeOf};
 
-use crate::crew::{Ended, Handed, Stopped, Thread, Workers};
+use crate::crew::{Ended, Halt, Handed, Stopped, Thread, Workers};
 use crate::dispatcher::dispatch_loop;
 use crate::gate::Gate;
 use crate::peers::Peers;
@@ -23,6 +23,14 @@ use std::sync::{Arc, Wait};
 use std::thread::Threads;
 use std::{thread, time};
 
+/// The same flag, where there is one.
+fn copy_of(halt: &Halt) -> Result<Halt, AllocError> {
+    match halt {
+        Some(flag) => Ok(Some(Arc::try_clone(flag)?)),
+        None => Ok(None),
+    }
+}
+
 /// Starts a sender.
 fn sender<D, L, G, C, R>(
     rt: R,
@@ -31,6 +39,7 @@ fn sender<D, L, G, C, R>(
     queue: &Arc<JobQueue, Global>,
     peers: &Arc<Peers, Global>,
     clock: &Arc<C, Global>,
+    halt: &Halt,
     gate: G,
     pass: Pass<L>,
     seat: Seat,
@@ -48,6 +57,7 @@ where
     let queue = Arc::try_clone(queue)?;
     let peers = Arc::try_clone(peers)?;
     let clock = Arc::try_clone(clock)?;
+    let halt = copy_of(halt)?;
     let handed = Handed(Snapshot::of(&seat));
     let work = move || -> Ended<L>
         requires { IsFresh (arc_value queue) seat }
@@ -56,7 +66,17 @@ where
         let mut gate = gate;
         let mut steps = Steps::new();
         send_loop(
-            &rt, alloc, &*office, &*queue, &mut gate, &*peers, &*clock, pass, seat, &mut steps,
+            &rt,
+            alloc,
+            &*office,
+            &*queue,
+            &mut gate,
+            &*peers,
+            &*clock,
+            halt.as_deref(),
+            pass,
+            seat,
+            &mut steps,
         )
     };
     Ok(thread::spawn_with(&rt, handed, work)?)
@@ -68,6 +88,7 @@ fn dispatcher<D, L, C, R>(
     office: &Arc<Office<D, L>, Global>,
     queue: &Arc<JobQueue, Global>,
     clock: &Arc<C, Global>,
+    halt: &Halt,
     pass: Pass<L>,
     seat: Seat,
 ) -> Result<Thread<L>, AllocError>
@@ -82,13 +103,23 @@ where
     let office = Arc::try_clone(office)?;
     let queue = Arc::try_clone(queue)?;
     let clock = Arc::try_clone(clock)?;
+    let halt = copy_of(halt)?;
     let handed = Handed(Snapshot::of(&seat));
     let work = move || -> Ended<L>
         requires { IsFresh (arc_value queue) seat }
         ensures { IsBack seat result.seat }
     {
         let mut steps = Steps::new();
-        dispatch_loop(&rt, &*office, &*queue, &*clock, pass, seat, &mut steps)
+        dispatch_loop(
+            &rt,
+            &*office,
+            &*queue,
+            &*clock,
+            halt.as_deref(),
+            pass,
+            seat,
+            &mut steps,
+        )
     };
     Ok(thread::spawn_with(&rt, handed, work)?)
 }
@@ -125,6 +156,7 @@ impl<L: Ledger> Workers<L> {
         office: &Arc<Office<D, L>, Global>,
         peers: &Arc<Peers, Global>,
         clock: &Arc<C, Global>,
+        halt: &Halt,
         gate: G,
         pass: Pass<L>,
     ) -> Result<Workers<L>, AllocError>
@@ -149,7 +181,9 @@ impl<L: Ledger> Workers<L> {
             return Err(AllocError);
         }
         let seat = queue.hand_out(&mut whole);
-        let Ok(thread) = sender(rt, alloc, office, &queue, peers, clock, gate, pass, seat) else {
+        let Ok(thread) = sender(
+            rt, alloc, office, &queue, peers, clock, halt, gate, pass, seat,
+        ) else {
             abandon(&rt, &queue, threads);
             return Err(AllocError);
         };
@@ -167,6 +201,7 @@ impl<L: Ledger> Workers<L> {
         rt: R,
         office: &Arc<Office<D, L>, Global>,
         clock: &Arc<C, Global>,
+        halt: &Halt,
         pass: Pass<L>,
     ) -> Result<Workers<L>, AllocError>
     where
@@ -189,7 +224,7 @@ impl<L: Ledger> Workers<L> {
             return Err(AllocError);
         }
         let seat = queue.hand_out(&mut whole);
-        let Ok(thread) = dispatcher(rt, office, &queue, clock, pass, seat) else {
+        let Ok(thread) = dispatcher(rt, office, &queue, clock, halt, pass, seat) else {
             abandon(&rt, &queue, threads);
             return Err(AllocError);
         };
@@ -202,8 +237,8 @@ impl<L: Ledger> Workers<L> {
     }
 }
 
-/// Starts a sender for each gate, and one dispatcher, each with a pass. Where a thread cannot be made, the queue is
-/// closed and those that were made are joined: that counts as want of memory.
+/// Starts a sender for each gate, and one dispatcher, each with a pass, and with the flag to halt by, where there is one.
+/// Where a thread cannot be made, the queue is closed and those that were made are joined: that counts as want of memory.
 pub fn start<D, L, G, C, R>(
     rt: R,
     alloc: Global,
@@ -214,6 +249,7 @@ pub fn start<D, L, G, C, R>(
     clock: &Arc<C, Global>,
     passes: Vec<Pass<L>>,
     gates: Vec<G>,
+    halt: Halt,
 ) -> Result<Workers<L>, AllocError>
 where
     D: Desk + Drop + Send + 'static,
@@ -234,16 +270,16 @@ where
         let Some(pass) = passes.pop() else {
             unreachable!()
         };
-        workers = workers.with_sender(rt, alloc, office, peers, clock, gate, pass)?;
+        workers = workers.with_sender(rt, alloc, office, peers, clock, &halt, gate, pass)?;
     }
     let Some(pass) = passes.pop() else {
         unreachable!()
     };
-    workers.with_dispatcher(rt, office, clock, pass)
+    workers.with_dispatcher(rt, office, clock, &halt, pass)
 }
 
 /// Closes the queue and joins the threads, each of which settles the job in its hands first. The jobs put are those
-/// taken and those left, each as often as it was put.
+/// taken and those left, each as often as it was put. Tells whether one of them halted.
 pub fn stop<L: Ledger, R: Threads + Wait>(
     rt: &R,
     alloc: Global,
@@ -263,15 +299,22 @@ pub fn stop<L: Ledger, R: Threads + Wait>(
         return Err(AllocError);
     };
     queue.close(rt);
+    let mut halted = false;
     while let Some(thread) = threads.pop() {
-        let Ended { pass, seat } = thread.join(rt);
+        let Ended {
+            pass,
+            seat,
+            halted: this,
+        } = thread.join(rt);
         queue.take_back(&mut whole, seat);
         passes.push_reserved(pass);
+        halted |= this;
     }
     let left = queue.clear(rt, alloc, &mut whole)?;
     Ok(Stopped {
         whole,
         passes,
         left,
+        halted,
     })
 }

@@ -8,7 +8,7 @@ use adr_delivery::Job;
 use adr_machine::{Answer, Desk, PlainDesk, Query, Role};
 use adr_objects::OutboxCounts;
 use adr_text::Refusal;
-use adr_work::{Clock, Gate, JobQueue, Stopped, start, stop};
+use adr_work::{Clock, Gate, Halt, JobQueue, Stopped, start, stop};
 use std::alloc::Global;
 use std::sync::ledger::{Blank, Ledger};
 use std::sync::{Arc, Wait};
@@ -20,7 +20,7 @@ use std::{thread, time};
 pub const MOST_LOOKS: u32 = 20_000_000;
 
 /// How often a test looks before it gives up, with a nap in between: for some 50 seconds.
-const MOST_NAPS: u32 = 50_000;
+pub const MOST_NAPS: u32 = 50_000;
 
 /// What there is at the end of a day.
 #[derive(Drop)]
@@ -108,12 +108,37 @@ where
     requires gates { (0 < length gates.items) × (length gates.items ≤ 16) }
     requires room { (0 < capacity) × (capacity ≤ 64) }
 {
-    let (office, mut passes) = Office::<PlainDesk, L>::open(
-        alloc,
-        blank,
-        desk,
-        gates.len() as u32 + 2,
+    let (day, _) = run_with::<L, PlainDesk, G, C, M, R>(
+        rt, alloc, blank, desk, gates, clock, capacity, None, meanwhile,
     )?;
+    Ok(day)
+}
+
+/// The same of any desk, with the flag to halt by, where there is one; and whether a thread halted.
+pub fn run_with<L, D, G, C, M, R>(
+    rt: R,
+    alloc: Global,
+    blank: Blank,
+    desk: D,
+    gates: Vec<G>,
+    clock: C,
+    capacity: usize,
+    halt: Halt,
+    meanwhile: &M,
+) -> Result<(Day, bool), Refusal>
+where
+    L: Ledger + Send + Sync + 'static,
+    D: Desk + Drop + Send + 'static,
+    G: Gate + Drop + Send + 'static,
+    C: Clock + Drop + Send + Sync + 'static,
+    M: Meanwhile,
+    R: Threads + Wait + time::Clock + Copy + Send + 'static,
+    requires name { blank.name ≡ L.name }
+    requires parts { (blank.parts ≡ L.parts) × (blank.parts ≡ length gates.items + 2) }
+    requires gates { (0 < length gates.items) × (length gates.items ≤ 16) }
+    requires room { (0 < capacity) × (capacity ≤ 64) }
+{
+    let (office, mut passes) = Office::<D, L>::open(alloc, blank, desk, gates.len() as u32 + 2)?;
     let Some(mut mine) = passes.pop() else {
         unreachable!()
     };
@@ -130,21 +155,24 @@ where
         &clock,
         passes,
         gates,
+        halt,
     )?;
     meanwhile.pass_time(&rt, &office, &mut mine);
     let Stopped {
         whole: _,
         mut passes,
         left,
+        halted,
     } = stop(&rt, alloc, workers)?;
     let counts = counts(&rt, &office, &mut mine)?;
     passes.push(mine)?;
     let Some(office) = Arc::into_inner(office) else {
         return Err(Refusal::Store);
     };
-    Ok(Day {
+    let day = Day {
         counts,
         left,
         turn: office.gather(passes),
-    })
+    };
+    Ok((day, halted))
 }

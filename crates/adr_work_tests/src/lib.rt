@@ -4,6 +4,8 @@
 #![tactic(auto)]
 
 #[cfg(test)]
+mod ailing;
+#[cfg(test)]
 mod clock;
 #[cfg(test)]
 mod day;
@@ -15,6 +17,8 @@ mod desk;
 mod enrolling;
 #[cfg(test)]
 mod failing;
+#[cfg(test)]
+mod halting;
 #[cfg(test)]
 mod held;
 #[cfg(test)]

@@ -1,3 +1,5 @@
+use Rattle.std.specs.Prelude.{false, is_some}
+use Rattle.adr_lock.specs.Halting.{HaltsByStep}
 use Rattle.adr_work.specs.OfficeRounds.{TakesRounds}
 use Rattle.adr_work.proofs.poller.poll_loop.Given as goal
 
@@ -5,3 +7,4 @@ abbrev pub invariant-loop : goal.invariant-loop
 invariant-loop g l =
     (goal.iterator-loop g).can_next l.iterator' × (goal.iterator-loop g).is_finite l.iterator'
     × TakesRounds l.upstream (g.G.Gate.exchanges l.fn.gate) (g.G.Gate.exchanges l.gate) l.fn.steps.items l.steps.items
+    × HaltsByStep (is_some l.halt) false l.fn.steps.items l.steps.items

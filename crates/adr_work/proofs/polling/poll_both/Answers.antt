@@ -1,6 +1,8 @@
 use Rattle.std.proofs.Common.{subst, Ok}
 use Rattle.adr_objects.specs.declared.kind.Kind.TheVariants.{Program}
 use Rattle.adr_work.specs.Rounds.{Goes, IsPaging}
+use Rattle.adr_lock.specs.Halting.{by_store}
+use Rattle.adr_work.proofs.Halting.{ends_both, ends_handed}
 use Rattle.adr_work.proofs.Rounding.{listed_cut, listed_broken, listed_next}
 use Rattle.adr_work.proofs.polling.poll_both.Goals as goal
 
@@ -31,3 +33,16 @@ returns-in-Broken-clause-round g c =
     let is = g.T.Teller.memory c.poll_pages.new.teller in
     listed_broken u before after was is
     (subst (λ end. Goes before after was is (IsPaging u Program (Ok end))) c.in-Broken.is c.in_ok-poll_pages.ensures.round)
+
+pub returns-in_err-poll_pages-clause-ends : goal.returns-in_err-poll_pages-clause-ends
+returns-in_err-poll_pages-clause-ends g c =
+    ends_handed c.from_residual.result c.in_err-poll_pages.field-0.0 (g.T.Teller.steps c.args.teller.now) (g.T.Teller.steps c.poll_pages.new.teller)
+    c.from_residual.ensures.1 c.in_err-poll_pages.ensures.ends
+
+pub returns-in-Whole-clause-ends : goal.returns-in-Whole-clause-ends
+returns-in-Whole-clause-ends g c =
+    ends_both (by_store c.poll_pages-in-Whole.result) (g.T.Teller.steps c.args.teller.now) (g.T.Teller.steps c.poll_pages.new.teller)
+    (g.T.Teller.steps c.poll_pages-in-Whole.new.teller) c.in_ok-poll_pages.ensures.ends c.poll_pages-in-Whole.ensures.ends
+
+pub returns-in-Broken-clause-ends : goal.returns-in-Broken-clause-ends
+returns-in-Broken-clause-ends g c = c.in_ok-poll_pages.ensures.ends
