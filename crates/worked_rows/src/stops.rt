@@ -10,7 +10,7 @@ use adr_desk::{SqlDesk, Start};
 use adr_machine::{Desk, PlainDesk};
 use adr_state::{Image, Settings};
 use adr_text::Refusal;
-use anyhow::{Result, bail};
+use anyhow::{Context, Result, bail};
 use row_desks::{DiskDesk, Disks, Stop, holds, new_desk, opened_again};
 use sqlite::{Connection, FileStore};
 use sqlite_disk::{Fuse, Memory};
@@ -52,7 +52,7 @@ impl Part {
 /// A line of a script, with what it has to print, and the states before and after it.
 #[derive(Drop)]
 struct Line {
-    number: u64,
+    number: usize,
     text: Vec<u8>,
     wanted: Vec<u8>,
     before: Image,
@@ -67,7 +67,7 @@ enum Ran {
     /// It stopped before the desk stood; and whether what is left is as it has to be.
     Making(bool),
     /// It stopped in the line of that number; and whether what is left is as it has to be.
-    Line(u64, bool),
+    Line(usize, bool),
 }
 
 /// How all runs went.
@@ -75,8 +75,8 @@ struct Tally {
     stops: u64,
     wrong: u64,
     /// In how many lines it stopped, and the last of them.
-    lines: u64,
-    last: u64,
+    lines: usize,
+    last: Option<usize>,
 }
 
 impl Tally {
@@ -85,7 +85,7 @@ impl Tally {
             stops: 0,
             wrong: 0,
             lines: 0,
-            last: 0,
+            last: None,
         }
     }
 
@@ -97,10 +97,10 @@ impl Tally {
     }
 
     /// Notes a stop in the line of that number. Later stops are in later lines.
-    fn note_line(&mut self, number: u64, is_right: bool) {
+    fn note_line(&mut self, number: usize, is_right: bool) {
         self.note_stop(is_right);
-        if number != self.last {
-            self.last = number;
+        if self.last != Some(number) {
+            self.last = Some(number);
             self.lines = self.lines.saturating_add(1);
         }
     }
@@ -113,6 +113,17 @@ fn ended(alloc: Global, line: &[u8]) -> Result<Vec<u8>, AllocError> {
     Ok(whole)
 }
 
+/// The lines of a text, each with its LF.
+fn split(alloc: Global, text: &[u8]) -> Result<Vec<Vec<u8>>, AllocError> {
+    let mut lines = Vec::new(alloc);
+    for line in text.split(|byte| *byte == b'\n') {
+        if !line.is_empty() {
+            lines.push(ended(alloc, line)?)?;
+        }
+    }
+    Ok(lines)
+}
+
 fn printed<D: Desk>(alloc: Global, desk: &mut D, text: &[u8]) -> Vec<u8> {
     let Played { printed, ended: _ } = play_script(alloc, desk, text);
     printed
@@ -122,21 +133,20 @@ fn printed<D: Desk>(alloc: Global, desk: &mut D, text: &[u8]) -> Vec<u8> {
 fn line_on(
     alloc: Global,
     desk: &mut PlainDesk,
-    number: u64,
+    number: usize,
     text: &[u8],
     wanted: &[u8],
 ) -> Result<Line> {
-    let text = ended(alloc, text)?;
-    let wanted = ended(alloc, wanted)?;
     let before = desk.image()?;
-    if printed(alloc, desk, &text).as_slice() != wanted.as_slice() {
-        bail!("the line {number} prints something else");
-    }
+    let said = printed(alloc, desk, text);
     let after = desk.image()?;
+    if said.as_slice() != wanted {
+        bail!("a line prints something else");
+    }
     Ok(Line {
         number,
-        text,
-        wanted,
+        text: text.to_vec(alloc)?,
+        wanted: said,
         before,
         after,
     })
@@ -145,15 +155,12 @@ fn line_on(
 /// The lines of a row. Each prints one line.
 fn lines_of(alloc: Global, row: &Row) -> Result<Vec<Line>> {
     let mut desk = PlainDesk::new(alloc, settings(alloc, row)?);
+    let texts = split(alloc, &row.script)?;
+    let wanted = split(alloc, &row.wanted)?;
     let mut lines = Vec::new(alloc);
-    let mut number: u64 = 0;
-    let texts = row.script.split(|byte| *byte == b'\n');
-    let wanted = row.wanted.split(|byte| *byte == b'\n');
-    for (text, wanted) in texts.zip(wanted) {
-        if !text.is_empty() {
-            number = number.saturating_add(1);
-            lines.push(line_on(alloc, &mut desk, number, text, wanted)?)?;
-        }
+    for at in 0..texts.len() {
+        let wanted = wanted.get(at).context("a line prints nothing")?;
+        lines.push(line_on(alloc, &mut desk, at, &texts[at], wanted)?)?;
     }
     Ok(lines)
 }
@@ -271,7 +278,7 @@ fn run_each_stop(alloc: Global, row: &Row, lines: &[Line], part: Part) -> Result
 /// Whether all stops of a file left what they may. The log is written in each line of the row.
 fn is_right(part: Part, tally: &Tally, lines: &[Line]) -> bool {
     let is_in_each = match part {
-        Part::Log => tally.lines == lines.len() as u64,
+        Part::Log => tally.lines == lines.len(),
         Part::Database => tally.stops != 0,
     };
     is_in_each && tally.wrong == 0
