@@ -1,5 +1,5 @@
 //! Desks over disks in memory: a database file and its log, of which one may stop after some calls.
-ghost use Rattle.std.specs.Prelude.{IsTrue};
+ghost use Rattle.std.specs.Prelude.{◌≡◌, false, IsTrue, IfOk};
 
 use crate::same::holds;
 use adr_desk::restart::{crash, reopen};
@@ -68,6 +68,7 @@ pub fn new_disks(alloc: Global, stop: Stop) -> Disks
 pub fn open(alloc: Global, files: Disks) -> Result<Connection<FileStore<Fuse<Memory>>>, Disks>
     requires log { IsTrue (⟦<Fuse<Memory> as Disk>⟧.is_usable files.log) }
     requires db { IsTrue (⟦<Fuse<Memory> as Disk>⟧.is_usable files.db) }
+    ensures idle { IfOk result (λ conn. conn.in_transaction ≡ false) }
 {
     match Connection::open_files(alloc, files, Options::new(SEED)) {
         Ok(conn) => Ok(conn),
@@ -87,10 +88,10 @@ pub fn opened_again(
 
 /// A desk over new files, or what is left of them where they stopped before it stood.
 pub fn new_desk(alloc: Global, settings: Settings, stop: Stop) -> Result<DiskDesk, Disks> {
-    let conn = open(alloc, new_disks(alloc, stop))?;
-    if !conn.is_autocommit() {
-        return Err(conn.into_store().close());
-    }
+    let conn = match open(alloc, new_disks(alloc, stop)) {
+        Ok(conn) => conn,
+        Err(files) => return Err(files),
+    };
     match SqlDesk::adopt_or_back(alloc, settings, conn, Start::New) {
         Ok(desk) => Ok(desk),
         Err((_, conn)) => Err(conn.into_store().close()),

@@ -73,6 +73,12 @@ pub fn count_lines(text: &[u8]) -> u64 {
 }
 
 impl Played {
+    /// What it printed.
+    pub fn into_printed(self) -> Vec<u8> {
+        let Played { printed, ended: _ } = self;
+        printed
+    }
+
     /// Whether the row printed what it has to, and ended well.
     pub fn passed(&self, row: &Row) -> bool {
         self.printed.as_slice() == row.wanted.as_slice()

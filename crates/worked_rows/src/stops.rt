@@ -1,7 +1,7 @@
 //! A row, stopped at each call of its disks in turn: of the log, and then of the database file. From that call on each one
 //! fails, and what was not synced is lost. The files that are left have to open as those of a node, with the state before
 //! the line in progress, or the one after it.
-use crate::play::{Played, play_script};
+use crate::play::play_script;
 use crate::report::report_part;
 use crate::row::Row;
 use crate::settings;
@@ -71,6 +71,7 @@ enum Ran {
 }
 
 /// How all runs went.
+#[derive(Drop)]
 struct Tally {
     stops: u64,
     wrong: u64,
@@ -125,8 +126,7 @@ fn split(alloc: Global, text: &[u8]) -> Result<Vec<Vec<u8>>, AllocError> {
 }
 
 fn printed<D: Desk>(alloc: Global, desk: &mut D, text: &[u8]) -> Vec<u8> {
-    let Played { printed, ended: _ } = play_script(alloc, desk, text);
-    printed
+    play_script(alloc, desk, text).into_printed()
 }
 
 /// Takes a line on the plain desk, which has to print what is wanted.
