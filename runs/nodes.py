@@ -37,6 +37,21 @@ def request(role, method, target, value=None, more=""):
     return head.encode("latin-1") + body
 
 
+def parted(answer):
+    """Returns the status of a reply and what its body is, where the reply is whole; else nothing twice."""
+    head, is_headed, body = answer.partition(b"\r\n\r\n")
+    length = re.search(rb"(?i)\ncontent-length: *(\d+)", head)
+    if not is_headed or not length or len(body) != int(length[1]):
+        return None, None
+    return int(head.split(b" ")[1]), json.loads(body)
+
+
+def init(path):
+    """Has the program make a file; returns its status, and what it wrote."""
+    made = subprocess.run([Node.program, "init", path], stdin=subprocess.DEVNULL, capture_output=True, check=False)
+    return made.returncode, (made.stdout + made.stderr).decode("latin-1")
+
+
 class Node:
     """A node with the configuration that follows, with other members in it; `None` takes one away, and `text` all. What it
     writes goes into a file, but what it tells into a small pipe where it is not `heard`; and `before` is called in its process
@@ -142,6 +157,11 @@ class Node:
         self.process.wait(PATIENCE)
         return self.lines()
 
+    def kill(self):
+        """Has the system end it at once, wherever it is."""
+        self.process.kill()
+        self.process.wait(PATIENCE)
+
     def ends(self):
         """Waits for its end; returns what it wrote, and behind it its status."""
         self.process.wait(PATIENCE)
@@ -161,3 +181,20 @@ class Node:
     def ask(self, role, method, target, value=None, more=""):
         """Asks as a role would, or as nobody, and returns the whole reply."""
         return self.tells(request(role, method, target, value, more))
+
+    def reads(self, role, target):
+        """Returns what a role is shown, which has to be there."""
+        status, value = parted(self.ask(role, "GET", target))
+        if status is None:
+            raise ConnectionResetError("no whole reply")
+        if status != 200:
+            raise ValueError(f"GET {target} is answered {status}: {value}")
+        return value
+
+    def lists(self, role, target):
+        """Returns all that a role is shown in a listing, page by page."""
+        found, more = [], True
+        while more:
+            more = self.reads(role, f"{target}?skip={len(found)}")
+            found += more
+        return found

@@ -44,6 +44,7 @@ class Handler(socketserver.BaseRequestHandler):
         while length and len(body) < int(length[1]):
             body += self.request.recv(65536)
         method, target = head.decode("latin-1").split(" ")[:2]
+        self.server.hears(method, target, body)
         said, how = self.server.answer(method, target.removeprefix("/openadr3"))
         try:
             self.request.sendall(said)
@@ -67,6 +68,9 @@ class Peer(socketserver.ThreadingTCPServer):
     def __exit__(self, *_):
         self.shutdown()
         self.server_close()
+
+    def hears(self, method, target, body):
+        """Is given each request, before it is answered."""
 
     def handle_error(self, *_):
         """Nothing: where a node ends, connections do too."""

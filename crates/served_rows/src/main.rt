@@ -1,7 +1,8 @@
 //! Runs the tables of requests and replies as bytes: each file of the folder that it is given, or where it runs, whose
 //! name ends in `.bytes`. Each case is served on new desks, one over plain maps and one over tables, from a source that
 //! gives its bytes all at once, one by one, and in pieces of at most 7; the reply is compared byte by byte. The lines
-//! of a script behind the request tell whether its step was taken, once or not at all. A table is made of these lines:
+//! of a script behind the request tell whether its step was taken, once or not at all. All at once it is served too on a
+//! desk over disks in memory, which hold then what the desk held. A table is made of these lines:
 //!
 //! - `# TEXT` says nothing;
 //! - `bytes NAME` names the table;

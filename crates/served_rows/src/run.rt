@@ -9,6 +9,7 @@ use adr_machine::{Desk, PlainDesk};
 use adr_state::{Limits, Settings};
 use adr_text::{Moment, Name};
 use anyhow::Result;
+use row_desks::{DiskDesk, Stop, is_kept, new_desk};
 use std::alloc::Global;
 use table_files::{Pieces, Table};
 
@@ -122,6 +123,27 @@ fn passes_on_both(
     Ok(plain && tables)
 }
 
+/// Whether a case gives what it has to on a desk over disks in memory, which hold then what the desk held.
+fn is_kept_on(
+    alloc: Global,
+    mut desk: DiskDesk,
+    front: &Front,
+    file: &File,
+    case: &Case,
+) -> Result<bool> {
+    let all = case.request.len().max(1);
+    let passed = passes(alloc, &mut desk, front, file, case, Pieces::Of(all));
+    Ok(passed && is_kept(alloc, desk)?)
+}
+
+/// Whether it passes on a new desk over disks in memory.
+fn passes_file(alloc: Global, front: &Front, file: &File, case: &Case) -> Result<bool> {
+    match new_desk(alloc, settings(alloc)?, Stop::never()) {
+        Ok(desk) => is_kept_on(alloc, desk, front, file, case),
+        Err(_) => Ok(false),
+    }
+}
+
 /// Whether it passes all at once, byte by byte, and in pieces of 7.
 fn passes_in_pieces(alloc: Global, front: &Front, file: &File, case: &Case) -> Result<bool> {
     let all = case.request.len().max(1);
@@ -180,7 +202,8 @@ fn run_case<R: Print + AllocGlobal>(
 ) -> Result<bool> {
     let pieces = passes_in_pieces(rt.alloc(), front, file, case)?;
     let cut = passes_cut(rt.alloc(), front, file, case)?;
-    if pieces && cut {
+    let kept = passes_file(rt.alloc(), front, file, case)?;
+    if pieces && cut && kept {
         return Ok(true);
     }
     report_case(rt, front, file, case)?;

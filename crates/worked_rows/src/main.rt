@@ -5,6 +5,7 @@
 //! - `# TEXT` and an empty line say nothing;
 //! - `row NAME` names the row;
 //! - `set NAME=NUMBER` sets a limit;
+//! - `stop everywhere` has it stopped at each call of its disks too;
 //! - `> LINE` is a line of the script;
 //! - `< LINE` is a line that the script prints.
 //!
@@ -18,28 +19,30 @@
 //! - `< ANSWER` is what the reader makes of the text before.
 //!
 //! Who takes part in an event is read from tables of its own, by number and weight, since no line of a script asks for
-//! that. The calls on reports and roll-ups are made on such tables too, without a desk.
+//! that. The calls on reports and roll-ups are made on such tables too, without a desk. Files that a desk is not to take are
+//! made by the program itself.
 #![tactic(auto)]
 
 mod answers;
+mod kept_files;
 mod participants;
 mod play;
-mod portfolio;
 mod reader;
 mod report;
 mod row;
-mod same;
-mod same_outbox;
 mod site_reports;
+mod stops;
 mod texts;
 mod twin;
 mod whole_run;
 
+use crate::kept_files::run_kept_files;
 use crate::participants::run_participants;
 use crate::play::play;
-use crate::report::{report, report_both, report_list};
+use crate::report::{report, report_both, report_part};
 use crate::row::{Row, read_row};
 use crate::site_reports::run_reports;
+use crate::stops::run_stops;
 use crate::texts::{Texts, read_texts, run_texts};
 use crate::twin::Twin;
 use crate::whole_run::take_alike;
@@ -48,6 +51,7 @@ use adr_machine::{Desk, PlainDesk};
 use adr_state::{Limits, Settings};
 use adr_text::Name;
 use anyhow::Result;
+use row_desks::{DiskDesk, Stop, is_kept, new_desk};
 use std::alloc::Global;
 use std::process::ExitCode;
 use std::rt::{Env, Files};
@@ -56,13 +60,13 @@ use table_files::{Table, folder, run_each, status_of};
 /// The name under which the desks report.
 const CLIENT: &str = "aggregator";
 
-fn settings_of(alloc: Global, limits: Limits) -> Result<Settings> {
+pub(crate) fn settings_of(alloc: Global, limits: Limits) -> Result<Settings> {
     let client = Name::new(alloc, CLIENT)?;
     Ok(Settings { client, limits })
 }
 
 /// What a desk is set to for a row.
-fn settings(alloc: Global, row: &Row) -> Result<Settings> {
+pub(crate) fn settings(alloc: Global, row: &Row) -> Result<Settings> {
     settings_of(alloc, row.limits)
 }
 
@@ -102,8 +106,26 @@ fn run_both<R: Print + AllocGlobal>(rt: &R, row: &Row) -> Result<bool> {
     let played = play(alloc, &mut desk, row);
     let both = report_both(rt, row, &played, desk.apart)?;
     let alike = is_list_alike(alloc, row, &mut desk)?;
-    let list = report_list(rt, row, alike)?;
+    let list = report_part(rt, row, "list", alike)?;
     Ok(both && list)
+}
+
+/// Runs a row on a desk over disks in memory, and answers whether it printed what it has to, and whether the disks hold then
+/// what the desk held.
+fn is_kept_on(alloc: Global, row: &Row, mut desk: DiskDesk) -> Result<bool> {
+    let played = play(alloc, &mut desk, row);
+    let is_kept = is_kept(alloc, desk)?;
+    Ok(played.passed(row) && is_kept)
+}
+
+/// Runs a row on a new desk over disks in memory.
+fn run_file<R: Print + AllocGlobal>(rt: &R, row: &Row) -> Result<bool> {
+    let alloc = rt.alloc();
+    let passed = match new_desk(alloc, settings(alloc, row)?, Stop::never()) {
+        Ok(desk) => is_kept_on(alloc, row, desk)?,
+        Err(_) => false,
+    };
+    report_part(rt, row, "file", passed)
 }
 
 impl Table for Row {
@@ -115,7 +137,9 @@ impl Table for Row {
         let plain = run_plain(rt, self)?;
         let tables = run_tables(rt, self)?;
         let both = run_both(rt, self)?;
-        Ok(plain && tables && both)
+        let file = run_file(rt, self)?;
+        let stops = !self.stop_everywhere || run_stops(rt, self)?;
+        Ok(plain && tables && both && file && stops)
     }
 }
 
@@ -135,7 +159,8 @@ fn run_all<R: Env + Files + Print + AllocGlobal + Clone + Drop>(rt: &R) -> Resul
     let texts = run_each::<Texts, R>(rt, folder.as_str(), ".texts")?;
     let participants = run_participants(rt)?;
     let reports = run_reports(rt)?;
-    Ok(rows && texts && participants && reports)
+    let kept_files = run_kept_files(rt)?;
+    Ok(rows && texts && participants && reports && kept_files)
 }
 
 fn main(rt: HostRuntime) -> Result<ExitCode> {

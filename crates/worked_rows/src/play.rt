@@ -55,11 +55,16 @@ fn run_branded<D: Desk, R: Read + Drop, W: Write + Drop>(
     run_over::<D, R, W, Brand, Brand>(alloc, desk, reader, writer, Blank::new(2), Blank::new(2))
 }
 
+/// Runs a script on a desk.
+pub fn play_script<D: Desk>(alloc: Global, desk: &mut D, script: &[u8]) -> Played {
+    let mut printed = Vec::new(alloc);
+    let ended = run_branded(alloc, desk, script, &mut printed);
+    Played { printed, ended }
+}
+
 /// Runs the script of a row on a desk.
 pub fn play<D: Desk>(alloc: Global, desk: &mut D, row: &Row) -> Played {
-    let mut printed = Vec::new(alloc);
-    let ended = run_branded(alloc, desk, row.script.as_slice(), &mut printed);
-    Played { printed, ended }
+    play_script(alloc, desk, row.script.as_slice())
 }
 
 /// How many lines a text has, each ended by its LF.
@@ -68,6 +73,12 @@ pub fn count_lines(text: &[u8]) -> u64 {
 }
 
 impl Played {
+    /// What it printed.
+    pub fn into_printed(self) -> Vec<u8> {
+        let Played { printed, ended: _ } = self;
+        printed
+    }
+
     /// Whether the row printed what it has to, and ended well.
     pub fn passed(&self, row: &Row) -> bool {
         self.printed.as_slice() == row.wanted.as_slice()

@@ -42,13 +42,13 @@ pub fn report_both<R: Print>(rt: &R, row: &Row, played: &Played, apart: u64) -> 
     Ok(false)
 }
 
-/// Prints how the commands of a row went, told as a list, and answers whether they passed.
-pub fn report_list<R: Print>(rt: &R, row: &Row, alike: bool) -> Result<bool> {
+/// Prints how a part of a row went, and answers whether it passed.
+pub fn report_part<R: Print>(rt: &R, row: &Row, part: &str, passed: bool) -> Result<bool> {
     let name = &row.name;
-    if alike {
-        println!(rt; "row {name} list passed")?;
+    if passed {
+        println!(rt; "row {name} {part} passed")?;
         return Ok(true);
     }
-    println!(rt; "row {name} list failed")?;
+    println!(rt; "row {name} {part} failed")?;
     Ok(false)
 }

@@ -14,6 +14,8 @@ pub struct Row {
     pub script: Vec<u8>,
     /// The lines that it has to print, each with its LF.
     pub wanted: Vec<u8>,
+    /// Whether it is stopped at each call of its disks too.
+    pub stop_everywhere: bool,
 }
 
 /// Adds a line and its LF.
@@ -48,6 +50,10 @@ fn read_line(alloc: Global, row: &mut Row, line: &[u8]) -> Result<()> {
     if let Some(rest) = line.strip_prefix(b"set ") {
         return set_limit(&mut row.limits, from_utf8(rest)?);
     }
+    if line == b"stop everywhere".as_slice() {
+        row.stop_everywhere = true;
+        return Ok(());
+    }
     if line.is_empty() || line.starts_with(b"#") {
         return Ok(());
     }
@@ -61,6 +67,7 @@ pub fn read_row(alloc: Global, bytes: &[u8]) -> Result<Row> {
         limits: Limits::largest(),
         script: Vec::new(alloc),
         wanted: Vec::new(alloc),
+        stop_everywhere: false,
     };
     for line in bytes.split(|b| *b == b'\n') {
         read_line(alloc, &mut row, line)?;

@@ -2,11 +2,11 @@
 ghost use Rattle.std.specs.Prelude.{◌≡◌};
 
 use crate::answers::is_same_answer;
-use crate::same::holds;
 use adr_desk::MemoryDesk;
 use adr_machine::{Answer, Command, Desk, PlainDesk, Query};
 use adr_state::{Image, Settings};
 use adr_text::{Moment, Refusal};
+use row_desks::holds;
 use std::alloc::{AllocError, Global};
 
 /// A plain desk that answers, and the tables beside it.

@@ -1,10 +1,10 @@
 //! The commands of a row, told as one list to the plain desk and to the tables.
 use crate::answers::are_same_answers;
-use crate::same::holds;
 use adr_desk::MemoryDesk;
 use adr_machine::{Answer, Command, Desk, PlainDesk, run};
 use adr_state::{Image, Settings};
 use adr_text::{Moment, Refusal};
+use row_desks::holds;
 use std::alloc::Global;
 
 // The values of a call stand in functions of their own, since each owned one makes those behind it dearer to check.
