@@ -55,8 +55,9 @@ config_at listen callbacks d = do
   settings ← settings_in d
   poll ← required (member_of (codes "poll") d) (limit_in 3_600)
   workers ← required (member_of (codes "workers") d) (limit_in 16)
+  store ← optional (member_of (codes "store") d) text_of
   serving ← serving_in d
-  Ok (record { listen = listen; upstream = upstream; callbacks = callbacks; settings = settings; poll = poll; workers = workers; roles = serving.0; stop_after = serving.1; log = serving.2 })
+  Ok (record { listen = listen; upstream = upstream; callbacks = callbacks; settings = settings; store = store; poll = poll; workers = workers; roles = serving.0; stop_after = serving.1; log = serving.2 })
 
 -- an address and a port are where it listens
 abbrev pub Listens : Data → SocketAddr → Type 0

@@ -3,6 +3,7 @@ use adr_http::Roles;
 use adr_link::Upstream;
 use adr_network::Networks;
 use adr_state::{Limit, Settings};
+use adr_subscription::FreeText;
 use log::LevelFilter;
 use std::net::SocketAddr;
 
@@ -17,6 +18,8 @@ pub struct Config {
     pub callbacks: Networks,
     /// The name under which it reports to the utility, and how many objects it keeps.
     pub settings: Settings,
+    /// The file in which it keeps what it has to keep, or none, where it keeps all in memory.
+    pub store: Option<FreeText>,
     /// How many seconds lie between two rounds in which the utility is asked.
     pub poll: Limit<3_600>,
     /// How many connections are served at once, and how many senders there are.

@@ -33,7 +33,7 @@ impl fmt::Display for Oddity {
 }
 
 /// The names of members of a configuration. `$schema` is for editors.
-const MEMBERS: [&str; 12] = [
+const MEMBERS: [&str; 13] = [
     "$schema",
     "listen",
     "upstream",
@@ -42,6 +42,7 @@ const MEMBERS: [&str; 12] = [
     "clientName",
     "poll",
     "workers",
+    "store",
     "tokens",
     "limits",
     "stopAfter",

@@ -17,6 +17,7 @@ pub(crate) enum Place {
     Limit(usize),
     Poll,
     Workers,
+    Store,
     Tokens,
     /// An item of `tokens`.
     Item(usize),
@@ -47,6 +48,7 @@ impl fmt::Display for Place {
             },
             Place::Poll => write!(f, "poll"),
             Place::Workers => write!(f, "workers"),
+            Place::Store => write!(f, "store"),
             Place::Tokens => write!(f, "tokens"),
             Place::Item(i) => write!(f, "tokens[{i}]"),
             Place::Token(i) => write!(f, "tokens[{i}].token"),

@@ -119,12 +119,14 @@ fn config_at(
     let settings = settings(alloc, value)?;
     let poll = needed_limit(value, "poll", Place::Poll)?;
     let workers = needed_limit(value, "workers", Place::Workers)?;
+    let store = maybe_text(alloc, value, "store", Place::Store, Why::NoText)?;
     let (roles, stop_after, log) = serving(alloc, value)?;
     Ok(Config {
         listen,
         upstream,
         callbacks,
         settings,
+        store,
         poll,
         workers,
         roles,

@@ -14,7 +14,7 @@ use std::net::{IpAddr, SocketAddr};
 use std::test::Fail;
 
 /// The members of an example, each with its value.
-const MEMBERS: [(&str, &str); 11] = [
+const MEMBERS: [(&str, &str); 12] = [
     ("listen", "\"127.0.0.1:8080\""),
     ("upstream", "\"http://127.0.0.1:8081/openadr3\""),
     ("upstreamToken", "\"up\""),
@@ -22,6 +22,7 @@ const MEMBERS: [(&str, &str); 11] = [
     ("clientName", "\"aggregator\""),
     ("poll", "3600"),
     ("workers", "16"),
+    ("store", "\"node.db\""),
     (
         "tokens",
         "[{\"token\":\"t0\",\"role\":\"operator\"},{\"token\":\"u0\",\"role\":\"utility\"},{\"token\":\"v0\",\"role\":\"ven\",\"venID\":\"v1\"}]",
@@ -42,7 +43,7 @@ const NEEDED: [&str; 6] = [
 ];
 
 /// Members, what is told of them, and the values with which they are refused so.
-const WRONG: [(&str, &str, &[&str]); 33] = [
+const WRONG: [(&str, &str, &[&str]); 34] = [
     ("listen", "listen: not a text", &["8080"]),
     ("listen", "listen: missing", &["null"]),
     (
@@ -170,6 +171,7 @@ const WRONG: [(&str, &str, &[&str]); 33] = [
         "stopAfter: not a whole number from 1 to 4294967295",
         &["0", "-1", "4294967296", "\"1\""],
     ),
+    ("store", "store: not a text", &["7", "true", "[]"]),
     (
         "callbacks",
         "callbacks: not a list",
@@ -363,6 +365,13 @@ fn is_example_of_counts(config: &Config) -> bool {
         && config.stop_after.map(|most| most.get()) == Some(2)
 }
 
+fn is_example_of_store(config: &Config) -> bool {
+    config
+        .store
+        .as_ref()
+        .is_some_and(|path| path.as_str() == "node.db")
+}
+
 fn listens_there(config: &Config) -> bool {
     match "127.0.0.1:8080".parse::<SocketAddr>() {
         Ok(address) => config.listen == address,
@@ -394,6 +403,7 @@ fn is_example(config: &Config) -> bool {
         && is_example_of_counts(config)
         && is_example_of_roles(&config.roles)
         && config.log == LevelFilter::Info
+        && is_example_of_store(config)
 }
 
 #[test]
@@ -429,6 +439,7 @@ fn what_need_not_be_said(rt: HostRuntime) -> Result<(), Fail> {
     let alloc = rt.alloc();
     assert!(rt; read(alloc, "upstreamToken", None).is_ok());
     assert!(rt; read(alloc, "stopAfter", None)?.stop_after.is_none());
+    assert!(rt; read(alloc, "store", None)?.store.is_none());
     assert!(rt; read(alloc, "log", None)?.log == LevelFilter::Off);
     assert!(rt; read(alloc, "limits", None)?.settings.limits == Limits::largest());
     assert!(rt;

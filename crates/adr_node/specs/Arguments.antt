@@ -1,4 +1,4 @@
--- The program's arguments: `script`, and then limits as `NAME=NUMBER`; or `serve`, and the name of a configuration.
+-- The program's arguments: `script`, and then limits as `NAME=NUMBER`; `init`, and the name of a file; or `serve`, and that of a configuration.
 use Rattle.std.specs.Prelude.{ℕ, nat_le, List, [], ◌∷◌, length, codes, bytes_eq, Option, Some, None, option_and_then, if◌then◌else◌}
 use Rattle.adr_state.specs.Digits.{most_number, number_within}
 use Rattle.adr_state.specs.Limits.{largest, limits_set}
@@ -28,7 +28,7 @@ abbrev pub limits_of : List (List ℕ) → Option Limits
 limits_of [] = None
 limits_of (word ∷ arguments) = if bytes_eq word (codes "script") then limits_after largest arguments else None
 
--- the name of the configuration that the words behind the program's name serve by: `serve`, and that name
-abbrev pub config_of : List (List ℕ) → Option (List ℕ)
-config_of (word ∷ name ∷ []) = if bytes_eq word (codes "serve") then Some name else None
-config_of _ = None
+-- the name of the file behind a word, where the words behind the program's name are these two
+abbrev pub named_after : List ℕ → List (List ℕ) → Option (List ℕ)
+named_after word (first ∷ name ∷ []) = if bytes_eq first word then Some name else None
+named_after word _ = None

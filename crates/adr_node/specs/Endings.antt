@@ -42,7 +42,7 @@ fault_line Bind = codes "adr_node: bind fault"
 -- usage where the arguments are of another form, and that of a fault
 abbrev pub line_of : Result (Option ℕ) NodeFault → Option (List ℕ)
 line_of (Ok (Some n)) = None
-line_of (Ok None) = Some (codes "usage: adr_node script [NAME=NUMBER ..] | serve CONFIG")
+line_of (Ok None) = Some (codes "usage: adr_node script [NAME=NUMBER ..] | init FILE | serve CONFIG")
 line_of (Err fault) = Some (fault_line fault)
 
 -- the exit status: 0 after such a script or server, 2 where the arguments are of another form, and 1 after a fault

@@ -1,6 +1,6 @@
 //! The program's arguments.
 ghost use Rattle.std.specs.Prelude.{◌≡◌, map, option_map, string_bytes};
-ghost use Rattle.adr_node.specs.Arguments.{number_at, limit_set, limits_after, limits_of, config_of};
+ghost use Rattle.adr_node.specs.Arguments.{number_at, limit_set, limits_after, limits_of, named_after};
 
 use adr_machine::{MOST_NUMBER, number_within};
 use adr_state::Limits;
@@ -52,12 +52,13 @@ pub fn limits_of(words: &[String]) -> Option<Limits>
     limits_after(Limits::largest(), arguments)
 }
 
-/// The name of the file that the words behind the program's name serve by: `serve`, and that name.
-pub fn config_of(words: &[String]) -> Option<&str>
-    ensures { option_map (λ name. name.now) result ≡ config_of (map string_bytes words.now) }
+/// The name of the file behind a word, where the words behind the program's name are these two: `init` makes a file for a
+/// node, `serve` serves by a configuration.
+pub fn named_after<'a>(word: &str, words: &'a [String]) -> Option<&'a str>
+    ensures { option_map (λ name. name.now) result ≡ named_after word.now (map string_bytes words.now) }
 {
     match words {
-        [word, name] if word.as_str() == "serve" => Some(name.as_str()),
+        [first, name] if first.as_str() == word => Some(name.as_str()),
         _ => None,
     }
 }

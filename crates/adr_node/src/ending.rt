@@ -14,7 +14,8 @@ use std::process::ExitCode;
 pub enum NodeFault {
     /// The script ended early, or memory ran out before its first line or in a server.
     Script(ScriptFault),
-    /// The store refused to be opened, so no line or connection was taken.
+    /// The store refused to be opened, so no line or connection was taken; or it refused what was asked of it over a file,
+    /// which ends the node.
     Store,
     /// The configuration can't be read, or is none.
     BadConfig,
@@ -54,7 +55,7 @@ impl From<server::NodeFault> for NodeFault {
     }
 }
 
-/// The lines printed of a script that ran to its end, none of a server that stopped, nothing where the arguments are of
+/// The lines printed of a script that ran to its end, none of a file that was made or a server that stopped, nothing where the arguments are of
 /// another form, or why the program ended early.
 pub type Ran = Result<Option<u64>, NodeFault>;
 
@@ -79,7 +80,7 @@ pub fn line_of(ran: &Ran) -> Option<&'static str>
 {
     match *ran {
         Ok(Some(_)) => None,
-        Ok(None) => Some("usage: adr_node script [NAME=NUMBER ..] | serve CONFIG"),
+        Ok(None) => Some("usage: adr_node script [NAME=NUMBER ..] | init FILE | serve CONFIG"),
         Err(fault) => Some(fault_line(fault)),
     }
 }

@@ -1,9 +1,10 @@
-//! The node: `adr_node script [NAME=NUMBER ..]` answers the lines of a script on standard input, `adr_node serve CONFIG`
-//! serves over sockets by the configuration in that file.
+//! The node: `adr_node script [NAME=NUMBER ..]` answers the lines of a script on standard input, `adr_node init FILE` makes
+//! a file in which a node keeps its state, `adr_node serve CONFIG` serves over sockets by the configuration in that file.
 #![tactic(auto)]
 
 mod arguments;
 mod ending;
+mod file;
 mod script;
 mod serve;
 
@@ -37,7 +38,7 @@ fn words<R: Env + AllocGlobal>(rt: &R) -> Result<Option<Vec<String>>, ScriptFaul
 }
 
 /// Does what the words ask for, if they are of one of the program's forms.
-fn ran<R>(rt: R) -> Ran
+fn ran<R>(host: &HostRuntime, rt: R) -> Ran
 where
     R: Env
         + Files
@@ -58,8 +59,12 @@ where
     let Some(words) = words(&rt)? else {
         return Ok(None);
     };
-    if let Some(name) = arguments::config_of(&words) {
-        serve::run(rt, name)?;
+    if let Some(name) = arguments::named_after("init", &words) {
+        file::init(host, name)?;
+        return Ok(Some(0));
+    }
+    if let Some(name) = arguments::named_after("serve", &words) {
+        serve::run(host, rt, name)?;
         return Ok(Some(0));
     }
     match arguments::limits_of(&words) {
@@ -69,7 +74,7 @@ where
 }
 
 fn main(rt: HostRuntime) -> ExitCode {
-    let ran = ran(rt);
+    let ran = ran(&rt, rt);
     if let Some(line) = ending::line_of(&ran) {
         let _ = eprintln!(rt; "{line}");
     }

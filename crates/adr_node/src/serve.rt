@@ -4,11 +4,12 @@ ghost use Rattle.adr_config.specs.Configs.{IsConfig};
 ghost use Rattle.adr_node.specs.Endings.{IsOfReading};
 
 use crate::ending::NodeFault;
+use crate::file;
 use adr_config::{Config, ConfigFault, log_of, oddities};
 use adr_log::{Console, Writer};
 use adr_script::ScriptFault;
 use adr_server as server;
-use adr_server::{HostClock, serve_with};
+use adr_server::{HostClock, serve_over, serve_with};
 use log::{Level, LevelFilter, Log, Logged, error, log_enabled, warn};
 use std::fs;
 use std::fs::File;
@@ -79,19 +80,60 @@ fn tell_end<R: Log>(rt: &R, fault: server::NodeFault) {
     }
 }
 
-/// Serves by the configuration that the bytes are. The log is told what stands in it, and why serving ended early.
-fn serve<R, N>(rt: R, net: N, bytes: &[u8]) -> Result<(), NodeFault>
+/// Serves by a configuration over the file that it names. The log is told why serving ended early.
+fn serve_file<R, N>(
+    host: &HostRuntime,
+    rt: R,
+    net: N,
+    config: &Config,
+    path: &str,
+) -> Result<(), NodeFault>
+where
+    R: AllocGlobal + Threads + Wait + Clock + Log + Copy + Drop + Send + Sync + 'static,
+    N: Net<Listener = TcpListener, Stream = TcpStream> + Clock + Copy + Drop + Send + 'static,
+{
+    let Ok(settings) = config.settings.copy() else {
+        return Err(NodeFault::Script(ScriptFault::OutOfMemory));
+    };
+    let desk = file::desk(host, &rt, rt.alloc(), settings, path)?;
+    let clock = HostClock(rt);
+    told(
+        &rt,
+        serve_over(rt, net, rt.alloc(), config, clock, desk, true),
+    )
+}
+
+/// The same where all is kept in memory.
+fn serve_memory<R, N>(rt: R, net: N, config: &Config) -> Result<(), NodeFault>
+where
+    R: AllocGlobal + Threads + Wait + Clock + Log + Copy + Drop + Send + Sync + 'static,
+    N: Net<Listener = TcpListener, Stream = TcpStream> + Clock + Copy + Drop + Send + 'static,
+{
+    let clock = HostClock(rt);
+    told(&rt, serve_with(rt, net, rt.alloc(), config, clock))
+}
+
+/// How serving ended; the log is told why, where that was early.
+fn told<R: Log>(rt: &R, served: Result<(), server::NodeFault>) -> Result<(), NodeFault> {
+    if let Err(fault) = &served {
+        tell_end(rt, *fault);
+    }
+    Ok(served?)
+}
+
+/// Serves by the configuration that the bytes are, over the file that it names, or else in memory. The log is told what
+/// stands in it.
+fn serve<R, N>(host: &HostRuntime, rt: R, net: N, bytes: &[u8]) -> Result<(), NodeFault>
 where
     R: AllocGlobal + Threads + Wait + Clock + Log + Copy + Drop + Send + Sync + 'static,
     N: Net<Listener = TcpListener, Stream = TcpStream> + Clock + Copy + Drop + Send + 'static,
 {
     let config = config(&rt, bytes)?;
     tell_oddities(&rt, bytes);
-    let served = serve_with(rt, net, rt.alloc(), &config, HostClock(rt));
-    if let Err(fault) = &served {
-        tell_end(&rt, *fault);
+    match &config.store {
+        Some(path) => serve_file(host, rt, net, &config, path.as_str()),
+        None => serve_memory(rt, net, &config),
     }
-    Ok(served?)
 }
 
 /// Starts what writes the log, unless nothing is to be told.
@@ -115,7 +157,7 @@ fn hold_number<R: Files>(rt: &R) -> Option<R::File> {
 }
 
 /// Serves by the configuration in a file and the system's clock, until it is to stop.
-pub fn run<R>(rt: R, name: &str) -> Result<(), NodeFault>
+pub fn run<R>(host: &HostRuntime, rt: R, name: &str) -> Result<(), NodeFault>
 where
     R: Files
         + Eprint
@@ -142,7 +184,7 @@ where
         None => Console::quiet(rt),
     };
     // The handle that logs passes on no connecting within a time, so the plain one goes where the net is used.
-    let served = serve(Logged::new(rt, level, console), rt, &bytes);
+    let served = serve(host, Logged::new(rt, level, console), rt, &bytes);
     if let Some(writer) = writer {
         writer.end();
     }

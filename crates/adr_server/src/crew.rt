@@ -64,7 +64,7 @@ fn serve_next<D: Desk + Drop, L: Ledger, C: Clock, R: Wait + time::Clock + Log>(
     }
 }
 
-// Serves connections as they come, until no more can.
+// Serves connections as they come, until no more can, or the store's refusal ends the node.
 fn work<D: Desk + Drop, L: Ledger, C: Clock, R: Wait + time::Clock + Log>(
     rt: &R,
     office: &Office<D, L>,
@@ -77,6 +77,9 @@ fn work<D: Desk + Drop, L: Ledger, C: Clock, R: Wait + time::Clock + Log>(
     let mut routes = None;
     for stream in streams.iter(rt) {
         serve_next(rt, office, shared, clock, &mut routes, &mut pass, &stream);
+        if shared.is_halted() {
+            break;
+        }
     }
     pass
 }

@@ -19,4 +19,4 @@ mod traffic;
 pub use clock::HostClock;
 pub use gate::{SocketGate, StoppedGate};
 pub use paced::{Paced, Term};
-pub use server::{NodeFault, serve_with};
+pub use server::{NodeFault, serve_over, serve_with};

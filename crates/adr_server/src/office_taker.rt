@@ -10,19 +10,20 @@ use crate::notice_log::tell_asked;
 use crate::shared::Shared;
 use adr_book::{Office, Pass};
 use adr_http::{Asked, Routes, ServeFault, Taker, Witness, serve};
-use adr_lock::{Call, Clock, Steps, take_under_lock};
+use adr_lock::{Call, Clock, Steps, halts, take_under_lock};
 use adr_machine::{Answer, Command, Desk, Query};
 use adr_text::{Name, Refusal, Sink, Source};
 use log::Log;
 use std::sync::Wait;
 use std::sync::ledger::Ledger;
 
-/// An office, the name and the clock by which it answers, and the pass of who comes to it.
+/// An office, what all threads know, the clock by which it answers, and the pass of who comes to it. Where the store refuses
+/// what is asked, and that ends the node, it sets the flag.
 #[derive(Drop)]
 pub struct OfficeTaker<'a, D: Desk + Drop, L: Ledger, C: Clock, R: Wait + Log> {
     pub rt: &'a R,
     pub office: &'a Office<D, L>,
-    pub client: &'a Name,
+    pub shared: &'a Shared,
     pub clock: &'a C,
     pub pass: &'a mut Pass<L>,
 }
@@ -94,15 +95,17 @@ impl<'a, D: Desk + Drop, L: Ledger, C: Clock, R: Wait + Log> Taker for OfficeTak
         × AsksOffice before.office.now (C.tells before.clock.now) before.pass.now asked outcome after.pass.now
         × TakesOneAtMost before.pass.now after.pass.now };
 
-    ghost client = { λ t. t.client.now };
+    ghost client = { λ t. t.shared.now.client };
 
     fn take(&mut self, asked: &Asked) -> Result<Answer, Refusal> {
         tell_asked(self.rt, asked);
-        take_asked(self.rt, self.office, self.clock, self.pass, asked)
+        let outcome = take_asked(self.rt, self.office, self.clock, self.pass, asked);
+        let _ = halts(self.shared.halt(), &outcome);
+        outcome
     }
 
     fn client(&self) -> &Name {
-        self.client
+        &self.shared.client
     }
 }
 
@@ -115,8 +118,8 @@ fn serve_lent<D: Desk + Drop, L: Ledger, C: Clock, R: Wait + Log, S: Source, W: 
     sink: &mut W,
     witness: &mut V,
 ) -> Result<(), ServeFault>
-    ensures all { OnOk result (IfSome (S.left source.old) (λ bytes. ServesBy (AsksOffice taker.old.office.now (C.tells taker.old.clock.now)) taker.old.client.now shared.now.roles taker.old.pass.now bytes taker.new.pass.now (W.written sink.old) (W.written sink.new))) }
-    ensures part { result ≡ Err Write → IfSome (S.left source.old) (λ bytes. ServesPartBy (AsksOffice taker.old.office.now (C.tells taker.old.clock.now)) taker.old.client.now shared.now.roles taker.old.pass.now bytes taker.new.pass.now (W.written sink.old) (W.written sink.new)) }
+    ensures all { OnOk result (IfSome (S.left source.old) (λ bytes. ServesBy (AsksOffice taker.old.office.now (C.tells taker.old.clock.now)) taker.old.shared.now.client shared.now.roles taker.old.pass.now bytes taker.new.pass.now (W.written sink.old) (W.written sink.new))) }
+    ensures part { result ≡ Err Write → IfSome (S.left source.old) (λ bytes. ServesPartBy (AsksOffice taker.old.office.now (C.tells taker.old.clock.now)) taker.old.shared.now.client shared.now.roles taker.old.pass.now bytes taker.new.pass.now (W.written sink.old) (W.written sink.new)) }
     ensures nothing { result ≡ Err Read → (sink.new ≡ sink.old) × (taker.new.pass.now ≡ taker.old.pass.now) }
     ensures once { TakesOnce (AsksOffice taker.old.office.now (C.tells taker.old.clock.now)) taker.old.pass.now taker.new.pass.now }
     ensures one { TakesOneAtMost taker.old.pass.now taker.new.pass.now }
@@ -163,7 +166,7 @@ pub fn serve_shared<
     let mut taker = OfficeTaker {
         rt,
         office,
-        client: &shared.client,
+        shared,
         clock,
         pass,
     };

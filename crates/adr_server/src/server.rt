@@ -17,7 +17,7 @@ use adr_work::{JobQueue, Peers, Polled, ROOM, poll_loop, start, stop};
 use log::Log;
 use std::alloc::{AllocError, AllocFailed, Global};
 use std::marker::Brand;
-use std::net::{Net, TcpListener, TcpStream};
+use std::net::{Net, SocketAddr, TcpListener, TcpStream};
 use std::sync::atomic::{AtomicBool, Ordering};
 use std::sync::ledger::{Blank, Ledger};
 use std::sync::{Arc, Wait};
@@ -32,7 +32,7 @@ pub enum NodeFault {
     Bind,
     /// Memory ran out, or a thread could not be made.
     OutOfMemory,
-    /// The store could not be opened.
+    /// The store could not be opened, or, over a file, refused what was asked of it.
     Store,
 }
 
@@ -60,12 +60,13 @@ impl<T: Drop> From<AllocFailed<T>> for NodeFault {
 /// How long the node rests after it could not accept or serve a connection, in milliseconds.
 const REST: u64 = 10;
 
-// Accepts connections, so many where that is said, and puts each for the threads. One that memory is wanting for is
-// dropped, and then the node rests, as where none could be accepted.
+// Accepts connections, so many where that is said, or until the store's refusal ends the node, and puts each for the
+// threads. One that memory is wanting for is dropped, and then the node rests, as where none could be accepted.
 fn accept_each<L: Ledger, R: Wait + time::Clock + Log>(
     rt: &R,
     listener: &TcpListener,
     crew: &Crew<L>,
+    shared: &Shared,
     most: Option<u64>,
 ) {
     let mut accepted = 0u64;
@@ -74,7 +75,11 @@ fn accept_each<L: Ledger, R: Wait + time::Clock + Log>(
         if most == Some(accepted) {
             break;
         }
-        let is_put = match listener.accept() {
+        let came = listener.accept();
+        if shared.is_halted() {
+            break;
+        }
+        let is_put = match came {
             Ok((stream, _)) => {
                 accepted = accepted.saturating_add(1);
                 crew.put(rt, stream)
@@ -106,7 +111,7 @@ where
     R: Threads + Wait + time::Clock + Log + Copy + Send + 'static,
 {
     let crew = Crew::start(rt, alloc, served, passes)?;
-    accept_each(&rt, listener, &crew, most);
+    accept_each(&rt, listener, &crew, &served.shared, most);
     crew.stop(&rt);
     Ok(())
 }
@@ -129,7 +134,15 @@ where
     Ok(gates)
 }
 
-// Starts the rounds of polling.
+/// How long the node takes at most to connect to itself.
+const WAKING: u64 = 1_000;
+
+// Connects to the node itself, so that it looks up where it waits for a connection.
+fn wake<N: Net<Stream = TcpStream>>(net: &N, address: SocketAddr) {
+    let _ = TcpStream::connect_timeout(net, &address, Duration::from_millis(WAKING));
+}
+
+// Starts the rounds of polling. Where the store's refusal ends the node, the listener there is woken as they end.
 fn poller<D, L, C, R, N>(
     rt: R,
     net: N,
@@ -137,9 +150,10 @@ fn poller<D, L, C, R, N>(
     served: &Served<D, L, C>,
     peers: &Arc<Peers, Global>,
     stopped: &Arc<AtomicBool, Global>,
+    listens: SocketAddr,
     seconds: u64,
     pass: Pass<L>,
-) -> Result<JoinHandle<Pass<L>>, AllocError>
+) -> Result<JoinHandle<Polled<L>>, AllocError>
 where
     D: Desk + Drop + Send + 'static,
     L: Ledger + Send + Sync + 'static,
@@ -149,14 +163,15 @@ where
 {
     let office = Arc::try_clone(&served.office)?;
     let clock = Arc::try_clone(&served.clock)?;
+    let shared = Arc::try_clone(&served.shared)?;
     let stopped = Arc::try_clone(stopped)?;
     let gate = SocketGate::new(net, alloc, &peers.upstream)?;
     let gate = StoppedGate::new(gate, Arc::try_clone(&stopped)?);
     let peers = Arc::try_clone(peers)?;
-    let work = move || -> Pass<L> {
+    let work = move || -> Polled<L> {
         let mut gate = gate;
         let mut steps = Steps::new();
-        let Polled { pass, halted: _ } = poll_loop(
+        let polled = poll_loop(
             &rt,
             alloc,
             &*office,
@@ -165,17 +180,24 @@ where
             &*clock,
             seconds,
             &*stopped,
-            None,
+            shared.halt(),
             pass,
             &mut steps,
         );
-        pass
+        if shared.is_halted() {
+            wake(&net, listens);
+        }
+        polled
     };
     Ok(thread::spawn(&rt, work)?)
 }
 
 // What all threads that serve know.
-fn shared(alloc: Global, config: &Config) -> Result<Shared, AllocError>
+fn shared(
+    alloc: Global,
+    config: &Config,
+    halt: Option<Arc<AtomicBool, Global>>,
+) -> Result<Shared, AllocError>
     ensures roles { IfOk result (λ shared. shared.roles ≡ config.now.roles) }
     ensures client { IfOk result (λ shared. shared.client ≡ config.now.settings.client) }
 {
@@ -183,6 +205,7 @@ fn shared(alloc: Global, config: &Config) -> Result<Shared, AllocError>
         alloc,
         roles: config.roles.copy(alloc)?,
         client: config.settings.client.clone()?,
+        halt,
     })
 }
 
@@ -219,15 +242,30 @@ where
     }
 }
 
-fn serve_over<L, C, R, N>(
+// The same flag for one more who looks at it, where the store's refusal ends the node.
+fn halt_of(
+    halts: bool,
+    stopped: &Arc<AtomicBool, Global>,
+) -> Result<Option<Arc<AtomicBool, Global>>, AllocError> {
+    if halts {
+        Ok(Some(Arc::try_clone(stopped)?))
+    } else {
+        Ok(None)
+    }
+}
+
+fn serve_by<D, L, C, R, N>(
     rt: R,
     net: N,
     alloc: Global,
     blank: Blank,
     config: &Config,
     clock: C,
+    desk: D,
+    halts: bool,
 ) -> Result<(), NodeFault>
 where
+    D: Desk + Drop + Send + 'static,
     L: Ledger + Send + Sync + 'static,
     C: Clock + Drop + Send + Sync + 'static,
     R: Threads + Wait + time::Clock + Log + Copy + Drop + Send + 'static,
@@ -237,21 +275,16 @@ where
     requires count { blank.parts ≡ 2 * config.now.workers + 2 }
 {
     let count = config.workers.get();
-    let desk = desk(alloc, config)?;
-    let (office, mut passes) = Office::<MemoryDesk, L>::open(
-        alloc,
-        blank,
-        desk,
-        2 * count as u32 + 2,
-    )?;
+    let (office, mut passes) = Office::<D, L>::open(alloc, blank, desk, 2 * count as u32 + 2)?;
     let listener = bind(&rt, &net, config)?;
+    let stopped = Arc::new(alloc, AtomicBool::new(false))?;
+    let shared = shared(alloc, config, halt_of(halts, &stopped)?)?;
     let served = Served {
         office: Arc::new(alloc, office)?,
-        shared: Arc::new(alloc, shared(alloc, config)?)?,
+        shared: Arc::new(alloc, shared)?,
         clock: Arc::new(alloc, clock)?,
     };
     let peers = Arc::new(alloc, peers(config)?)?;
-    let stopped = Arc::new(alloc, AtomicBool::new(false))?;
     let Some(pass) = passes.pop() else {
         unreachable!()
     };
@@ -268,20 +301,30 @@ where
         &served.clock,
         sending,
         gates,
-        None,
+        halt_of(halts, &stopped)?,
     )?;
     tell_start(&rt, alloc, config, &listener);
+    let listens = listener.local_addr().unwrap_or(config.listen);
     let seconds = config.poll.get();
     let most = config.stop_after.map(|most| most.get());
-    let poller = poller(rt, net, alloc, &served, &peers, &stopped, seconds, pass);
+    let poller = poller(
+        rt, net, alloc, &served, &peers, &stopped, listens, seconds, pass,
+    );
     let ended = match &poller {
         Ok(_) => accept_all(rt, alloc, &served, &listener, passes, most),
         Err(_) => Err(AllocError),
     };
-    stopped.store(true, Ordering::SeqCst);
+    // Until here whoever the store refused set the flag, and nobody else.
+    let mut is_halted = stopped.swap(true, Ordering::SeqCst);
     let left = stop(&rt, alloc, workers);
     if let Ok(poller) = poller {
-        let _pass = poller.join(&rt);
+        is_halted |= poller.join(&rt).halted;
+    }
+    if let Ok(left) = &left {
+        is_halted |= left.halted;
+    }
+    if is_halted {
+        return Err(NodeFault::Store);
     }
     left?;
     ended?;
@@ -290,7 +333,37 @@ where
 }
 
 /// Serves by a configuration and a clock over a net: connections, on so many threads, rounds of polling the utility, and
-/// the outbox, until it has accepted as many connections as the configuration says, or for ever.
+/// the outbox, over a desk, until it has accepted as many connections as the configuration says, or for ever. Where
+/// `halts` says so, as over a file, the store's refusal of anything that is asked ends it.
+pub fn serve_over<D, C, R, N>(
+    rt: R,
+    net: N,
+    alloc: Global,
+    config: &Config,
+    clock: C,
+    desk: D,
+    halts: bool,
+) -> Result<(), NodeFault>
+where
+    D: Desk + Drop + Send + 'static,
+    C: Clock + Drop + Send + Sync + 'static,
+    R: Threads + Wait + time::Clock + Log + Copy + Drop + Send + 'static,
+    N: Net<Listener = TcpListener, Stream = TcpStream> + time::Clock + Copy + Drop + Send + 'static,
+{
+    let passes = 2 * config.workers.get() + 2;
+    serve_by::<D, Brand, C, R, N>(
+        rt,
+        net,
+        alloc,
+        Blank::new(passes),
+        config,
+        clock,
+        desk,
+        halts,
+    )
+}
+
+/// The same over a new desk in memory.
 pub fn serve_with<C, R, N>(
     rt: R,
     net: N,
@@ -303,6 +376,6 @@ where
     R: Threads + Wait + time::Clock + Log + Copy + Drop + Send + 'static,
     N: Net<Listener = TcpListener, Stream = TcpStream> + time::Clock + Copy + Drop + Send + 'static,
 {
-    let passes = 2 * config.workers.get() + 2;
-    serve_over::<Brand, C, R, N>(rt, net, alloc, Blank::new(passes), config, clock)
+    let desk = desk(alloc, config)?;
+    serve_over(rt, net, alloc, config, clock, desk, false)
 }

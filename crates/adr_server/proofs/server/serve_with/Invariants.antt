@@ -1,4 +1,0 @@
-use Rattle.adr_server.proofs.server.serve_with.Given as goal
-
-abbrev pub ghosts-serve_over : goal.ghosts-serve_over
-ghosts-serve_over g a = record { name = a.blank.name; parts = a.blank.parts }
