@@ -20,8 +20,8 @@ use std::sync::atomic::AtomicBool;
 use std::sync::ledger::Ledger;
 use std::time;
 
-/// Takes a job, and sends and settles it, or waits where there is none since so many were put. Answers whether the
-/// sender halts by it.
+/// Takes a job, and sends and settles it; where there is none, waits until one is put behind those that were seen. Answers
+/// whether the sender halts by it.
 #[tactic(auto, using(crate::proofs::Delivering::sends_none, crate::proofs::Delivering::sends_more, crate::proofs::Delivering::sends_same, crate::proofs::Halting::halts_none))]
 fn send_next<D: Desk + Drop, L: Ledger, G: Gate, C: Clock, R: Wait + time::Clock + Log>(
     rt: &R,
