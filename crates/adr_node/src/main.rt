@@ -5,11 +5,14 @@
 mod arguments;
 mod ending;
 mod file;
+mod keeper;
 mod script;
 mod serve;
 
 use adr_script::ScriptFault;
 use ending::Ran;
+use file::HostFiles;
+use keeper::Keeper;
 use std::env;
 use std::io::ErrorKind;
 use std::net::{Net, TcpListener, TcpStream};
@@ -38,8 +41,9 @@ fn words<R: Env + AllocGlobal>(rt: &R) -> Result<Option<Vec<String>>, ScriptFaul
 }
 
 /// Does what the words ask for, if they are of one of the program's forms.
-fn ran<R>(host: &HostRuntime, rt: R) -> Ran
+fn ran<K, R>(keeper: &K, rt: R) -> Ran
 where
+    K: Keeper,
     R: Env
         + Files
         + Eprint
@@ -60,11 +64,11 @@ where
         return Ok(None);
     };
     if let Some(name) = arguments::named_after("init", &words) {
-        file::init(host, name)?;
+        keeper.init(name)?;
         return Ok(Some(0));
     }
     if let Some(name) = arguments::named_after("serve", &words) {
-        serve::run(host, rt, name)?;
+        serve::run(keeper, rt, name)?;
         return Ok(Some(0));
     }
     match arguments::limits_of(&words) {
@@ -74,7 +78,7 @@ where
 }
 
 fn main(rt: HostRuntime) -> ExitCode {
-    let ran = ran(&rt, rt);
+    let ran = ran(&HostFiles { rt: &rt }, rt);
     if let Some(line) = ending::line_of(&ran) {
         let _ = eprintln!(rt; "{line}");
     }
