@@ -3,9 +3,9 @@ ghost use Rattle.std.specs.Prelude.{◌≡◌, false, IfOk, IfErr};
 ghost use Rattle.adr_node.specs.Endings.{IsOfOpening};
 
 use crate::ending::NodeFault;
-use crate::keeper::Keeper;
 use adr_desk::ready::prepare;
 use adr_desk::{SqlDesk, Start};
+use adr_file::FileDesk;
 use adr_script::ScriptFault;
 use adr_state::Settings;
 use adr_text::Refusal;
@@ -20,9 +20,6 @@ use std::rt::Files;
 
 /// A database in a file.
 type Database = Connection<FileStore<File>>;
-
-/// A desk over a file.
-type FileDesk = SqlDesk<FileStore<File>>;
 
 /// Nobody but the file's owner reads it or writes to it: it holds tokens.
 const MODE: u32 = 0o600;
@@ -67,6 +64,23 @@ fn fault_of(error: Error) -> NodeFault
     }
 }
 
+/// Makes a new file, in which the tables hold the empty state. A file that is there is refused, also one without bytes,
+/// and stays as it is.
+pub fn init(rt: &HostRuntime, path: &str) -> Result<(), NodeFault>
+    ensures { IfErr result IsOfOpening }
+{
+    make(rt, path)?;
+    let mut conn = match Connection::open(rt, path) {
+        Ok(conn) => conn,
+        Err(error) => return Err(fault_of(error)),
+    };
+    prepare(&mut conn, Start::New)?;
+    match conn.close() {
+        Ok(()) => Ok(()),
+        Err(error) => Err(fault_of(error)),
+    }
+}
+
 /// Why there is no file of that name that can be a node's, in words. Opening would make one, and the first page of a database
 /// in one without bytes.
 fn unfit(rt: &HostRuntime, path: &str) -> Option<&'static str> {
@@ -96,24 +110,9 @@ fn open<L: Log>(rt: &HostRuntime, log: &L, path: &str) -> Result<Database, NodeF
     }
 }
 
-// Makes a new file, in which the tables hold the empty state.
-fn init_at(rt: &HostRuntime, path: &str) -> Result<(), NodeFault>
-    ensures { IfErr result IsOfOpening }
-{
-    make(rt, path)?;
-    let mut conn = match Connection::open(rt, path) {
-        Ok(conn) => conn,
-        Err(error) => return Err(fault_of(error)),
-    };
-    prepare(&mut conn, Start::New)?;
-    match conn.close() {
-        Ok(()) => Ok(()),
-        Err(error) => Err(fault_of(error)),
-    }
-}
-
-// The desk over a file that was kept.
-fn kept_desk<L: Log>(
+/// The desk over a file that a node kept its state in, or in which `init` made the tables. Any other file is refused. The
+/// log is told why it is.
+pub fn desk<L: Log>(
     rt: &HostRuntime,
     log: &L,
     alloc: Global,
@@ -124,34 +123,10 @@ fn kept_desk<L: Log>(
 {
     let conn = open(rt, log, path)?;
     match SqlDesk::adopt(alloc, settings, conn, Start::Kept) {
-        Ok(desk) => Ok(desk),
+        Ok(desk) => Ok(FileDesk(desk)),
         Err(refusal) => {
             error!(log; target: "node", path; "store: {refusal}");
             Err(NodeFault::from(refusal))
         }
-    }
-}
-
-/// The system's files.
-#[derive(Clone, Copy)]
-pub struct HostFiles<'a> {
-    pub rt: &'a HostRuntime,
-}
-
-impl<'a> Keeper for HostFiles<'a> {
-    type Kept = FileDesk;
-
-    fn init(&self, path: &str) -> Result<(), NodeFault> {
-        init_at(self.rt, path)
-    }
-
-    fn open<L: Log>(
-        &self,
-        log: &L,
-        alloc: Global,
-        settings: Settings,
-        path: &str,
-    ) -> Result<FileDesk, NodeFault> {
-        kept_desk(self.rt, log, alloc, settings, path)
     }
 }

@@ -5,14 +5,11 @@
 mod arguments;
 mod ending;
 mod file;
-mod keeper;
 mod script;
 mod serve;
 
 use adr_script::ScriptFault;
 use ending::Ran;
-use file::HostFiles;
-use keeper::Keeper;
 use std::env;
 use std::io::ErrorKind;
 use std::net::{Net, TcpListener, TcpStream};
@@ -41,9 +38,8 @@ fn words<R: Env + AllocGlobal>(rt: &R) -> Result<Option<Vec<String>>, ScriptFaul
 }
 
 /// Does what the words ask for, if they are of one of the program's forms.
-fn ran<K, R>(keeper: &K, rt: R) -> Ran
+fn ran<R>(host: &HostRuntime, rt: R) -> Ran
 where
-    K: Keeper,
     R: Env
         + Files
         + Eprint
@@ -64,11 +60,11 @@ where
         return Ok(None);
     };
     if let Some(name) = arguments::named_after("init", &words) {
-        keeper.init(name)?;
+        file::init(host, name)?;
         return Ok(Some(0));
     }
     if let Some(name) = arguments::named_after("serve", &words) {
-        serve::run(keeper, rt, name)?;
+        serve::run(host, rt, name)?;
         return Ok(Some(0));
     }
     match arguments::limits_of(&words) {
@@ -78,7 +74,7 @@ where
 }
 
 fn main(rt: HostRuntime) -> ExitCode {
-    let ran = ran(&HostFiles { rt: &rt }, rt);
+    let ran = ran(&rt, rt);
     if let Some(line) = ending::line_of(&ran) {
         let _ = eprintln!(rt; "{line}");
     }

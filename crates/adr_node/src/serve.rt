@@ -4,7 +4,7 @@ ghost use Rattle.adr_config.specs.Configs.{IsConfig};
 ghost use Rattle.adr_node.specs.Endings.{IsOfReading};
 
 use crate::ending::NodeFault;
-use crate::keeper::Keeper;
+use crate::file;
 use adr_config::{Config, ConfigFault, log_of, oddities};
 use adr_log::{Console, Writer};
 use adr_script::ScriptFault;
@@ -81,22 +81,21 @@ fn tell_end<R: Log>(rt: &R, fault: server::NodeFault) {
 }
 
 /// Serves by a configuration over the file that it names. The log is told why serving ended early.
-fn serve_file<K, R, N>(
-    keeper: &K,
+fn serve_file<R, N>(
+    host: &HostRuntime,
     rt: R,
     net: N,
     config: &Config,
     path: &str,
 ) -> Result<(), NodeFault>
 where
-    K: Keeper,
     R: AllocGlobal + Threads + Wait + Clock + Log + Copy + Drop + Send + Sync + 'static,
     N: Net<Listener = TcpListener, Stream = TcpStream> + Clock + Copy + Drop + Send + 'static,
 {
     let Ok(settings) = config.settings.copy() else {
         return Err(NodeFault::Script(ScriptFault::OutOfMemory));
     };
-    let desk = keeper.open(&rt, rt.alloc(), settings, path)?;
+    let desk = file::desk(host, &rt, rt.alloc(), settings, path)?;
     let clock = HostClock(rt);
     told(
         &rt,
@@ -124,16 +123,15 @@ fn told<R: Log>(rt: &R, served: Result<(), server::NodeFault>) -> Result<(), Nod
 
 /// Serves by the configuration that the bytes are, over the file that it names, or else in memory. The log is told what
 /// stands in it.
-fn serve<K, R, N>(keeper: &K, rt: R, net: N, bytes: &[u8]) -> Result<(), NodeFault>
+fn serve<R, N>(host: &HostRuntime, rt: R, net: N, bytes: &[u8]) -> Result<(), NodeFault>
 where
-    K: Keeper,
     R: AllocGlobal + Threads + Wait + Clock + Log + Copy + Drop + Send + Sync + 'static,
     N: Net<Listener = TcpListener, Stream = TcpStream> + Clock + Copy + Drop + Send + 'static,
 {
     let config = config(&rt, bytes)?;
     tell_oddities(&rt, bytes);
     match &config.store {
-        Some(path) => serve_file(keeper, rt, net, &config, path.as_str()),
+        Some(path) => serve_file(host, rt, net, &config, path.as_str()),
         None => serve_memory(rt, net, &config),
     }
 }
@@ -159,9 +157,8 @@ fn hold_number<R: Files>(rt: &R) -> Option<R::File> {
 }
 
 /// Serves by the configuration in a file and the system's clock, until it is to stop.
-pub fn run<K, R>(keeper: &K, rt: R, name: &str) -> Result<(), NodeFault>
+pub fn run<R>(host: &HostRuntime, rt: R, name: &str) -> Result<(), NodeFault>
 where
-    K: Keeper,
     R: Files
         + Eprint
         + AllocGlobal
@@ -187,7 +184,7 @@ where
         None => Console::quiet(rt),
     };
     // The handle that logs passes on no connecting within a time, so the plain one goes where the net is used.
-    let served = serve(keeper, Logged::new(rt, level, console), rt, &bytes);
+    let served = serve(host, Logged::new(rt, level, console), rt, &bytes);
     if let Some(writer) = writer {
         writer.end();
     }
