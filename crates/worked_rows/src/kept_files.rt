@@ -134,7 +134,10 @@ fn run_case(alloc: Global, case: &Case, wanted: Wanted) -> Result<bool> {
     fill_and_commit(&mut conn, case)?;
     match conn.close_files() {
         Ok(files) => is_left_alone(alloc, wanted, files),
-        Err(_) => Ok(false),
+        Err((_, store)) => {
+            drop(store.close());
+            Ok(false)
+        }
     }
 }
 
