@@ -8,7 +8,6 @@ use adr_desk::{SqlDesk, Start};
 use adr_file::FileDesk;
 use adr_script::ScriptFault;
 use adr_state::Settings;
-use adr_text::Refusal;
 use log::{Log, error};
 use sqlite::{Connection, Error, ErrorCode, File, FileStore};
 use std::alloc::Global;
