@@ -1,0 +1,13 @@
+pub mod Common
+pub mod ListLemmas
+pub mod MapLemmas
+pub mod ViewLemmas
+pub mod SourceLemmas
+pub mod ChangeLemmas
+pub mod RefreshLemmas
+pub mod TurnLemmas
+pub mod StayLemmas
+pub mod ShareLemmas
+pub mod EditLemmas
+pub mod OtherLemmas
+pub mod TouchedLemmas
