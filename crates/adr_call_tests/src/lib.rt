@@ -13,6 +13,8 @@ mod objects;
 #[cfg(test)]
 mod scripts;
 #[cfg(test)]
+mod shown;
+#[cfg(test)]
 mod splits;
 #[cfg(test)]
 mod subscriptions;

@@ -1,0 +1,30 @@
+//! The texts that tables keep of what is shown.
+use adr_shown::{read_rolled_up, read_shown, write_rolled_up, write_shown};
+use std::test::Fail;
+
+const SHOWN: &str =
+    "{\"intervals\":[{\"id\":0,\"payloads\":[{\"type\":\"DISPATCH_SETPOINT\",\"values\":[1]}]}],\"objectType\":\"EVENT\",\"programID\":\"p1\",\"targets\":[{\"type\":\"VEN_NAME\",\"values\":[\"alpha\"]},{\"type\":\"RESOURCE_NAME\",\"values\":[\"a1\"]}]}";
+
+const ROLLED_UP: &str =
+    "{\"eventID\":\"e1\",\"programID\":\"p1\",\"resources\":[{\"intervals\":[{\"id\":0,\"payloads\":[{\"type\":\"USAGE\",\"values\":[24]},{\"type\":\"MISSING_RESOURCES\",\"values\":[\"a2\",\"b1\"]}]}],\"resourceName\":\"AGGREGATED_REPORT\"}]}";
+
+// An event as a resource is shown it, less its id and its stamps, and nothing else.
+#[test]
+fn shown_event_is_read_and_written_again(rt: HostRuntime) -> Result<(), Fail> {
+    let alloc = rt.alloc();
+    let event = read_shown(alloc, SHOWN)?;
+    assert!(rt; event.ven_name.as_str() == "alpha" && event.resource_name.as_str() == "a1");
+    assert!(rt; write_shown(alloc, &event)?.as_str() == SHOWN);
+    assert!(rt; read_shown(alloc, "{}").is_err() && read_shown(alloc, ROLLED_UP).is_err());
+    Ok(())
+}
+
+#[test]
+fn roll_up_is_read_and_written_again(rt: HostRuntime) -> Result<(), Fail> {
+    let alloc = rt.alloc();
+    let (event, rollup) = read_rolled_up(alloc, ROLLED_UP)?;
+    assert!(rt; event.as_str() == "e1" && rollup.intervals.len() == 1);
+    assert!(rt; write_rolled_up(alloc, &event, &rollup)?.as_str() == ROLLED_UP);
+    assert!(rt; read_rolled_up(alloc, "{}").is_err() && read_rolled_up(alloc, SHOWN).is_err());
+    Ok(())
+}

@@ -1,0 +1,7 @@
+pub mod ShownTexts
+pub mod RollupTexts
+pub mod ReadValues
+pub mod ReadShown
+pub mod ReadRollups
+pub mod Types
+pub mod Laws

@@ -1,0 +1,213 @@
+//! Shown events, as tables keep them.
+ghost use Rattle.std.specs.Prelude.{◌≡◌, [], ◌∷◌, codes, option_map, Ok, IfOk, OnOk, IfSome, IsTrue, string_bytes};
+ghost use Rattle.serde_json.specs.View.{view};
+ghost use Rattle.adr_text.specs.Faults.{Finds};
+ghost use Rattle.adr_text.specs.Fields.{is_i64, member_of, required};
+ghost use Rattle.adr_text.specs.Names.{is_name};
+ghost use Rattle.adr_text.specs.Objects.{whole_data};
+ghost use Rattle.adr_text.specs.Refusals.{Gives};
+ghost use Rattle.adr_written.specs.Objects.{payloads_data, shown_interval_data, targets_data};
+ghost use Rattle.adr_shown.specs.ShownTexts.{shown_data, shown_text};
+ghost use Rattle.adr_shown.specs.ReadValues.{target_in};
+ghost use Rattle.adr_shown.specs.ReadShown.{part_from, part_in, shown_interval_in, names_from, targets_in, shown_in, shown_of_text, shown_of};
+ghost use Rattle.adr_shown.specs.Types.{IsShownInterval, IsShown};
+
+use crate::kept::{Kept, array_of, intervals_of};
+use crate::read_fields::{amount, only_value, read_text};
+use crate::write_fields::{one_payload, put_text, valued};
+use adr_objects::{ShownEvent, ShownInterval};
+use adr_text::{
+    Fault, FromJson, Name, Refusal, ToJson, list, maybe, member, needed, put, put_maybe,
+};
+use serde_json::{Map, Value};
+use std::alloc::{AllocError, Global};
+
+// The payloads of an interval: the resource's part, where it has one.
+fn payloads(alloc: Global, part: &Option<i64>) -> Result<Value, AllocError>
+    ensures value { IfOk result (λ v. view v
+        ≡ payloads_data (codes "DISPATCH_SETPOINT") (option_map whole_data part.now)) }
+    ensures kept { OnOk result (IfSome part.now (λ amount. IsTrue (is_i64 amount))) }
+{
+    match part {
+        Some(part) => one_payload(alloc, "DISPATCH_SETPOINT", part.to_json(alloc)?),
+        None => Ok(Value::Array(Vec::new(alloc))),
+    }
+}
+
+// The part that a payload says.
+fn part_from(payload: &Value) -> Result<Option<i64>, Fault>
+    ensures { Finds (λ part. part) result (part_from (view payload.now ∷ [])) }
+{
+    Ok(Some(amount(payload, "DISPATCH_SETPOINT")?))
+}
+
+// The part that payloads say.
+#[tactic(auto, unfolding(crate::specs::ReadShown::part_in))]
+fn part(payloads: &Value) -> Result<Option<i64>, Fault>
+    ensures { Finds (λ part. part) result (part_in (view payloads.now)) }
+{
+    match list(payloads)? {
+        [] => Ok(None),
+        [payload] => part_from(payload),
+        _ => Err(Fault::BadShape),
+    }
+}
+
+// The part that an interval says.
+fn part_of(interval: &Value) -> Result<Option<i64>, Fault>
+    ensures { Finds (λ part. part) result
+        (required (member_of (codes "payloads") (view interval.now)) part_in) }
+{
+    match member(interval, "payloads") {
+        Some(found) => part(found),
+        None => Err(Fault::BadShape),
+    }
+}
+
+// An interval with the resource's part.
+impl Kept for ShownInterval {
+    ghost json = { shown_interval_data };
+
+    ghost keeps = { IsShownInterval };
+
+    ghost of = { shown_interval_in };
+
+    #[tactic(auto, unfolding(adr_written::specs::Objects::shown_interval_data))]
+    fn written(&self, alloc: Global) -> Result<Value, AllocError> {
+        let payloads = payloads(alloc, &self.part)?;
+        let mut members = Map::new(alloc);
+        put(&mut members, alloc, "id", &self.id)?;
+        put_maybe(&mut members, alloc, "intervalPeriod", &self.period)?;
+        serde_json::put(&mut members, alloc, "payloads", payloads)?;
+        Ok(Value::Object(members))
+    }
+
+    #[tactic(auto, unfolding(crate::specs::ReadShown::shown_interval_in))]
+    fn read(alloc: Global, value: &Value) -> Result<ShownInterval, Fault> {
+        let id = needed(alloc, value, "id")?;
+        let period = maybe(alloc, value, "intervalPeriod")?;
+        let part = part_of(value)?;
+        Ok(ShownInterval { id, period, part })
+    }
+}
+
+// Whose event it is: the ven's name, then the resource's.
+fn targets(alloc: Global, ven: &Name, resource: &Name) -> Result<Value, AllocError>
+    ensures value { IfOk result (λ v. view v ≡ targets_data ven.now resource.now) }
+    ensures ven { OnOk result (IsTrue (is_name ven.now)) }
+    ensures resource { OnOk result (IsTrue (is_name resource.now)) }
+{
+    let ven = valued(alloc, "VEN_NAME", ven.to_json(alloc)?)?;
+    let resource = valued(alloc, "RESOURCE_NAME", resource.to_json(alloc)?)?;
+    Ok(Value::Array(vec![in alloc; ven, resource]?))
+}
+
+// The name that a target of that type says.
+#[tactic(auto, unfolding(crate::specs::ReadValues::target_in))]
+fn target(alloc: Global, value: &Value, kind: &str) -> Result<Name, Fault>
+    ensures { Finds (λ name. name) result (target_in kind.now (view value.now)) }
+{
+    Name::from_json(alloc, only_value(value, kind)?)
+}
+
+// The names that two targets say.
+fn names_from(alloc: Global, ven: &Value, resource: &Value) -> Result<(Name, Name), Fault>
+    ensures { Finds (λ names. names) result
+        (names_from (view ven.now ∷ view resource.now ∷ [])) }
+{
+    let ven = target(alloc, ven, "VEN_NAME")?;
+    let resource = target(alloc, resource, "RESOURCE_NAME")?;
+    Ok((ven, resource))
+}
+
+// The ven's name and the resource's that targets say.
+#[tactic(auto, unfolding(crate::specs::ReadShown::targets_in))]
+fn names(alloc: Global, targets: &Value) -> Result<(Name, Name), Fault>
+    ensures { Finds (λ names. names) result (targets_in (view targets.now)) }
+{
+    match list(targets)? {
+        [ven, resource] => names_from(alloc, ven, resource),
+        _ => Err(Fault::BadShape),
+    }
+}
+
+// The names that an event says.
+fn names_of(alloc: Global, event: &Value) -> Result<(Name, Name), Fault>
+    ensures { Finds (λ names. names) result
+        (required (member_of (codes "targets") (view event.now)) targets_in) }
+{
+    match member(event, "targets") {
+        Some(found) => names(alloc, found),
+        None => Err(Fault::BadShape),
+    }
+}
+
+// A shown event as JSON.
+#[tactic(auto, unfolding(crate::specs::ShownTexts::shown_data))]
+fn event_value(alloc: Global, event: &ShownEvent) -> Result<Value, AllocError>
+    ensures value { IfOk result (λ v. view v ≡ shown_data event.now) }
+    ensures kept { OnOk result (IsShown event.now) }
+{
+    let intervals = array_of(alloc, event.intervals.as_slice())?;
+    let targets = targets(alloc, &event.ven_name, &event.resource_name)?;
+    let mut members = Map::new(alloc);
+    put_maybe(&mut members, alloc, "eventName", &event.name)?;
+    put_maybe(&mut members, alloc, "intervalPeriod", &event.period)?;
+    serde_json::put(&mut members, alloc, "intervals", intervals)?;
+    put_text(&mut members, alloc, "objectType", "EVENT")?;
+    put_maybe(&mut members, alloc, "priority", &event.priority)?;
+    put(&mut members, alloc, "programID", &event.program)?;
+    serde_json::put(&mut members, alloc, "targets", targets)?;
+    Ok(Value::Object(members))
+}
+
+// The shown event that a JSON value is.
+#[tactic(auto, unfolding(crate::specs::ReadShown::shown_in))]
+fn event_of(alloc: Global, value: &Value) -> Result<ShownEvent, Fault>
+    ensures { Finds (λ e. e) result (shown_in (view value.now)) }
+{
+    let program = needed(alloc, value, "programID")?;
+    let name = maybe(alloc, value, "eventName")?;
+    let priority = maybe(alloc, value, "priority")?;
+    let period = maybe(alloc, value, "intervalPeriod")?;
+    let intervals = intervals_of(alloc, value)?;
+    let names = names_of(alloc, value)?;
+    Ok(ShownEvent {
+        program,
+        name,
+        priority,
+        period,
+        intervals,
+        ven_name: names.0,
+        resource_name: names.1,
+    })
+}
+
+fn event(alloc: Global, text: &str) -> Result<ShownEvent, Fault>
+    ensures { Finds (λ e. e) result (shown_of_text text.now) }
+{
+    let value = read_text(alloc, text)?;
+    event_of(alloc, &value)
+}
+
+/// The text that is kept of a shown event: the event as it is written, without its id and its stamps.
+/// It reads back as the event.
+pub fn write_shown(alloc: Global, event: &ShownEvent) -> Result<String, AllocError>
+    ensures text { IfOk result (λ s. string_bytes s ≡ shown_text event.now) }
+    ensures reads_back { IfOk result (λ s. shown_of (string_bytes s) ≡ Ok event.now) }
+    ensures kept { OnOk result (IsShown event.now) }
+{
+    event_value(alloc, event)?.to_string(alloc)
+}
+
+/// The shown event whose text it is; `BadShape` for a text that is none.
+#[tactic(auto, unfolding(crate::specs::ReadShown::shown_of))]
+pub fn read_shown(alloc: Global, text: &str) -> Result<ShownEvent, Refusal>
+    ensures { Gives (λ e. e) result (shown_of text.now) }
+{
+    match event(alloc, text) {
+        Ok(event) => Ok(event),
+        Err(Fault::OutOfMemory) => Err(Refusal::OutOfMemory),
+        Err(_) => Err(Refusal::BadShape),
+    }
+}
