@@ -92,7 +92,7 @@ function draw(canvas, config) {
   charts.set(canvas, new Chart(canvas, { ...config, options: { animation: false, responsive: true, maintainAspectRatio: false, ...config.options } }));
 }
 
-const hue = (at) => `hsl(${(at * 137.5) % 360} 60% 50%)`;
+const hue = (at) => `hsl(${(210 + at * 137.5) % 360} 60% 50%)`;
 
 // ---- events
 
@@ -111,6 +111,8 @@ function upstream(shown) {
   return [...events.values()];
 }
 
+const many = (count, word) => `${count} ${word}${count === 1 ? "" : "s"}`;
+
 const sum = (values) => values.reduce((one, other) => one + (other ?? 0), 0);
 
 // The bars of an event: the parts with the greatest magnitude one by one, and the others as one.
@@ -121,8 +123,10 @@ function bars(event, rollup) {
   const rest = parts.slice(BARS);
   if (rest.length) sets.push({ label: `${rest.length} others`, data: event.intervals.map((_, at) => sum(rest.map((it) => it.values[at]))), backgroundColor: "gray", stack: "parts" });
   if (rollup) {
-    const used = new Map(rollup.resources[0].intervals.map((it) => [it.id, valueOf(it, "USAGE")]));
-    sets.push({ label: "usage reported", type: "line", data: event.intervals.map((it) => used.get(it.id) ?? null), borderColor: getComputedStyle(document.body).color, pointRadius: 5, stack: "usage" });
+    // (where nobody has reported, nothing was used is not what is known)
+    const used = new Map(missing(rollup).filter((it) => it.names.length < event.parts.length).map((it) => [it.id, it.used]));
+    const ink = getComputedStyle(document.body).color;
+    sets.push({ label: "usage reported", type: "line", order: -1, data: event.intervals.map((it) => used.get(it.id) ?? null), borderColor: ink, backgroundColor: ink, pointRadius: 6, stack: "usage" });
   }
   return { type: "bar", data: { labels: event.intervals.map((it) => `interval ${it.id}`), datasets: sets }, options: { scales: { x: { stacked: true }, y: { stacked: true } }, plugins: { legend: { display: sets.length <= 12 } } } };
 }
@@ -139,7 +143,7 @@ async function showEvent(event, room) {
   const lacks = rollup ? missing(rollup) : [];
   const facts = event.intervals.map((it, at) => {
     const of = lacks.find((one) => one.id === it.id);
-    return [it.id, totals[at], of ? of.used : "none", of ? of.names.length : event.parts.length, of ? of.names.slice(0, 20).join(", ") + (of.names.length > 20 ? " .." : "") : ""];
+    return [it.id, totals[at], of && of.names.length < event.parts.length ? of.used : "none", of ? of.names.length : event.parts.length, of ? of.names.slice(0, 20).join(", ") + (of.names.length > 20 ? " .." : "") : ""];
   });
   room.append(
     make("div", { className: "chart" }, canvas),
@@ -156,7 +160,7 @@ async function readEvents() {
     const rooms = programs.map((program) => {
       const own = events.filter((it) => it.program === program.id);
       const list = own.map((event) => {
-        const room = make("details", {}, make("summary", {}, `${event.name ?? event.id}: ${event.parts.length} resources, ${event.intervals.length} intervals${event.period ? `, from ${event.period.start}` : ""}`));
+        const room = make("details", {}, make("summary", {}, `${event.name ?? event.id}: ${many(event.parts.length, "resource")}, ${many(event.intervals.length, "interval")}${event.period ? `, from ${event.period.start}` : ""}`));
         room.addEventListener("toggle", () => { if (room.open && room.childElementCount === 1) attempt("", () => showEvent(event, room)); });
         return room;
       });
@@ -165,7 +169,7 @@ async function readEvents() {
     });
     by("list-events").replaceChildren(...(rooms.length ? rooms : [make("p", {}, "The utility has no program.")]));
     by("programs").replaceChildren(...programs.map((it) => make("option", { value: it.id })));
-    by("read-events").textContent = `${programs.length} programs, ${events.length} events, ${shown.length} parts; read at ${new Date().toLocaleTimeString()}`;
+    by("read-events").textContent = `${many(programs.length, "program")}, ${many(events.length, "event")}, ${many(shown.length, "part")}; read at ${new Date().toLocaleTimeString()}`;
   });
 }
 
@@ -240,7 +244,7 @@ async function readPortfolio() {
       return table(`${it.programName} (${it.id})`, ["Resource", "Share", "Of an order"], list.map((one) => [one.resourceID, one.share, `${((100 * one.share) / whole).toFixed(2)} %`]), [1, 2]);
     }));
     by("programs").replaceChildren(...programs.map((it) => make("option", { value: it.id })));
-    by("read-portfolio").textContent = `${vens.length} vens; read at ${new Date().toLocaleTimeString()}`;
+    by("read-portfolio").textContent = `${many(vens.length, "ven")}; read at ${new Date().toLocaleTimeString()}`;
   });
 }
 
@@ -276,7 +280,7 @@ async function lookAtOutbox() {
     looks.splice(0, looks.length - LOOKS);
     by("counts").replaceChildren(...Object.entries(COUNTS).map(([key, word]) => make("div", {}, make("dt", {}, word), make("dd", key === "givenUp" && counts[key] ? { className: "bad" } : {}, String(counts[key])))));
     const line = (key, at) => ({ label: COUNTS[key], data: looks.map((it) => it[key]), borderColor: hue(at), pointRadius: looks.length < 2 ? 4 : 0 });
-    draw(by("lines"), { type: "line", data: { labels: looks.map((it) => it.at.toLocaleTimeString()), datasets: ["pending", "sent", "givenUp", "dropped"].map(line) }, options: {} });
+    draw(by("lines"), { type: "line", data: { labels: looks.map((it) => it.at.toLocaleTimeString()), datasets: ["pending", "sent", "givenUp", "dropped"].map(line) }, options: { scales: { y: { beginAtZero: true, ticks: { precision: 0 } } } } });
   });
 }
 
@@ -292,6 +296,7 @@ function view(name) {
     tab.tabIndex = is ? 0 : -1;
     by(tab.getAttribute("aria-controls")).hidden = !is;
   }
+  tell("");
   clearInterval(clock);
   if (name === "outbox") clock = setInterval(lookAtOutbox, LOOK);
   return VIEWS[name]();
@@ -312,6 +317,7 @@ by("again-portfolio").addEventListener("click", readPortfolio);
 
 function enter(is) {
   by("main").hidden = document.querySelector("nav").hidden = by("forget").hidden = !is;
+  for (const it of document.querySelectorAll("#login label, #login button:not([type])")) it.hidden = is;
   if (is) view("events");
   else clearInterval(clock);
 }
