@@ -2,12 +2,16 @@
 use Rattle.std.proofs.Common.{ℕ, List, map, refl, sym}
 use Rattle.adr_db.proofs.Common.{nat_cmp, map-map, Mark, Ven, Resource, Report, Sub, Stamps, MirrorKey, ShareKey, ViewKey, id_cmp, mirror_cmp, share_cmp, view_cmp, with_table, keys_alone}
 use Rattle.adr_delivery.specs.declared.entry.Entry.{Entry}
-use Rattle.adr_db.specs.Rows.{mark_row, key_row, number_row, ven_row, ven_columns, resource_row, resource_columns, share_row, share_key_row, stamp_row, view_key_row, report_row, report_columns, sub_row, sub_columns, event_key_row, remote_row, entry_row, entry_columns}
+use Rattle.adr_db.specs.declared.shown.RollupColumns.{RollupColumns}
+use Rattle.adr_db.specs.declared.shown.ShownColumns.{ShownColumns}
+use Rattle.adr_db.specs.declared.shown.ShownKey.{ShownKey}
+use Rattle.adr_db.specs.ShownKeys.{shown_cmp}
+use Rattle.adr_db.specs.Rows.{mark_row, key_row, number_row, ven_row, ven_columns, resource_row, resource_columns, share_row, share_key_row, stamp_row, view_key_row, report_row, report_columns, sub_row, sub_columns, event_key_row, remote_row, entry_row, entry_columns, shown_row, shown_key_row, rollup_row, rollup_columns}
 use Rattle.adr_db.specs.Kept.{contents_of}
-use Rattle.adr_db.proofs.Rows.{mirror_codec, polled_codec, number_codec, share_codec, stamp_codec, remote_codec}
+use Rattle.adr_db.proofs.Rows.{mirror_codec, polled_codec, number_codec, share_codec, stamp_codec, remote_codec, shown_codec, text_codec}
 use Rattle.adr_sql.proofs.KeyedMaps.{KeyedMap}
 use Rattle.adr_db.specs.Tables.{schema}
-use Rattle.adr_db.proofs.Tables.{mirror, mirror_keyed, polled, polled_keyed, ven, ven_keyed, resource, resource_keyed, share, share_keyed, stamp, stamp_keyed, report, report_keyed, sub, sub_keyed, remote, remote_keyed, outbox, outbox_keyed}
+use Rattle.adr_db.proofs.Tables.{mirror, mirror_keyed, polled, polled_keyed, ven, ven_keyed, resource, resource_keyed, share, share_keyed, stamp, stamp_keyed, report, report_keyed, sub, sub_keyed, remote, remote_keyed, outbox, outbox_keyed, shown, shown_keyed, rollup, rollup_keyed}
 use Rattle.adr_db.proofs.KeptMaps.{KeptMap}
 
 abbrev pub mirror_map : KeptMap MirrorKey Mark
@@ -88,6 +92,24 @@ outbox_map = record {
   rows = record { at = 11; table = outbox; keyed = outbox_keyed; cmp = nat_cmp; row_of = entry_row; key_of = number_row; codec = number_codec entry_columns };
   entries = λ kept. kept.entries;
   with_entries = λ es kept. record kept { entries = es };
+  stored = λ kept. refl;
+  changed = λ es kept. refl;
+}
+
+abbrev pub shown_map : KeptMap ShownKey ShownColumns
+shown_map = record {
+  rows = record { at = 12; table = shown; keyed = shown_keyed; cmp = shown_cmp; row_of = shown_row; key_of = shown_key_row; codec = shown_codec };
+  entries = λ kept. kept.shown;
+  with_entries = λ es kept. record kept { shown = es };
+  stored = λ kept. refl;
+  changed = λ es kept. refl;
+}
+
+abbrev pub rollup_map : KeptMap (List ℕ) RollupColumns
+rollup_map = record {
+  rows = record { at = 13; table = rollup; keyed = rollup_keyed; cmp = id_cmp; row_of = rollup_row; key_of = event_key_row; codec = text_codec rollup_columns };
+  entries = λ kept. kept.rollups;
+  with_entries = λ es kept. record kept { rollups = es };
   stored = λ kept. refl;
   changed = λ es kept. refl;
 }

@@ -10,7 +10,7 @@ use Rattle.adr_objects.specs.Canonical.{canonical_text}
 use Rattle.adr_objects.specs.ReadBack.{canonical_of}
 use Rattle.adr_objects.specs.Bodies.{IsBody}
 use Rattle.adr_objects.proofs.RoundTrips.{canonical_reads_back}
-use Rattle.adr_db.specs.Rows.{number, mark_columns, mark_row, columns_row, live_from, mark_from}
+use Rattle.adr_db.specs.Rows.{number, mark_columns, known_columns, mark_row, columns_row, live_from, mark_from}
 use Rattle.adr_db.specs.declared.known.MarkColumns.{MarkColumns}
 use Rattle.adr_db.specs.Kept.{IsMark, AreMarks}
 use Rattle.adr_db.specs.Admitted.{ReadsEntry}
@@ -60,7 +60,7 @@ known_is_mark = entry_is mirror_cmp IsMark
 
 -- ---- as the tables are read back
 
-mark_again : (mark : Mark) → IsMark mark → mark_in (mark_columns mark) ≡ mark
+mark_again : (mark : Mark) → IsMark mark → mark_in (known_columns mark) ≡ mark
 mark_again (Live moment body) valid = ap (live_in moment) (canonical_reads_back body valid)
 mark_again Dead valid = refl
 

@@ -1,19 +1,19 @@
 -- The statements on the table `meta`.
 use Rattle.std.proofs.Common.{◌≡◌, ℕ, pos, List, [], ◌∷◌, codes, drop, Ok, refl, ap, subst, Ordering}
-use Rattle.adr_db.proofs.Common.{match_ordering, Null, Row, lit, col, end, State, Executes, Shown, understood, everything, with_row, Contents, rows_of_table, with_table, Holds, AreValues, IsUpsertText, upsert_runs, IsSelectText, whole_rows, read_runs, number_key}
+use Rattle.adr_db.proofs.Common.{match_ordering, Null, Row, lit, col, end, State, Executes, Shown, understood, everything, with_row, Contents, rows_of_table, with_table, Holds, AreValues, IsUpsertText, upsert_runs, IsSelectText, first_columns, first_runs, number_key}
 use Rattle.adr_db.specs.declared.meta.Meta.{Meta}
 use Rattle.adr_db.specs.declared.meta.TheConstants.{PUT, READ}
 use Rattle.adr_db.specs.Tables.{schema}
-use Rattle.adr_db.specs.Rows.{number, meta_row, meta_numbers}
+use Rattle.adr_db.specs.Rows.{number, meta_columns, meta_row, meta_numbers}
 use Rattle.adr_db.specs.Kept.{Kept, Keeps, contents_of, with_meta}
 use Rattle.adr_db.proofs.Tables.{meta, meta_keyed}
 
 puts : (m : Meta) → IsUpsertText schema 0 meta PUT.now (meta_numbers m) (meta_row m)
 unfolding understood everything
 puts m = record {
-  terms = lit Null ∷ lit (number 1) ∷ lit (number 0) ∷ col 0 0 ∷ col 0 1 ∷ col 0 2 ∷ col 0 3 ∷ col 0 4 ∷ col 0 5 ∷ col 0 6 ∷ col 0 7 ∷ [];
+  terms = lit Null ∷ lit (number 1) ∷ lit (number 0) ∷ col 0 0 ∷ col 0 1 ∷ col 0 2 ∷ col 0 3 ∷ col 0 4 ∷ col 0 5 ∷ col 0 6 ∷ col 0 7 ∷ lit (number 0) ∷ [];
   met = 8;
-  sets = col 0 10 ∷ col 0 11 ∷ col 0 12 ∷ col 0 13 ∷ col 0 14 ∷ col 0 15 ∷ col 0 16 ∷ col 0 17 ∷ col 0 18 ∷ col 0 19 ∷ [];
+  sets = col 0 10 ∷ col 0 11 ∷ col 0 12 ∷ col 0 13 ∷ col 0 14 ∷ col 0 15 ∷ col 0 16 ∷ col 0 17 ∷ col 0 18 ∷ col 0 19 ∷ col 0 20 ∷ [];
   command = refl;
   alone = (refl, refl);
   given = refl;
@@ -34,7 +34,7 @@ one_row m n = ap (λ (o : Ordering). match_ordering o (meta_row n ∷ with_row 1
 pub keeps_meta : (m : Meta) (kept : Kept) (old new : State) → Keeps kept old → Holds schema (with_table (contents_of kept) 0 (with_row 1 (meta_row m) (rows_of_table (contents_of kept) 0))) new → Keeps (with_meta m kept) new
 keeps_meta m kept old new was h = record { rows = subst (λ rows. Holds schema (with_table (contents_of kept) 0 rows) new) (one_row m kept.meta) h; marks = was.marks; subs = was.subs }
 
-pub reads : IsSelectText schema meta (whole_rows 0 meta) end READ.now
+pub reads : IsSelectText schema meta (first_columns 10 [] meta) end READ.now
 unfolding understood everything
 reads = record {
   names = codes "k" ∷ codes "version" ∷ codes "serial" ∷ codes "scan" ∷ codes "made" ∷ codes "sent" ∷ codes "given_up" ∷ codes "dropped" ∷ codes "pending" ∷ codes "keys" ∷ [];
@@ -50,5 +50,5 @@ reads = record {
   shows = refl;
 }
 
-pub meta_read : (old new : State) (rows : List Row) (kept : Kept) → Shown READ.now [] old new rows → Keeps kept old → rows ≡ meta_row kept.meta ∷ []
-meta_read old new rows kept h was = read_runs schema 0 0 meta meta_keyed.place READ.now [] reads refl old new rows (contents_of kept) h was.rows
+pub meta_read : (old new : State) (rows : List Row) (kept : Kept) → Shown READ.now [] old new rows → Keeps kept old → rows ≡ meta_columns kept.meta ∷ []
+meta_read old new rows kept h was = first_runs schema 0 10 [] meta meta_keyed.place READ.now [] reads old new rows (contents_of kept) h was.rows

@@ -9,11 +9,11 @@ use Rattle.adr_state.specs.declared.state.State.{State}
 use Rattle.adr_sql.proofs.Stored.{contents_again}
 use Rattle.adr_db.specs.declared.meta.Meta.{Meta}
 use Rattle.adr_db.specs.Tables.{schema}
-use Rattle.adr_db.specs.Rows.{key_row, ven_row, resource_row, share_row, stamp_row, remote_row, entry_row}
+use Rattle.adr_db.specs.Rows.{key_row, ven_row, resource_row, share_row, stamp_row, remote_row, entry_row, shown_row, rollup_row}
 use Rattle.adr_db.specs.Kept.{Kept, Keeps, first_meta, contents_of}
 use Rattle.adr_db.specs.Bases.{keys_polled, with_base, counting, Beside, kept_beside, beside_of, kept_of, HoldsState}
 use Rattle.adr_db.specs.Images.{base_of, image_kept}
-use Rattle.adr_db.specs.ReadBack.{key_in, numbered_in, ven_in, resource_in, share_in, stamped_in, remote_in, waiting_in, kept_from, kept_in, state_in}
+use Rattle.adr_db.specs.ReadBack.{key_in, numbered_in, ven_in, resource_in, share_in, stamped_in, remote_in, waiting_in, shown_in, rollup_in, kept_from, kept_in, state_in}
 use Rattle.adr_db.proofs.Rows.{meta_again, key_again, view_key_again}
 use Rattle.adr_db.proofs.Marks.{marks_again}
 use Rattle.adr_db.proofs.Subs.{subs_again}
@@ -42,6 +42,8 @@ from_rows kept texts up = λ i. record {
   stamps = map_back stamp_row stamped_in stamped_again kept.stamps i;
   remotes = map_back remote_row remote_in (λ _. refl) kept.remotes i;
   entries = map_back entry_row (numbered_in waiting_in) waiting_entry_again kept.entries i;
+  shown = map_back shown_row shown_in (λ _. refl) kept.shown i;
+  rollups = map_back rollup_row rollup_in (λ _. refl) kept.rollups i;
 }
 
 pub kept_again : (kept : Kept) (s : sql.State) → Keeps kept s → kept_in s.now.trees ≡ kept

@@ -11,7 +11,9 @@ use Rattle.adr_objects.specs.declared.report.ReportHead.{ReportHead}
 use Rattle.adr_objects.specs.declared.report.UsageInterval.{UsageInterval}
 use Rattle.adr_db.specs.declared.meta.Meta.{Meta}
 use Rattle.adr_db.specs.declared.report_columns.ReportColumns.{ReportColumns}
-use Rattle.adr_db.specs.Rows.{number, kind_number, meta_row, key_row, mark_columns, mark_row, number_row, ven_columns, resource_columns, share_key_row, share_row, stamps_columns, view_kind, view_id, view_number, view_key_row, stamp_row, participant_row, name_cell, head_columns, report_columns_row, usage_cell, interval_columns, owner_cell, flag_cell, event_key_row, remote_row}
+use Rattle.adr_db.specs.declared.shown.ShownKey.{ShownKey}
+use Rattle.adr_db.specs.ShownKeys.{shown_cmp}
+use Rattle.adr_db.specs.Rows.{number, kind_number, meta_columns, meta_row, key_row, mark_columns, known_columns, mark_row, number_row, ven_columns, resource_columns, share_key_row, share_row, stamps_columns, view_kind, view_id, view_number, view_key_row, stamp_row, participant_row, name_cell, head_columns, report_columns_row, usage_cell, interval_columns, owner_cell, flag_cell, event_key_row, remote_row, shown_key_row, shown_columns, shown_row}
 use Rattle.adr_db.specs.ReadBack.{number_of, text_of, integer_of, name_of, usage_of, owner_of, flag_of, kind_of, meta_in, key_in, ven_in, resource_in, share_key_in, view_key_in, stamps_in, head_in}
 
 -- ---- keys
@@ -43,8 +45,8 @@ key_same j k h =
 
 pub mirror_codec : IsCodec 2 mirror_cmp mark_row key_row
 mirror_codec = record {
-  named = λ k e. keys_as_rows k e.0 [] (mark_columns e.1);
-  keyed = λ k v e. keys_as_rows k e.0 (mark_columns v) (mark_columns e.1);
+  named = λ k e. keys_as_rows k e.0 [] (known_columns e.1);
+  keyed = λ k v e. keys_as_rows k e.0 (known_columns v) (known_columns e.1);
   same = λ j k v e. ap (λ key. mark_row (key, v)) (key_same j k e);
 }
 
@@ -100,14 +102,35 @@ share_codec = record {
   same = λ j k v e. ap (λ key. share_row (key, v)) (share_same j k e);
 }
 
+-- ---- what is shown
+
+shown_as_rows : (j k : ShownKey) (a b : Row) → key_order 2 (Text j.event ∷ number j.resource ∷ a) (Text k.event ∷ number k.resource ∷ b) ≡ shown_cmp j k
+shown_as_rows j k a b = text_number_key j.event k.event (pos j.resource) (pos k.resource) a b ∙ ap (ordering_then (id_cmp j.event k.event)) (numbers_as_values j.resource k.resource)
+
+shown_same : (j k : ShownKey) → shown_cmp k j ≡ Equal → k ≡ j
+shown_same j k h =
+    let both = both_tie (id_cmp k.event j.event) (nat_cmp k.resource j.resource) h in
+    ap₂ (λ (event : List ℕ) (resource : ℕ). record { event = event; resource = resource }) (text_same j.event k.event both.0) (number_same_is k.resource j.resource both.1)
+
+pub shown_codec : IsCodec 2 shown_cmp shown_row shown_key_row
+shown_codec = record {
+  named = λ k e. shown_as_rows k e.0 [] (shown_columns e.1);
+  keyed = λ k v e. shown_as_rows k e.0 (shown_columns v) (shown_columns e.1);
+  same = λ j k v e. ap (λ key. shown_row (key, v)) (shown_same j k e);
+}
+
+-- rows behind a text alone, as the utility's ids and roll-ups are
+pub text_codec : {V : Type 0} (columns : V → Row) → IsCodec {K = List ℕ} {V = V} 1 id_cmp (λ e. Text e.0 ∷ columns e.1) event_key_row
+text_codec columns = record {
+  named = λ k e. text_key k e.0 [] (columns e.1);
+  keyed = λ k v e. text_key k e.0 (columns v) (columns e.1);
+  same = λ j k v e. ap (λ event. Text event ∷ columns v) (text_same j k e);
+}
+
 -- ---- the outbox
 
 pub remote_codec : IsCodec 1 id_cmp remote_row event_key_row
-remote_codec = record {
-  named = λ k e. text_key k e.0 [] (Text e.1 ∷ []);
-  keyed = λ k v e. text_key k e.0 (Text v ∷ []) (Text e.1 ∷ []);
-  same = λ j k v e. ap (λ event. remote_row (event, v)) (text_same j k e);
-}
+remote_codec = text_codec (λ id. Text id ∷ [])
 
 -- ---- a row is read back
 
@@ -157,8 +180,8 @@ interval_again interval = ap (λ usage. record interval { usage = usage }) (usag
 stands_for_one : {X : Type 0} (row_of : X → Row) (back : Row → X) → ((x : X) → back (row_of x) ≡ x) → (a b : X) → row_of a ≡ row_of b → a ≡ b
 stands_for_one row_of back again a b h = sym (again a) ∙ ap back h ∙ again b
 
-pub meta_kept : (a b : Meta) → meta_row a ≡ meta_row b → a ≡ b
-meta_kept = stands_for_one meta_row meta_in meta_again
+pub meta_kept : (a b : Meta) → meta_columns a ≡ meta_columns b → a ≡ b
+meta_kept = stands_for_one meta_columns meta_in meta_again
 
 pub key_kept : (j k : MirrorKey) → key_row j ≡ key_row k → j ≡ k
 key_kept = stands_for_one key_row key_in key_again
@@ -228,7 +251,7 @@ stamp_codec = record {
 
 -- ---- a row as it is read
 
-pub cells_are : (key : MirrorKey) (mark : Mark) → cells 0 5 (mark_row (key, mark)) ≡ mark_row (key, mark)
+pub cells_are : (key : MirrorKey) (mark : Mark) → cells 0 6 (mark_row (key, mark)) ≡ mark_row (key, mark)
 cells_are key (Live moment body) = refl
 cells_are key Dead = refl
 

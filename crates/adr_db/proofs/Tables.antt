@@ -6,7 +6,7 @@ use Rattle.sqlite_value.specs.Keys.{joined}
 use Rattle.sqlite_catalog.specs.Listing.{automatic}
 use Rattle.adr_sql.proofs.References.{is_childless}
 use Rattle.adr_sql.proofs.Upserts.{IsKeyed}
-use Rattle.adr_db.specs.Tables.{schema, meta_table, mirror_table, polled_table, ven_table, resource_table, share_table, stamp_table, report_table, report_value_table, sub_table, remote_table, outbox_table}
+use Rattle.adr_db.specs.Tables.{schema, meta_table, mirror_table, polled_table, ven_table, resource_table, share_table, stamp_table, report_table, report_value_table, sub_table, remote_table, outbox_table, shown_table, rollup_table}
 
 -- each table with its tree
 abbrev pub meta : Table
@@ -16,34 +16,40 @@ abbrev pub mirror : Table
 mirror = record mirror_table { tree = 2 }
 
 abbrev pub polled : Table
-polled = record polled_table { tree = 4 }
+polled = record polled_table { tree = 5 }
 
 abbrev pub ven : Table
-ven = record ven_table { tree = 6 }
+ven = record ven_table { tree = 7 }
 
 abbrev pub resource : Table
-resource = record resource_table { tree = 9 }
+resource = record resource_table { tree = 10 }
 
 abbrev pub share : Table
-share = record share_table { tree = 12 }
+share = record share_table { tree = 14 }
 
 abbrev pub stamp : Table
-stamp = record stamp_table { tree = 15 }
+stamp = record stamp_table { tree = 17 }
 
 abbrev pub report : Table
-report = record report_table { tree = 17 }
+report = record report_table { tree = 19 }
 
 abbrev pub report_value : Table
-report_value = record report_value_table { tree = 22 }
+report_value = record report_value_table { tree = 24 }
 
 abbrev pub sub : Table
-sub = record sub_table { tree = 24 }
+sub = record sub_table { tree = 26 }
 
 abbrev pub remote : Table
-remote = record remote_table { tree = 27 }
+remote = record remote_table { tree = 29 }
 
 abbrev pub outbox : Table
-outbox = record outbox_table { tree = 29 }
+outbox = record outbox_table { tree = 31 }
+
+abbrev pub shown : Table
+shown = record shown_table { tree = 34 }
+
+abbrev pub rollup : Table
+rollup = record rollup_table { tree = 38 }
 
 -- each is written over by its key, also those to which references point
 pub meta_keyed : IsKeyed schema 0 meta
@@ -56,43 +62,51 @@ mirror_keyed = record { place = record { found = refl; alone = refl }; unfollowe
 
 pub polled_keyed : IsKeyed schema 2 polled
 unfolding same_name joined
-polled_keyed = record { place = record { found = refl; alone = refl }; unfollowed = refl; uncounted = refl; unnumbered = refl; index = automatic polled 0 polled.primary 5; aimed = refl; order = refl; places = refl }
+polled_keyed = record { place = record { found = refl; alone = refl }; unfollowed = refl; uncounted = refl; unnumbered = refl; index = automatic polled 0 polled.primary 6; aimed = refl; order = refl; places = refl }
 
 pub ven_keyed : IsKeyed schema 3 ven
 unfolding same_name joined
-ven_keyed = record { place = record { found = refl; alone = refl }; unfollowed = refl; uncounted = refl; unnumbered = refl; index = automatic ven 0 ven.primary 7; aimed = refl; order = refl; places = refl }
+ven_keyed = record { place = record { found = refl; alone = refl }; unfollowed = refl; uncounted = refl; unnumbered = refl; index = automatic ven 0 ven.primary 8; aimed = refl; order = refl; places = refl }
 
 pub resource_keyed : IsKeyed schema 4 resource
 unfolding same_name joined
-resource_keyed = record { place = record { found = refl; alone = refl }; unfollowed = refl; uncounted = refl; unnumbered = refl; index = automatic resource 0 resource.primary 10; aimed = refl; order = refl; places = refl }
+resource_keyed = record { place = record { found = refl; alone = refl }; unfollowed = refl; uncounted = refl; unnumbered = refl; index = automatic resource 0 resource.primary 11; aimed = refl; order = refl; places = refl }
 
 pub share_keyed : IsKeyed schema 5 share
 unfolding same_name joined
-share_keyed = record { place = record { found = refl; alone = refl }; unfollowed = refl; uncounted = refl; unnumbered = refl; index = automatic share 0 share.primary 13; aimed = refl; order = refl; places = refl }
+share_keyed = record { place = record { found = refl; alone = refl }; unfollowed = refl; uncounted = refl; unnumbered = refl; index = automatic share 0 share.primary 15; aimed = refl; order = refl; places = refl }
 
 pub stamp_keyed : IsKeyed schema 6 stamp
 unfolding same_name joined
-stamp_keyed = record { place = record { found = refl; alone = refl }; unfollowed = refl; uncounted = refl; unnumbered = refl; index = automatic stamp 0 stamp.primary 16; aimed = refl; order = refl; places = refl }
+stamp_keyed = record { place = record { found = refl; alone = refl }; unfollowed = refl; uncounted = refl; unnumbered = refl; index = automatic stamp 0 stamp.primary 18; aimed = refl; order = refl; places = refl }
 
 pub report_keyed : IsKeyed schema 7 report
 unfolding same_name joined
-report_keyed = record { place = record { found = refl; alone = refl }; unfollowed = refl; uncounted = refl; unnumbered = refl; index = automatic report 0 report.primary 18; aimed = refl; order = refl; places = refl }
+report_keyed = record { place = record { found = refl; alone = refl }; unfollowed = refl; uncounted = refl; unnumbered = refl; index = automatic report 0 report.primary 20; aimed = refl; order = refl; places = refl }
 
 pub report_value_keyed : IsKeyed schema 8 report_value
 unfolding same_name joined
-report_value_keyed = record { place = record { found = refl; alone = refl }; unfollowed = refl; uncounted = refl; unnumbered = refl; index = automatic report_value 0 report_value.primary 23; aimed = refl; order = refl; places = refl }
+report_value_keyed = record { place = record { found = refl; alone = refl }; unfollowed = refl; uncounted = refl; unnumbered = refl; index = automatic report_value 0 report_value.primary 25; aimed = refl; order = refl; places = refl }
 
 pub sub_keyed : IsKeyed schema 9 sub
 unfolding same_name joined
-sub_keyed = record { place = record { found = refl; alone = refl }; unfollowed = refl; uncounted = refl; unnumbered = refl; index = automatic sub 0 sub.primary 25; aimed = refl; order = refl; places = refl }
+sub_keyed = record { place = record { found = refl; alone = refl }; unfollowed = refl; uncounted = refl; unnumbered = refl; index = automatic sub 0 sub.primary 27; aimed = refl; order = refl; places = refl }
 
 pub remote_keyed : IsKeyed schema 10 remote
 unfolding same_name joined
-remote_keyed = record { place = record { found = refl; alone = refl }; unfollowed = refl; uncounted = refl; unnumbered = refl; index = automatic remote 0 remote.primary 28; aimed = refl; order = refl; places = refl }
+remote_keyed = record { place = record { found = refl; alone = refl }; unfollowed = refl; uncounted = refl; unnumbered = refl; index = automatic remote 0 remote.primary 30; aimed = refl; order = refl; places = refl }
 
 pub outbox_keyed : IsKeyed schema 11 outbox
 unfolding same_name joined
-outbox_keyed = record { place = record { found = refl; alone = refl }; unfollowed = refl; uncounted = refl; unnumbered = refl; index = automatic outbox 0 outbox.primary 30; aimed = refl; order = refl; places = refl }
+outbox_keyed = record { place = record { found = refl; alone = refl }; unfollowed = refl; uncounted = refl; unnumbered = refl; index = automatic outbox 0 outbox.primary 32; aimed = refl; order = refl; places = refl }
+
+pub shown_keyed : IsKeyed schema 12 shown
+unfolding same_name joined
+shown_keyed = record { place = record { found = refl; alone = refl }; unfollowed = refl; uncounted = refl; unnumbered = refl; index = automatic shown 0 shown.primary 35; aimed = refl; order = refl; places = refl }
+
+pub rollup_keyed : IsKeyed schema 13 rollup
+unfolding same_name joined
+rollup_keyed = record { place = record { found = refl; alone = refl }; unfollowed = refl; uncounted = refl; unnumbered = refl; index = automatic rollup 0 rollup.primary 39; aimed = refl; order = refl; places = refl }
 
 -- no reference points to these
 pub polled_childless : is_childless schema polled.tree ≡ true
@@ -122,3 +136,11 @@ remote_childless = refl
 pub outbox_childless : is_childless schema outbox.tree ≡ true
 unfolding same_name joined
 outbox_childless = refl
+
+pub shown_childless : is_childless schema shown.tree ≡ true
+unfolding same_name joined
+shown_childless = refl
+
+pub rollup_childless : is_childless schema rollup.tree ≡ true
+unfolding same_name joined
+rollup_childless = refl

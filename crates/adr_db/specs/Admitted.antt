@@ -39,8 +39,11 @@ use Rattle.adr_db.specs.declared.meta.Meta.{Meta}
 use Rattle.adr_db.specs.declared.known.MarkColumns.{MarkColumns}
 use Rattle.adr_db.specs.declared.outbox.RemoteRow.{RemoteRow}
 use Rattle.adr_db.specs.declared.report_columns.ReportColumns.{ReportColumns}
+use Rattle.adr_db.specs.declared.shown.RollupColumns.{RollupColumns}
+use Rattle.adr_db.specs.declared.shown.ShownColumns.{ShownColumns}
+use Rattle.adr_db.specs.declared.shown.ShownKey.{ShownKey}
 use Rattle.adr_sql.specs.Keys.{cells}
-use Rattle.adr_db.specs.Rows.{number, meta_row, key_row, columns_row, mark_from, ven_columns, resource_columns, share_key_row, view_key_row, stamps_columns, participant_row, report_columns_row, interval_columns, owner_cell, remote_row, address_of, entry_columns}
+use Rattle.adr_db.specs.Rows.{number, meta_columns, key_row, columns_row, mark_from, ven_columns, resource_columns, share_key_row, view_key_row, stamps_columns, participant_row, report_columns_row, interval_columns, owner_cell, remote_row, address_of, entry_columns, shown_key_row, shown_columns, rollup_columns}
 
 -- any number: nothing more is asked of it
 abbrev pub IsNumber : ℕ → Type 0
@@ -186,6 +189,18 @@ AreResources es = (length es ≤ 10_000) × AllByRecursion IsResourceEntry es
 abbrev pub IsShare : ShareKey × ℕ → Type 0
 IsShare e = IsShareKey e.0 × IsShareWeight e.1
 
+-- the key of a shown event: its upstream event is an object id
+abbrev pub IsShownKey : ShownKey → Type 0
+IsShownKey key = IsIdText key.event
+
+-- what is kept of a shown event: the program is an object id, the names have 1 to 128 bytes each, and the object is UTF-8
+abbrev pub AreShownColumns : ShownColumns → Type 0
+AreShownColumns c = IsIdText c.program × (IsNameText c.ven_name × (IsNameText c.resource_name × IsUtf8 c.body))
+
+-- what is kept of a roll-up: the program is an object id, and the object is UTF-8
+abbrev pub AreRollupColumns : RollupColumns → Type 0
+AreRollupColumns c = IsIdText c.program × IsUtf8 c.body
+
 -- ---- how a row reads
 
 -- the first column is this number
@@ -194,7 +209,7 @@ ReadsNumber row n = number n ≡ column row 0
 
 -- the row is that of these numbers of the node: 10 columns from the first on
 abbrev pub ReadsMeta : Row → Meta → Type 0
-ReadsMeta row meta = meta_row meta ≡ cells 0 10 row
+ReadsMeta row meta = meta_columns meta ≡ cells 0 10 row
 
 -- the first two columns are the kind and the id of this upstream key
 abbrev pub ReadsKey : Row → MirrorKey → Type 0
@@ -294,6 +309,18 @@ ReadsWaiting row entry = entry_columns entry ≡ cells 1 11 row
 -- the row reads as this entry behind its number
 abbrev pub ReadsWaitingEntry : Row → ℕ × Entry → Type 0
 ReadsWaitingEntry row e = ReadsNumber row e.0 × ReadsWaiting row e.1
+
+-- the first two columns are this key of a shown event
+abbrev pub ReadsShownKey : Row → ShownKey → Type 0
+ReadsShownKey row key = shown_key_row key ≡ cells 0 2 row
+
+-- the five columns behind the key are these of a shown event
+abbrev pub ReadsShownColumns : Row → ShownColumns → Type 0
+ReadsShownColumns row c = shown_columns c ≡ cells 2 5 row
+
+-- the two columns behind the upstream event are these of its roll-up
+abbrev pub ReadsRollupColumns : Row → RollupColumns → Type 0
+ReadsRollupColumns row c = rollup_columns c ≡ cells 1 2 row
 
 -- the first four columns are this participant: its number, its weight, its name and its ven's name
 abbrev pub ReadsParticipant : Row → Participant → Type 0

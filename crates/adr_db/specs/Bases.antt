@@ -11,6 +11,9 @@ use Rattle.adr_state.specs.declared.state.State.{State}
 use Rattle.adr_state.specs.declared.keys.MirrorKey.{MirrorKey}
 use Rattle.adr_state.specs.declared.keys.ViewKey.{ViewKey}
 use Rattle.adr_db.specs.declared.meta.Meta.{Meta}
+use Rattle.adr_db.specs.declared.shown.RollupColumns.{RollupColumns}
+use Rattle.adr_db.specs.declared.shown.ShownColumns.{ShownColumns}
+use Rattle.adr_db.specs.declared.shown.ShownKey.{ShownKey}
 use Rattle.adr_sql.specs.Contents.{StoresEach}
 use Rattle.adr_db.specs.Tables.{schema}
 use Rattle.adr_db.specs.Kept.{Kept, Keeps, AreMarks, AreSubs, contents_of, first_meta}
@@ -32,13 +35,15 @@ counting o numbers = record numbers { counts = o.counts; pending = length o.entr
 abbrev pub meta_of : State → Meta
 meta_of state = with_base (counting state.outbox first_meta) state.base
 
--- what stands beside the maps of a base: the numbers of the node, the stamps of what is shown, the utility's ids of reports, and the entries
--- that wait
+-- what stands beside the maps of a base: the numbers of the node, the stamps of what is shown, the utility's ids of reports, the entries that
+-- wait, and what is kept of shown events and of roll-ups
 pub record Beside : Type 0 where
   pub numbers : Meta
   pub stamps : List (ViewKey × Stamps)
   pub remotes : List (List ℕ × List ℕ)
   pub entries : List (ℕ × Entry)
+  pub shown : List (ShownKey × ShownColumns)
+  pub rollups : List (List ℕ × RollupColumns)
 
 -- the maps of a base, with what stands beside them
 abbrev pub kept_beside : Beside → Base → Kept
@@ -50,11 +55,13 @@ kept_beside beside base = record {
   stamps = beside.stamps;
   remotes = beside.remotes;
   entries = beside.entries;
+  shown = beside.shown;
+  rollups = beside.rollups;
 }
 
--- of a state: its own numbers, its stamps, and its outbox
+-- of a state: its own numbers, its stamps, and its outbox; of what is shown nothing is kept yet
 abbrev pub beside_of : State → Beside
-beside_of state = record { numbers = meta_of state; stamps = state.stamps; remotes = state.outbox.remotes; entries = state.outbox.entries }
+beside_of state = record { numbers = meta_of state; stamps = state.stamps; remotes = state.outbox.remotes; entries = state.outbox.entries; shown = []; rollups = [] }
 
 -- what is kept of a state: its numbers, the maps of its base, its stamps, and the entries and ids of its outbox
 abbrev pub kept_of : State → Kept

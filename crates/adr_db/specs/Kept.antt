@@ -29,10 +29,14 @@ use Rattle.adr_sql.specs.Contents.{Contents, Holds}
 use Rattle.adr_db.specs.declared.meta.Meta.{Meta}
 use Rattle.adr_db.specs.Tables.{schema}
 use Rattle.adr_db.specs.declared.report_columns.ReportColumns.{ReportColumns}
-use Rattle.adr_db.specs.Rows.{meta_row, mark_row, key_row, ven_row, resource_row, share_row, stamp_row, report_row, value_rows, sub_row, remote_row, entry_row}
+use Rattle.adr_db.specs.declared.shown.RollupColumns.{RollupColumns}
+use Rattle.adr_db.specs.declared.shown.ShownColumns.{ShownColumns}
+use Rattle.adr_db.specs.declared.shown.ShownKey.{ShownKey}
+use Rattle.adr_db.specs.ShownKeys.{shown_cmp}
+use Rattle.adr_db.specs.Rows.{meta_row, mark_row, key_row, ven_row, resource_row, share_row, stamp_row, report_row, value_rows, sub_row, remote_row, entry_row, shown_row, rollup_row}
 
 -- what is kept: the numbers of the node, the mirror in the order of its keys, the polled keys in that order, the portfolio, the stamps of
--- what is shown, the utility's ids of reports, and the entries that wait
+-- what is shown, the utility's ids of reports, the entries that wait, and what is kept of shown events and of roll-ups
 pub record Kept : Type 0 where
   pub meta : Meta
   pub mirror : List (MirrorKey × Mark)
@@ -41,6 +45,8 @@ pub record Kept : Type 0 where
   pub stamps : List (ViewKey × Stamps)
   pub remotes : List (List ℕ × List ℕ)
   pub entries : List (ℕ × Entry)
+  pub shown : List (ShownKey × ShownColumns)
+  pub rollups : List (List ℕ × RollupColumns)
 
 -- the rows of each table, in the order of the tables, with these in `report` and these in `report_value`: while a report is put, they are of no
 -- state
@@ -58,6 +64,8 @@ contents_with reports values kept =
     ∷ map sub_row kept.portfolio.subs
     ∷ map remote_row kept.remotes
     ∷ map entry_row kept.entries
+    ∷ map shown_row kept.shown
+    ∷ map rollup_row kept.rollups
     ∷ []
 
 -- the rows of each table: of `report` those of the reports, and of `report_value` those of the intervals of each
@@ -92,7 +100,7 @@ first_meta = record { serial = 0; scan = false; counts = no_counts; pending = 0;
 
 -- what is kept of a new node: its numbers, and nothing else
 abbrev pub nothing_kept : Kept
-nothing_kept = record { meta = first_meta; mirror = []; polled = []; portfolio = nobody; stamps = []; remotes = []; entries = [] }
+nothing_kept = record { meta = first_meta; mirror = []; polled = []; portfolio = nobody; stamps = []; remotes = []; entries = []; shown = []; rollups = [] }
 
 -- what is kept with these numbers of the node
 abbrev pub with_meta : Meta → Kept → Kept
@@ -121,6 +129,24 @@ with_stamps key stamps kept = record kept { stamps = insert_entry view_cmp kept.
 -- what is kept without the stamps of a key, where it had some
 abbrev pub without_stamps : ViewKey → Kept → Kept
 without_stamps key kept = record kept { stamps = remove_entry (is_at (view_cmp key)) kept.stamps }
+
+-- ---- what is shown
+
+-- what is kept with that of a shown event, in the place of what was kept of it
+abbrev pub with_shown : ShownKey → ShownColumns → Kept → Kept
+with_shown key columns kept = record kept { shown = insert_entry shown_cmp kept.shown key columns }
+
+-- what is kept without a shown event, where it was there
+abbrev pub without_shown : ShownKey → Kept → Kept
+without_shown key kept = record kept { shown = remove_entry (is_at (shown_cmp key)) kept.shown }
+
+-- what is kept with that of the roll-up of an upstream event, in the place of what was kept of it
+abbrev pub with_rollup : List ℕ → RollupColumns → Kept → Kept
+with_rollup event columns kept = record kept { rollups = insert_entry id_cmp kept.rollups event columns }
+
+-- what is kept without the roll-up of an upstream event, where there was one
+abbrev pub without_rollup : List ℕ → Kept → Kept
+without_rollup event kept = record kept { rollups = remove_entry (is_at (id_cmp event)) kept.rollups }
 
 -- ---- the outbox
 

@@ -1,5 +1,6 @@
 pub mod Tables
 pub mod Rows
+pub mod ShownKeys
 pub mod Kept
 pub mod Bases
 pub mod Images

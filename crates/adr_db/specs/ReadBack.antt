@@ -36,6 +36,9 @@ use Rattle.adr_sql.specs.Keys.{rows_at}
 use Rattle.adr_sql.specs.Contents.{Contents, rows_of_table}
 use Rattle.adr_sql.specs.Stored.{contents_in}
 use Rattle.adr_db.specs.declared.meta.Meta.{Meta}
+use Rattle.adr_db.specs.declared.shown.RollupColumns.{RollupColumns}
+use Rattle.adr_db.specs.declared.shown.ShownColumns.{ShownColumns}
+use Rattle.adr_db.specs.declared.shown.ShownKey.{ShownKey}
 use Rattle.adr_db.specs.Tables.{schema}
 use Rattle.adr_db.specs.Kept.{Kept}
 use Rattle.adr_db.specs.Images.{image_kept}
@@ -200,6 +203,18 @@ waiting_in columns = record {
   delivery = delivery_in (drop 6 columns);
 }
 
+-- a key of a shown event
+abbrev pub shown_key_in : Row → ShownKey
+shown_key_in row = record { event = text_of (column row 0); resource = number_of (column row 1) }
+
+-- a shown event behind its key
+abbrev pub shown_in : Row → ShownKey × ShownColumns
+shown_in row = (shown_key_in row, record { program = text_of (column row 2); ven = number_of (column row 3); ven_name = text_of (column row 4); resource_name = text_of (column row 5); body = text_of (column row 6) })
+
+-- a roll-up behind the upstream event
+abbrev pub rollup_in : Row → List ℕ × RollupColumns
+rollup_in row = (text_of (column row 0), record { program = text_of (column row 1); body = text_of (column row 2) })
+
 -- ---- all tables
 
 -- what is kept, of the rows of the tables in their order
@@ -218,6 +233,8 @@ kept_from all = record {
   stamps = map stamped_in (rows_of_table all 6);
   remotes = map remote_in (rows_of_table all 10);
   entries = map (numbered_in waiting_in) (rows_of_table all 11);
+  shown = map shown_in (rows_of_table all 12);
+  rollups = map rollup_in (rows_of_table all 13);
 }
 
 -- what trees keep

@@ -8,6 +8,7 @@ use Rattle.adr_text.specs.declared.refusal.Refusal.{Refusal}
 use Rattle.adr_text.specs.declared.refusal.Refusal.TheVariants.{OutOfMemory, Store}
 use Rattle.adr_text.specs.Moments.{moment_at}
 use Rattle.adr_objects.specs.declared.body.Body.{Body}
+use Rattle.adr_objects.specs.declared.body.Body.TheVariants as body
 use Rattle.adr_objects.specs.Canonical.{canonical_text}
 use Rattle.adr_objects.specs.ReadBack.{canonical_of}
 use Rattle.adr_objects.specs.declared.kind.Kind.{Kind}
@@ -39,6 +40,9 @@ use Rattle.adr_objects.specs.declared.report.UsageInterval.{UsageInterval}
 use Rattle.adr_db.specs.declared.meta.Meta.{Meta}
 use Rattle.adr_db.specs.declared.known.MarkColumns.{MarkColumns}
 use Rattle.adr_db.specs.declared.report_columns.ReportColumns.{ReportColumns}
+use Rattle.adr_db.specs.declared.shown.RollupColumns.{RollupColumns}
+use Rattle.adr_db.specs.declared.shown.ShownColumns.{ShownColumns}
+use Rattle.adr_db.specs.declared.shown.ShownKey.{ShownKey}
 use Rattle.adr_db.specs.Tables.{version}
 
 -- a number as an integer of SQL
@@ -55,8 +59,8 @@ counts_row c = number c.made ∷ number c.sent ∷ number c.given_up ∷ number 
 
 -- the numbers of the node, behind the key 1 and the version of the tables: the serial, whether a scan is open, the
 -- counts made, sent, given up and dropped, how many entries wait, and how many keys the mirror has
-abbrev pub meta_row : Meta → Row
-meta_row m =
+abbrev pub meta_columns : Meta → Row
+meta_columns m =
     number 1
     ∷ number version
     ∷ number m.serial
@@ -68,6 +72,10 @@ meta_row m =
     ∷ number m.pending
     ∷ number m.keys
     ∷ []
+
+-- the row of the numbers of the node: behind them 0, since no share is frozen
+abbrev pub meta_row : Meta → Row
+meta_row m = meta_columns m ++ number 0 ∷ []
 
 -- the numbers of the node alone, as `meta_row` has them behind the key and the version
 abbrev pub meta_numbers : Meta → Row
@@ -96,9 +104,22 @@ abbrev pub mark_columns : Mark → Row
 mark_columns (Live moment body) = number 1 ∷ number moment ∷ Text (canonical_text body) ∷ []
 mark_columns Dead = number 2 ∷ number 0 ∷ Text [] ∷ []
 
--- a key with its mark
+-- the program of a live event
+abbrev pub program_of : Mark → Option (List ℕ)
+program_of (Live moment (body.Event event)) = Some event.program
+program_of mark = None
+
+-- the program of a live event, and NULL of any other mark
+abbrev pub program_cell : Mark → Value
+program_cell mark = or_null Text (program_of mark)
+
+-- a mark, and the program of a live event
+abbrev pub known_columns : Mark → Row
+known_columns mark = mark_columns mark ++ program_cell mark ∷ []
+
+-- a key with its mark, and the program of a live event
 abbrev pub mark_row : MirrorKey × Mark → Row
-mark_row e = key_row e.0 ++ mark_columns e.1
+mark_row e = key_row e.0 ++ known_columns e.1
 
 -- ---- vens, resources and shares
 
@@ -263,6 +284,28 @@ view_key_row key = number (view_kind key) ∷ Text (view_id key) ∷ number (vie
 -- the stamps of a key behind it
 abbrev pub stamp_row : ViewKey × Stamps → Row
 stamp_row e = view_key_row e.0 ++ stamps_columns e.1
+
+-- ---- what is shown
+
+-- an upstream event and a resource, as the key of a row of `shown`
+abbrev pub shown_key_row : ShownKey → Row
+shown_key_row key = Text key.event ∷ number key.resource ∷ []
+
+-- what is kept of a shown event: the program, the ven with its name, the name of the resource, and the object
+abbrev pub shown_columns : ShownColumns → Row
+shown_columns c = Text c.program ∷ number c.ven ∷ Text c.ven_name ∷ Text c.resource_name ∷ Text c.body ∷ []
+
+-- a shown event behind its key
+abbrev pub shown_row : ShownKey × ShownColumns → Row
+shown_row e = shown_key_row e.0 ++ shown_columns e.1
+
+-- what is kept of a roll-up: the program, and the object
+abbrev pub rollup_columns : RollupColumns → Row
+rollup_columns c = Text c.program ∷ Text c.body ∷ []
+
+-- a roll-up behind the upstream event
+abbrev pub rollup_row : List ℕ × RollupColumns → Row
+rollup_row e = Text e.0 ∷ rollup_columns e.1
 
 -- ---- participants
 

@@ -23,9 +23,10 @@ meta_table =
     ∷ column (codes "dropped") Integer
     ∷ column (codes "pending") Integer
     ∷ column (codes "keys") Integer
+    ∷ column (codes "frozen") Integer
     ∷ []) ((1 ∷ []) ∷ []) (1 ∷ []) []
 
--- what is known of each upstream key
+-- what is known of each upstream key, and of a live event its program: the second unique key is there to find the live events of a program
 abbrev pub mirror_table : Table
 mirror_table =
     table (codes "mirror") (column (codes "kind") Integer
@@ -33,7 +34,8 @@ mirror_table =
     ∷ column (codes "state") Integer
     ∷ column (codes "moment") Integer
     ∷ column (codes "body") Text
-    ∷ []) ((1 ∷ 2 ∷ []) ∷ []) (1 ∷ 2 ∷ []) []
+    ∷ nullable_column (codes "program") Text
+    ∷ []) ((1 ∷ 2 ∷ []) ∷ (6 ∷ 1 ∷ 2 ∷ []) ∷ []) (1 ∷ 2 ∷ []) []
 
 -- the keys that were polled since the scan began
 abbrev pub polled_table : Table
@@ -48,7 +50,7 @@ ven_table =
     ∷ column (codes "modified") Integer
     ∷ []) ((1 ∷ []) ∷ (2 ∷ []) ∷ []) (1 ∷ []) []
 
--- their resources, which go with their ven
+-- their resources, which go with their ven: the last unique key is there to find them by it
 abbrev pub resource_table : Table
 resource_table =
     table (codes "resource") (column (codes "id") Integer
@@ -56,7 +58,7 @@ resource_table =
     ∷ column (codes "name") Text
     ∷ column (codes "created") Integer
     ∷ column (codes "modified") Integer
-    ∷ []) ((1 ∷ []) ∷ (3 ∷ []) ∷ []) (1 ∷ []) (cascades_to 2 (codes "ven") (codes "id") ∷ [])
+    ∷ []) ((1 ∷ []) ∷ (3 ∷ []) ∷ (2 ∷ 1 ∷ []) ∷ []) (1 ∷ []) (cascades_to 2 (codes "ven") (codes "id") ∷ [])
 
 -- a weight is from 1 to 1,000,000
 abbrev pub weight_check : Term
@@ -136,8 +138,29 @@ outbox_table =
     ∷ column (codes "due") Integer
     ∷ []) ((1 ∷ []) ∷ (2 ∷ 1 ∷ []) ∷ []) (1 ∷ []) []
 
--- `meta`, `mirror`, `polled`, `ven`, `resource`, `share`, `stamp`, `report`, `report_value`, `sub`, `remote` and
--- `outbox`, in this order
+-- what the resources are shown of upstream events: the program, the ven and the names, and the object without its id, its client and its stamps. No
+-- reference holds it, so that what goes is found by who compares; the further unique keys are there to find what a ven, and of a program, is shown
+abbrev pub shown_table : Table
+shown_table =
+    table (codes "shown") (column (codes "event") Text
+    ∷ column (codes "resource") Integer
+    ∷ column (codes "program") Text
+    ∷ column (codes "ven") Integer
+    ∷ column (codes "ven_name") Text
+    ∷ column (codes "resource_name") Text
+    ∷ column (codes "body") Text
+    ∷ []) ((1 ∷ 2 ∷ []) ∷ (4 ∷ 1 ∷ 2 ∷ []) ∷ (3 ∷ 1 ∷ 2 ∷ []) ∷ []) (1 ∷ 2 ∷ []) []
+
+-- the roll-ups of upstream events: the program, and the object without its client
+abbrev pub rollup_table : Table
+rollup_table =
+    table (codes "rollup") (column (codes "event") Text
+    ∷ column (codes "program") Text
+    ∷ column (codes "body") Text
+    ∷ []) ((1 ∷ []) ∷ []) (1 ∷ []) []
+
+-- `meta`, `mirror`, `polled`, `ven`, `resource`, `share`, `stamp`, `report`, `report_value`, `sub`, `remote`, `outbox`,
+-- `shown` and `rollup`, in this order
 abbrev pub tables : List Table
 tables =
     meta_table
@@ -152,6 +175,8 @@ tables =
     ∷ sub_table
     ∷ remote_table
     ∷ outbox_table
+    ∷ shown_table
+    ∷ rollup_table
     ∷ []
 
 -- the schema after these tables were made, one after another, from an empty database

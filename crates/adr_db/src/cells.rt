@@ -1,6 +1,6 @@
 //! Columns of a row as the values that they stand for. What no call on the tables wrote is the store's
 //! refusal.
-ghost use Rattle.std.specs.Prelude.{◌≡◌, ◌<◌, ◌+◌, pos, Bool, [], ◌∷◌, IfOk, IfErr, IsTrue};
+ghost use Rattle.std.specs.Prelude.{◌≡◌, ◌<◌, ◌+◌, pos, Bool, [], ◌∷◌, IfOk, IfErr, IsTrue, IsUtf8};
 ghost use Rattle.sqlite_sql.specs.Ops.{is_null};
 ghost use Rattle.sqlite.specs.Order.{column};
 ghost use Rattle.sqlite_value.specs.Value.{owned};
@@ -18,6 +18,7 @@ use crate::reading::FromRow;
 use crate::statement::refusal_of;
 use adr_objects::{Kind, Number, Stamps};
 use adr_state::{MirrorKey, Weight};
+use adr_subscription::FreeText;
 use adr_text::{Moment, Name, ObjectId, Refusal};
 use sqlite::Row;
 use sqlite::types::{FromSql, ValueRef};
@@ -109,6 +110,15 @@ pub(crate) fn name_in(alloc: Global, row: &Row, at: usize) -> Result<Name, Refus
 {
     let text: String = column(row, at)?;
     as_stored(Name::new(alloc, text.as_str()))
+}
+
+/// The text in a column, whatever it says.
+pub(crate) fn text_in(alloc: Global, row: &Row, at: usize) -> Result<FreeText, Refusal>
+    ensures text { IfOk result (λ text. column row.now at ≡ Text text) }
+    ensures refused { IfErr result (CannotRead IsUtf8 (λ value text. value ≡ Text text) (column row.now at)) }
+{
+    let text: String = column(row, at)?;
+    Ok(FreeText::new(alloc, text.as_str())?)
 }
 
 /// The moment in a column.

@@ -1,5 +1,5 @@
 //! How entries that wait, and the utility's ids of reports, read from their rows.
-ghost use Rattle.std.specs.Prelude.{◌≡◌, ◌≤◌, ◌∷◌, is_some, Option, IfOk, IfErr, IfSome, Some, ℕ, IsUtf8};
+ghost use Rattle.std.specs.Prelude.{◌≡◌, ◌≤◌, ◌∷◌, is_some, Option, IfOk, IfErr, IfSome, Some, ℕ};
 ghost use Rattle.sqlite.specs.Order.{column};
 ghost use Rattle.sqlite.specs.Values.{or_null};
 ghost use Rattle.sqlite.specs.declared.types.Value.TheVariants.{Text};
@@ -12,7 +12,7 @@ ghost use Rattle.adr_db.specs.Rows.{number, operation_number, lease_end, deliver
 ghost use Rattle.adr_db.specs.Refusals.{CannotRead};
 ghost use Rattle.adr_db.specs.Admitted.{IsIdText, IsTokenText, IsAddressee, IsDelivery, IsRemote, IsWaiting, AreParts, ReadsAddressee, ReadsRemote, ReadsWaiting};
 
-use crate::cells::{as_stored, column, flag_in, id_in, is_null, moment_in};
+use crate::cells::{as_stored, column, flag_in, id_in, is_null, moment_in, text_in};
 use crate::reading::FromRow;
 use adr_delivery::{Addressee, Delivery, Entry, Failures};
 use adr_objects::Number;
@@ -82,15 +82,6 @@ fn token_in(alloc: Global, row: &Row) -> Result<Option<BearerToken>, Refusal>
     }
     let text: String = column(row, 5)?;
     Ok(Some(token_at(alloc, text.as_str())?))
-}
-
-// The text in a column, whatever it says.
-fn text_in(alloc: Global, row: &Row, at: usize) -> Result<FreeText, Refusal>
-    ensures text { IfOk result (λ text. column row.now at ≡ Text text) }
-    ensures refused { IfErr result (CannotRead IsUtf8 (λ value text. value ≡ Text text) (column row.now at)) }
-{
-    let text: String = column(row, at)?;
-    Ok(FreeText::new(alloc, text.as_str())?)
 }
 
 // To the utility, where there is neither a subscription nor an address nor a token.

@@ -19,10 +19,10 @@ use adr_text::Refusal;
 use sqlite::{Alter, Transaction};
 
 const META: &str =
-    "CREATE TABLE meta (k INT NOT NULL, version INT NOT NULL, serial INT NOT NULL, scan INT NOT NULL, made INT NOT NULL, sent INT NOT NULL, given_up INT NOT NULL, dropped INT NOT NULL, pending INT NOT NULL, keys INT NOT NULL, PRIMARY KEY (k)) STRICT";
+    "CREATE TABLE meta (k INT NOT NULL, version INT NOT NULL, serial INT NOT NULL, scan INT NOT NULL, made INT NOT NULL, sent INT NOT NULL, given_up INT NOT NULL, dropped INT NOT NULL, pending INT NOT NULL, keys INT NOT NULL, frozen INT NOT NULL, PRIMARY KEY (k)) STRICT";
 
 const MIRROR: &str =
-    "CREATE TABLE mirror (kind INT NOT NULL, id TEXT NOT NULL, state INT NOT NULL, moment INT NOT NULL, body TEXT NOT NULL, PRIMARY KEY (kind, id)) STRICT";
+    "CREATE TABLE mirror (kind INT NOT NULL, id TEXT NOT NULL, state INT NOT NULL, moment INT NOT NULL, body TEXT NOT NULL, program TEXT, PRIMARY KEY (kind, id), UNIQUE (program, kind, id)) STRICT";
 
 const POLLED: &str =
     "CREATE TABLE polled (kind INT NOT NULL, id TEXT NOT NULL, PRIMARY KEY (kind, id)) STRICT";
@@ -31,7 +31,7 @@ const VEN: &str =
     "CREATE TABLE ven (id INT NOT NULL, name TEXT NOT NULL, created INT NOT NULL, modified INT NOT NULL, PRIMARY KEY (id), UNIQUE (name)) STRICT";
 
 const RESOURCE: &str =
-    "CREATE TABLE resource (id INT NOT NULL, ven INT NOT NULL REFERENCES ven (id) ON DELETE CASCADE, name TEXT NOT NULL, created INT NOT NULL, modified INT NOT NULL, PRIMARY KEY (id), UNIQUE (name)) STRICT";
+    "CREATE TABLE resource (id INT NOT NULL, ven INT NOT NULL REFERENCES ven (id) ON DELETE CASCADE, name TEXT NOT NULL, created INT NOT NULL, modified INT NOT NULL, PRIMARY KEY (id), UNIQUE (name), UNIQUE (ven, id)) STRICT";
 
 const SHARE: &str =
     "CREATE TABLE share (program TEXT NOT NULL, resource INT NOT NULL REFERENCES resource (id) ON DELETE CASCADE, weight INT NOT NULL CHECK (weight >= 1 AND weight <= 1000000), PRIMARY KEY (program, resource), UNIQUE (resource, program)) STRICT";
@@ -54,12 +54,18 @@ const REMOTE: &str =
 const OUTBOX: &str =
     "CREATE TABLE outbox (id INT NOT NULL, dest INT NOT NULL, event TEXT, operation INT NOT NULL, url TEXT NOT NULL, token TEXT, body TEXT NOT NULL, failed INT NOT NULL, leases INT NOT NULL, leased INT NOT NULL, until INT NOT NULL, due INT NOT NULL, PRIMARY KEY (id), UNIQUE (dest, id)) STRICT";
 
+const SHOWN: &str =
+    "CREATE TABLE shown (event TEXT NOT NULL, resource INT NOT NULL, program TEXT NOT NULL, ven INT NOT NULL, ven_name TEXT NOT NULL, resource_name TEXT NOT NULL, body TEXT NOT NULL, PRIMARY KEY (event, resource), UNIQUE (ven, event, resource), UNIQUE (program, event, resource)) STRICT";
+
+const ROLLUP: &str =
+    "CREATE TABLE rollup (event TEXT NOT NULL, program TEXT NOT NULL, body TEXT NOT NULL, PRIMARY KEY (event)) STRICT";
+
 /// Makes the tables of a new node, which keep nothing, in an empty database.
 pub fn create<S: Alter>(tx: &mut Transaction<'_, S>) -> Result<(), Refusal>
     ensures lent { LeavesLent S.Store tx.old.conn tx.new.conn result }
     ensures made { HasCleanDisk (state S.Store tx.new.conn.now) → OnOk result (Holds no_schema [] (state S.Store tx.old.conn.now) → Keeps nothing_kept (state S.Store tx.new.conn.now)) }
     ensures refused { IfErr result IsOfStore }
-    ensures fails { RefusesToRunAll S.Store tx.old.conn.now tx.new.conn.now (META.now ∷ MIRROR.now ∷ POLLED.now ∷ VEN.now ∷ RESOURCE.now ∷ SHARE.now ∷ STAMP.now ∷ REPORT.now ∷ REPORT_VALUE.now ∷ SUB.now ∷ REMOTE.now ∷ OUTBOX.now ∷ []) PUT.now (meta_numbers first_meta) result }
+    ensures fails { RefusesToRunAll S.Store tx.old.conn.now tx.new.conn.now (META.now ∷ MIRROR.now ∷ POLLED.now ∷ VEN.now ∷ RESOURCE.now ∷ SHARE.now ∷ STAMP.now ∷ REPORT.now ∷ REPORT_VALUE.now ∷ SUB.now ∷ REMOTE.now ∷ OUTBOX.now ∷ SHOWN.now ∷ ROLLUP.now ∷ []) PUT.now (meta_numbers first_meta) result }
 {
     let texts = [
         META,
@@ -74,6 +80,8 @@ pub fn create<S: Alter>(tx: &mut Transaction<'_, S>) -> Result<(), Refusal>
         SUB,
         REMOTE,
         OUTBOX,
+        SHOWN,
+        ROLLUP,
     ];
     match create_tables(tx, &texts) {
         Ok(()) => write_meta(tx, &Meta::first()),

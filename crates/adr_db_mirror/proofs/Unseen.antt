@@ -7,7 +7,7 @@ use Rattle.sqlite_sql.specs.declared.ops.CompareOp.TheVariants.{Eq}
 use Rattle.sqlite_sql.specs.declared.ops.UnaryOp.TheVariants.{Not}
 use Rattle.adr_db_mirror.specs.declared.probes.TheConstants.{READ_UNSEEN}
 use Rattle.adr_db.specs.Tables.{schema}
-use Rattle.adr_db.specs.Rows.{number, key_row, mark_columns, mark_row}
+use Rattle.adr_db.specs.Rows.{number, key_row, known_columns, mark_row}
 use Rattle.adr_state.specs.Scans.{has_key as is_polled}
 use Rattle.adr_db.specs.Kept.{Kept, Keeps, contents_of, at_most, limit_number}
 use Rattle.adr_db.proofs.Tables.{mirror, mirror_keyed, polled}
@@ -24,7 +24,7 @@ pub selects : IsSelectText schema mirror query rest READ_UNSEEN.now
 unfolding understood everything
 selects = record { names = codes "kind" ∷ codes "id" ∷ []; command = refl; alone = (refl, refl); unlisted = refl; from = refl; order = refl; ungrouped = refl; undistinct = refl; joins = refl; sorts = refl; shows = refl }
 
-live_is : (mark : Mark) → is_eq (value_cmp (number 1) (column (mark_columns mark) 0)) ≡ is_live mark
+live_is : (mark : Mark) → is_eq (value_cmp (number 1) (column (known_columns mark) 0)) ≡ is_live mark
 live_is (Live moment body) = ap is_eq (value_cmp-Int (pos 1) (pos 1))
 live_is Dead = ap is_eq (value_cmp-Int (pos 1) (pos 2))
 
@@ -40,7 +40,7 @@ passes_is limit kept e =
     ∙ ap not (any_map (has_key 2 (mark_row e)) key_row kept.polled ∙ ap (λ (p : MirrorKey → Bool). list_any p kept.polled) (λ i k. is_eq (polled_order e k i))))
   where
     polled_order : (e : MirrorKey × Mark) (k : MirrorKey) → key_order 2 (mark_row e) (key_row k) ≡ mirror_cmp e.0 k
-    polled_order e k = keys_as_rows e.0 k (mark_columns e.1) []
+    polled_order e k = keys_as_rows e.0 k (known_columns e.1) []
 
 found_is : (limit : ℤ) (kept : Kept)
     → map (λ row. cells 0 2 row) (filter (λ row. is_found (seen schema.tables (contents_of kept)) rest query.filter (Int limit ∷ []) (Null ∷ row)) (map mark_row kept.mirror)) ≡ map key_row (probes kept.mirror kept.polled)

@@ -1,8 +1,10 @@
 //! The table `mirror`: what is known of each upstream key.
 ghost use Rattle.std.specs.Prelude.{◌≡◌, ⊤, [], option_map, IfOk, OnOk, IfErr};
+ghost use Rattle.sqlite.specs.Values.{bound_value};
+ghost use Rattle.sqlite_value.specs.Value.{owned};
 ghost use Rattle.adr_state.specs.Keys.{mirror_cmp, at};
 ghost use Rattle.adr_sql.specs.Calls.{LeavesLent};
-ghost use Rattle.adr_db.specs.Rows.{key_row, mark_columns, mark_row, columns_row};
+ghost use Rattle.adr_db.specs.Rows.{key_row, mark_columns, mark_row, columns_row, program_cell};
 ghost use Rattle.adr_db.specs.Kept.{IsMark, with_mark};
 ghost use Rattle.adr_db.specs.Calls.{LeavesKept, Finds, IsOfStore};
 ghost use Rattle.adr_db.specs.Refusals.{RefusesToPut, RefusesToPutText, RefusesToShow, CannotReadFirst, CannotReadAll};
@@ -12,20 +14,21 @@ use adr_db::MarkColumns;
 use adr_db::cells::{kind_number, number};
 use adr_db::reading::{all_of, first_in, first_of, table_of};
 use adr_db::statement::{rows_of, run};
-use adr_objects::canonical;
+use adr_objects::{Body, canonical};
 use adr_state::{Mark, MirrorKey};
 use adr_text::{Refusal, Table};
-use sqlite::types::ToSql;
+use sqlite::types::{ToSql, ValueRef};
 use sqlite::{Alter, Transaction};
 use std::alloc::{AllocError, Global};
 
 const PUT: &str =
-    "INSERT INTO mirror (kind, id, state, moment, body) VALUES (?1, ?2, ?3, ?4, ?5) ON CONFLICT (kind, id) DO UPDATE SET kind = excluded.kind, id = excluded.id, state = excluded.state, moment = excluded.moment, body = excluded.body";
+    "INSERT INTO mirror (kind, id, state, moment, body, program) VALUES (?1, ?2, ?3, ?4, ?5, ?6) ON CONFLICT (kind, id) DO UPDATE SET kind = excluded.kind, id = excluded.id, state = excluded.state, moment = excluded.moment, body = excluded.body, program = excluded.program";
 
 const READ_ONE: &str =
-    "SELECT kind, id, state, moment, body FROM mirror WHERE kind = ?1 AND id = ?2 ORDER BY kind, id";
+    "SELECT kind, id, state, moment, body, program FROM mirror WHERE kind = ?1 AND id = ?2 ORDER BY kind, id";
 
-const READ_ALL: &str = "SELECT kind, id, state, moment, body FROM mirror ORDER BY kind, id";
+const READ_ALL: &str =
+    "SELECT kind, id, state, moment, body, program FROM mirror ORDER BY kind, id";
 
 fn columns_of(alloc: Global, mark: &Mark) -> Result<MarkColumns, AllocError>
     ensures same { IfOk result (λ columns. columns_row columns ≡ mark_columns mark.now) }
@@ -42,6 +45,16 @@ fn columns_of(alloc: Global, mark: &Mark) -> Result<MarkColumns, AllocError>
             moment: 0,
             body: String::new(alloc),
         }),
+    }
+}
+
+// The program of a live event.
+fn program_cell(mark: &Mark) -> ValueRef<'_>
+    ensures { bound_value (owned result) ≡ program_cell mark.now }
+{
+    match mark {
+        Mark::Live(_, Body::Event(event)) => event.program.as_str().to_sql(),
+        _ => ValueRef::Null,
     }
 }
 
@@ -67,6 +80,7 @@ fn put_columns<S: Alter>(
             columns.state.to_sql(),
             number(columns.moment)?,
             (&columns.body).to_sql(),
+            program_cell(mark),
         ],
     )
 }

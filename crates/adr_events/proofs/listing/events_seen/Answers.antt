@@ -11,7 +11,7 @@ pub returns-clause-finds : goal.returns-clause-finds
 unfolding view
 returns-clause-finds g c clean kept was =
     let early : HasCleanDisk (state g.S.Store c.view.new.tx.conn.now) = omega (arith, c.read_stamps.ensures.lent.stays.crash.clean) in
-    let beside : Beside = record { numbers = kept.meta; stamps = kept.stamps; remotes = kept.remotes; entries = kept.entries } in
+    let beside : Beside = record { numbers = kept.meta; stamps = kept.stamps; remotes = kept.remotes; entries = kept.entries; shown = kept.shown; rollups = kept.rollups } in
     let base : Base = record { mirror = kept.mirror; scan = Some kept.polled; portfolio = kept.portfolio; serial = kept.meta.serial } in
     let all = c.in_ok-all.ensures.finds early beside base was in
     let stamps = c.in_ok-stamps.ensures.finds clean kept all.1 in

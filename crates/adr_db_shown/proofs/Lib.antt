@@ -1,0 +1,4 @@
+pub mod Ranges
+pub mod ShownStatements
+pub mod RollupStatements
+pub mod RangeStatements

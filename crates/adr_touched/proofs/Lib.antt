@@ -1,0 +1,6 @@
+pub mod Gathered
+pub mod Tested
+pub mod Statements
+pub mod Found
+pub mod Live
+pub mod Covered

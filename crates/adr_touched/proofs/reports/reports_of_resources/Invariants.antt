@@ -1,0 +1,15 @@
+use Rattle.std.proofs.Common.{Ok}
+use Rattle.std.specs.Prelude.{◌==◌}
+use Rattle.std.specs.List.{list_any}
+use Rattle.adr_db.proofs.Common.{state, HasCleanDisk, Refusal, LeavesLent}
+use Rattle.adr_db.specs.Kept.{Kept, Keeps}
+use Rattle.adr_refresh.specs.Touched.{reports_by}
+use Rattle.adr_touched.specs.Answers.{HasEach}
+use Rattle.adr_touched.proofs.reports.reports_of_resources.Given as goal
+
+-- those of the ones so far, and the tables hold what they held
+abbrev pub invariant-resources : goal.invariant-resources
+invariant-resources g l = record {
+  lent : LeavesLent g.S.Store l.fn.tx.conn l.tx.conn {T = Unit {0}} {E = Refusal} (Ok tt);
+  found : HasCleanDisk (state g.S.Store l.tx.conn.now) → (kept : Kept) → Keeps kept (state g.S.Store l.fn.tx.conn.now) → HasEach l.all.items (reports_by (λ m. list_any (λ n. m == n) l.yielded) kept.portfolio) × Keeps kept (state g.S.Store l.tx.conn.now);
+}

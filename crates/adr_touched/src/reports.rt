@@ -1,0 +1,88 @@
+//! The reports that go with a resource or a ven, and the event of a report, from the table `report`.
+ghost use Rattle.std.specs.Prelude.{◌≡◌, ◌==◌, map, option_to_list, IfErr};
+ghost use Rattle.std.specs.List.{list_any};
+ghost use Rattle.adr_sql.specs.Calls.{LeavesLent};
+ghost use Rattle.adr_state.specs.Portfolios.{is_of_ven};
+ghost use Rattle.adr_refresh.specs.Touched.{reports_by, event_reported};
+ghost use Rattle.adr_db.specs.Rows.{number_row};
+ghost use Rattle.adr_db.specs.Refusals.{RefusesToShow, CannotReadAll};
+ghost use Rattle.adr_db.specs.Admitted.{IsNumber, ReadsNumber};
+ghost use Rattle.adr_db.specs.Calls.{Finds, IsOfStore};
+ghost use Rattle.adr_touched.specs.Answers.{HasEach};
+
+use crate::resources::resources_of_ven;
+use adr_db::ReportColumns;
+use adr_db::cells::number;
+use adr_db::reading::{all_of, first_of};
+use adr_objects::Number;
+use adr_text::{ObjectId, Refusal, Rows};
+use sqlite::{Alter, Transaction};
+use std::alloc::Global;
+
+const READ_OF: &str = "SELECT id FROM report WHERE resource = ?1 ORDER BY id";
+
+const READ_ONE: &str =
+    "SELECT id, event, resource, program, client, name, resource_name, revision FROM report WHERE id = ?1 ORDER BY id";
+
+/// The numbers of the reports on a resource, in their order. No report on another resource is read.
+pub fn reports_of_resource<S: Alter>(
+    alloc: Global,
+    tx: &mut Transaction<'_, S>,
+    resource: Number,
+) -> Result<Rows<Number>, Refusal>
+    ensures lent { LeavesLent S.Store tx.old.conn tx.new.conn result }
+    ensures finds { Finds S.Store tx.old.conn.now tx.new.conn.now (λ kept numbers. numbers ≡ reports_by (λ m. m == resource) kept.portfolio) result }
+    ensures refused { IfErr result IsOfStore }
+    ensures fails { RefusesToShow S.Store tx.old.conn.now tx.new.conn.now READ_OF.now (number_row resource) (CannotReadAll IsNumber ReadsNumber) result }
+{
+    all_of(alloc, tx, READ_OF, &[number(resource.get())?])
+}
+
+// The numbers of the reports on each of these resources.
+fn reports_of_resources<S: Alter>(
+    alloc: Global,
+    tx: &mut Transaction<'_, S>,
+    resources: Rows<Number>,
+) -> Result<Rows<Number>, Refusal>
+    ensures lent { LeavesLent S.Store tx.old.conn tx.new.conn result }
+    ensures finds { Finds S.Store tx.old.conn.now tx.new.conn.now (λ kept numbers. HasEach numbers (reports_by (λ m. list_any (λ n. m == n) resources) kept.portfolio)) result }
+    ensures refused { IfErr result IsOfStore }
+{
+    let mut all = Vec::new(alloc);
+    'resources: for resource in resources.into_vec() {
+        let mut numbers = reports_of_resource(alloc, tx, resource)?.into_vec();
+        all.append(&mut numbers)?;
+    }
+    Ok(Rows::from_vec(all))
+}
+
+/// The numbers of the reports on the resources of a ven, resource by resource.
+pub fn reports_of_ven<S: Alter>(
+    alloc: Global,
+    tx: &mut Transaction<'_, S>,
+    ven: Number,
+) -> Result<Rows<Number>, Refusal>
+    ensures lent { LeavesLent S.Store tx.old.conn tx.new.conn result }
+    ensures finds { Finds S.Store tx.old.conn.now tx.new.conn.now (λ kept numbers. HasEach numbers (reports_by (is_of_ven ven kept.portfolio.resources) kept.portfolio)) result }
+    ensures refused { IfErr result IsOfStore }
+{
+    let resources = resources_of_ven(alloc, tx, ven)?;
+    reports_of_resources(alloc, tx, resources)
+}
+
+/// The event that the report of a number is on, where there is one. Its intervals are not read.
+pub fn event_of_report<S: Alter>(
+    alloc: Global,
+    tx: &mut Transaction<'_, S>,
+    report: Number,
+) -> Result<Option<ObjectId>, Refusal>
+    ensures lent { LeavesLent S.Store tx.old.conn tx.new.conn result }
+    ensures finds { Finds S.Store tx.old.conn.now tx.new.conn.now (λ kept found. option_to_list found ≡ event_reported kept.portfolio report) result }
+    ensures refused { IfErr result IsOfStore }
+{
+    let found: Option<ReportColumns> = first_of(alloc, tx, READ_ONE, &[number(report.get())?])?;
+    match found {
+        Some(columns) => Ok(Some(columns.head.event.copy(alloc)?)),
+        None => Ok(None),
+    }
+}
