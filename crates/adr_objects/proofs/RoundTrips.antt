@@ -44,11 +44,11 @@ pub name_reads_back : (text : List ℕ) → is_name text ≡ true → name_in (s
 unfolding name_in
 name_reads_back text h = rw h refl
 
-text_reads_back : (most : ℕ) (text : List ℕ) → length text ≤ most → text_in most (string text) ≡ Ok text
+pub text_reads_back : (most : ℕ) (text : List ℕ) → length text ≤ most → text_in most (string text) ≡ Ok text
 unfolding text_in
 text_reads_back most text h = rw (le-leb (length text) most h) refl
 
-i32_reads_back : (z : ℤ) → is_i32 z ≡ true → i32_in (whole_data z) ≡ Ok z
+pub i32_reads_back : (z : ℤ) → is_i32 z ≡ true → i32_in (whole_data z) ≡ Ok z
 unfolding i32_in
 i32_reads_back (pos n) h = rw (lt-ltb n (2 ^ 63) (omega (arith, leb-true n 2147483647 h)), h) refl
 i32_reads_back (negsuc n) h = rw h refl
@@ -58,7 +58,7 @@ unfolding setpoint_in
 setpoint_reads_back (pos n) h = rw (lt-ltb n (2 ^ 63) (omega (arith, leb-true n 1000000000000 h)), h) refl
 setpoint_reads_back (negsuc n) h = rw h refl
 
-priority_reads_back : (n : ℕ) → n ≤ most_priority → priority_in (natural_data n) ≡ Ok n
+pub priority_reads_back : (n : ℕ) → n ≤ most_priority → priority_in (natural_data n) ≡ Ok n
 unfolding priority_in
 priority_reads_back n h = rw (lt-ltb n (2 ^ 63) (omega arith), le-leb n most_priority h) refl
 
@@ -87,10 +87,10 @@ period_at : (name : List ℕ) (p : Period) → get name (period_data p) ≡ foun
 unfolding period_data
 period_at name p = get-object_of name (period_fields p)
 
-optional_text : (most : ℕ) (o : Option (List ℕ)) → IfSome o (λ text. length text ≤ most) → optional (option_and_then present (over (option_map string o) None)) (text_in most) ≡ Ok o
+pub optional_text : (most : ℕ) (o : Option (List ℕ)) → IfSome o (λ text. length text ≤ most) → optional (option_and_then present (over (option_map string o) None)) (text_in most) ≡ Ok o
 optional_text most o h = optional_reads_back (λ text. length text ≤ most) string (text_in most) (λ x k. refl) (text_reads_back most) o h
 
-period_reads_back : (p : Period) → IsPeriod p → period_in (period_data p) ≡ Ok p
+pub period_reads_back : (p : Period) → IsPeriod p → period_in (period_data p) ≡ Ok p
 unfolding period_in
 period_reads_back p h =
     rw (period_at (codes "start") p, period_at (codes "duration") p, period_at (codes "randomizeStart") p, text_reads_back 64 p.start h.start, optional_text 64 p.duration h.duration, optional_text 64 p.randomize_start h.randomize_start) refl
@@ -99,7 +99,7 @@ period_present : (p : Period) → present (period_data p) ≡ Some (period_data 
 unfolding period_data
 period_present p = refl
 
-optional_period : (o : Option Period) → IfSome o IsPeriod → optional (option_and_then present (over (option_map period_data o) None)) period_in ≡ Ok o
+pub optional_period : (o : Option Period) → IfSome o IsPeriod → optional (option_and_then present (over (option_map period_data o) None)) period_in ≡ Ok o
 optional_period o h = optional_reads_back IsPeriod period_data period_in (λ p k. period_present p) period_reads_back o h
 
 -- ---- an interval
@@ -168,10 +168,10 @@ pub field_written : {X : Type 0} (n : ℕ) (P : X → Type 0) (write : X → Dat
 field_written n P write h None k = tt
 field_written n P write h (Some x) k = h x k
 
-text_written : (n most : ℕ) (o : Option (List ℕ)) → IfSome o (λ text. length text ≤ most) → FieldIsWritten n (option_map string o)
+pub text_written : (n most : ℕ) (o : Option (List ℕ)) → IfSome o (λ text. length text ≤ most) → FieldIsWritten n (option_map string o)
 text_written n most o h = field_written n (λ text. length text ≤ most) string (λ text k. string_written n text) o h
 
-period_written : (n : ℕ) (p : Period) → IsPeriod p → IsWritten (suc n) (period_data p)
+pub period_written : (n : ℕ) (p : Period) → IsPeriod p → IsWritten (suc n) (period_data p)
 unfolding period_data
 period_written n p h = object_written n (period_fields p) refl (text_written n 64 p.duration h.duration, (text_written n 64 p.randomize_start h.randomize_start, (string_written n p.start, tt)))
 

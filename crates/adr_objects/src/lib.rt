@@ -24,7 +24,7 @@ pub use interval::{HasId, Interval, IntervalList, Intervals, Period, has_id};
 pub use kind::Kind;
 pub use name_set::NameSet;
 pub use number::Number;
-pub use read_body::read_canonical;
+pub use read_body::{read_canonical, read_text};
 pub use report::{
     ReportBody, ReportHead, ReportName, ReportObject, Rollup, RollupInterval, RollupObject, Usage,
     UsageInterval, UsageIntervals,

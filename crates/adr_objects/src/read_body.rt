@@ -125,8 +125,8 @@ impl FromJson for Body {
     }
 }
 
-// The JSON value that a text is.
-fn read_text(alloc: Global, text: &str) -> Result<Value, Fault>
+/// The JSON value that a text is; `BadShape` for a text that is none.
+pub fn read_text(alloc: Global, text: &str) -> Result<Value, Fault>
     ensures { Finds view result (value_of_text text.now) }
 {
     match Value::from_str(alloc, text) {

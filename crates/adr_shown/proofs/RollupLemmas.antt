@@ -17,7 +17,7 @@ use Rattle.adr_text.proofs.FieldLemmas.{list_of-items_of}
 use Rattle.adr_text.proofs.ObjectLemmas.{get-object_of, found_after}
 use Rattle.adr_objects.specs.declared.report.RollupInterval.{RollupInterval}
 use Rattle.adr_objects.specs.declared.report.Rollup.{Rollup}
-use Rattle.adr_objects.proofs.RoundTrips.{id_reads_back, name_reads_back, each_reads_back}
+use Rattle.adr_objects.proofs.RoundTrips.{id_reads_back, name_reads_back, i32_reads_back, each_reads_back}
 use Rattle.adr_objects.proofs.Written.{IsWritten, read_back, string_written, array_written, object_written}
 use Rattle.adr_written.specs.Objects.{values_data}
 use Rattle.adr_written.specs.WrittenReports.{resource_fields, resources_data, missing_data, rollup_interval_fields, rollup_interval_data, rollup_resources}
@@ -25,7 +25,7 @@ use Rattle.adr_shown.specs.RollupTexts.{rollup_fields, rollup_data, kept_rollup_
 use Rattle.adr_shown.specs.ReadValues.{list_in}
 use Rattle.adr_shown.specs.ReadRollups.{missing_in, sum_in, rollup_interval_in, resources_in, rollup_in, kept_rollup_of}
 use Rattle.adr_shown.specs.Types.{IsRollupInterval, IsRollup}
-use Rattle.adr_shown.proofs.Fields.{i32_reads_back, values_read_back, amount_reads_back, amount_written, i32_written, values_written}
+use Rattle.adr_shown.proofs.Fields.{values_read_back, amount_reads_back, amount_written, i32_written, values_written}
 
 -- ---- it reads back
 

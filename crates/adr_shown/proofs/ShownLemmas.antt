@@ -14,14 +14,14 @@ use Rattle.adr_text.proofs.FieldLemmas.{list_of-items_of}
 use Rattle.adr_text.proofs.ObjectLemmas.{get-object_of, found_after}
 use Rattle.adr_objects.specs.declared.shown.ShownInterval.{ShownInterval}
 use Rattle.adr_objects.specs.declared.shown.ShownEvent.{ShownEvent}
-use Rattle.adr_objects.proofs.RoundTrips.{id_reads_back, each_reads_back}
+use Rattle.adr_objects.proofs.RoundTrips.{id_reads_back, i32_reads_back, optional_text, optional_period, each_reads_back, text_written}
 use Rattle.adr_objects.proofs.Written.{IsWritten, read_back, string_written, array_written, object_written}
 use Rattle.adr_written.specs.Objects.{values_data, payloads_data, shown_interval_fields, shown_interval_data, targets_data}
 use Rattle.adr_shown.specs.ShownTexts.{shown_fields, shown_data, shown_text}
 use Rattle.adr_shown.specs.ReadValues.{list_in}
 use Rattle.adr_shown.specs.ReadShown.{part_in, shown_interval_in, targets_in, shown_in, shown_of}
 use Rattle.adr_shown.specs.Types.{IsShownInterval, IsShown}
-use Rattle.adr_shown.proofs.Fields.{i32_reads_back, optional_text, optional_priority, optional_period, amount_reads_back, target_reads_back, amount_written, i32_written, text_written, priority_written, maybe_period_written, values_written}
+use Rattle.adr_shown.proofs.Fields.{optional_priority, amount_reads_back, target_reads_back, amount_written, i32_written, priority_written, maybe_period_written, values_written}
 
 -- ---- it reads back
 

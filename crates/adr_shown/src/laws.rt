@@ -18,7 +18,7 @@ pub fn shown_texts_read_back()
     ensures { ShownTextsReadBack }
 {}
 
-/// Two shown events with one text are the same.
+/// Two shown events with one text are the same, for all that the types admit.
 pub fn shown_texts_differ()
     ensures { ShownTextsDiffer }
 {}
@@ -29,7 +29,7 @@ pub fn rollup_texts_read_back()
     ensures { RollupTextsReadBack }
 {}
 
-/// Two roll-ups with one text are the same, and of one upstream event.
+/// Two roll-ups with one text are the same, and of one upstream event, for all that the types admit.
 pub fn rollup_texts_differ()
     ensures { RollupTextsDiffer }
 {}

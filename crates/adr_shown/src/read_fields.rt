@@ -3,12 +3,10 @@ ghost use Rattle.std.specs.Prelude.{◌≡◌, codes, map};
 ghost use Rattle.serde_json.specs.View.{view};
 ghost use Rattle.adr_text.specs.Faults.{Finds};
 ghost use Rattle.adr_text.specs.Fields.{member_of, items_in, required};
-ghost use Rattle.adr_objects.specs.ReadBack.{value_of_text};
 ghost use Rattle.adr_shown.specs.ReadValues.{type_in, values_in, lone, value_in, amount_in};
 
 use adr_text::{Fault, list, member, text, whole};
 use serde_json::Value;
-use std::alloc::Global;
 
 // The word that a payload or a target has as its type.
 fn type_of(value: &Value) -> Result<&str, Fault>
@@ -66,18 +64,4 @@ pub(crate) fn amount(value: &Value, kind: &str) -> Result<i64, Fault>
     ensures { Finds (λ z. z) result (amount_in kind.now (view value.now)) }
 {
     whole(only_value(value, kind)?).to_i64()
-}
-
-// The JSON value that a text is.
-pub(crate) fn read_text(alloc: Global, text: &str) -> Result<Value, Fault>
-    ensures { Finds view result (value_of_text text.now) }
-{
-    match Value::from_str(alloc, text) {
-        Ok(value) => Ok(value),
-        Err(e) => if e.is_memory() {
-            Err(Fault::OutOfMemory)
-        } else {
-            Err(Fault::BadShape)
-        },
-    }
 }

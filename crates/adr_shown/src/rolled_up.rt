@@ -9,18 +9,18 @@ ghost use Rattle.adr_text.specs.Names.{is_name};
 ghost use Rattle.adr_text.specs.Objects.{array_of};
 ghost use Rattle.adr_text.specs.Refusals.{Gives};
 ghost use Rattle.adr_written.specs.Objects.{values_data};
-ghost use Rattle.adr_written.specs.WrittenReports.{resources_data, sum_data, missing_data, rollup_interval_data, rollup_resources};
+ghost use Rattle.adr_written.specs.WrittenReports.{sum_data, missing_data, rollup_interval_data, rollup_resources};
 ghost use Rattle.adr_shown.specs.RollupTexts.{rollup_data, kept_rollup_text};
 ghost use Rattle.adr_shown.specs.ReadRollups.{missing_in, sum_from, sum_in, rollup_interval_in, resources_in, rollup_in, rollup_of_text, kept_rollup_of};
 ghost use Rattle.adr_shown.specs.Types.{IsRollupInterval, IsRollup};
 
 use crate::kept::{Kept, array_of, intervals_of};
-use crate::read_fields::{amount, lone, read_text, values};
-use crate::write_fields::{one_payload, put_text, valued, with_values};
-use adr_objects::{Rollup, RollupInterval};
+use crate::read_fields::{amount, lone, values};
+use adr_objects::{Rollup, RollupInterval, read_text};
 use adr_text::{
     Fault, Name, ObjectId, Refusal, Rows, ToJson, all, array, list, member, needed, put,
 };
+use adr_written::{one_payload, put_text, resources, valued, with_values};
 use serde_json::{Map, Value};
 use std::alloc::{AllocError, Global};
 
@@ -133,18 +133,6 @@ impl Kept for RollupInterval {
             missing: sum.1,
         })
     }
-}
-
-// A list of one resource: its intervals and its name.
-#[tactic(auto, unfolding(adr_written::specs::WrittenReports::resources_data))]
-fn resources(alloc: Global, intervals: Value, name: &str) -> Result<Value, AllocError>
-    ensures { IfOk result (λ v. view v ≡ resources_data (view intervals) name.now) }
-{
-    let mut members = Map::new(alloc);
-    serde_json::put(&mut members, alloc, "intervals", intervals)?;
-    put_text(&mut members, alloc, "resourceName", name)?;
-    let resource = Value::Object(members);
-    Ok(Value::Array(vec![in alloc; resource]?))
 }
 
 // The one resource of a roll-up, which stands for all.

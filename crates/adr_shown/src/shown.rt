@@ -13,12 +13,12 @@ ghost use Rattle.adr_shown.specs.ReadShown.{part_from, part_in, shown_interval_i
 ghost use Rattle.adr_shown.specs.Types.{IsShownInterval, IsShown};
 
 use crate::kept::{Kept, array_of, intervals_of};
-use crate::read_fields::{amount, only_value, read_text};
-use crate::write_fields::{one_payload, put_text, valued};
-use adr_objects::{ShownEvent, ShownInterval};
+use crate::read_fields::{amount, only_value};
+use adr_objects::{ShownEvent, ShownInterval, read_text};
 use adr_text::{
     Fault, FromJson, Name, Refusal, ToJson, list, maybe, member, needed, put, put_maybe,
 };
+use adr_written::{one_payload, put_text, valued};
 use serde_json::{Map, Value};
 use std::alloc::{AllocError, Global};
 

@@ -9,8 +9,8 @@ ghost use Rattle.adr_written.specs.Objects.{values_fields, values_data, payloads
 use serde_json::{Map, Value};
 use std::alloc::{AllocError, Global};
 
-// Sets a member to a text.
-pub(crate) fn put_text(
+/// Sets a member to a text.
+pub fn put_text(
     members: &mut Map<String, Value>,
     alloc: Global,
     name: &str,
@@ -30,8 +30,8 @@ pub(crate) fn compact(alloc: Global, value: Value) -> Result<String, AllocError>
     value.to_string(alloc)
 }
 
-// A payload or a target: its type and its values.
-pub(crate) fn with_values(alloc: Global, kind: &str, values: Value) -> Result<Value, AllocError>
+/// A payload or a target: its type and its values.
+pub fn with_values(alloc: Global, kind: &str, values: Value) -> Result<Value, AllocError>
     ensures { IfOk result (λ v. view v ≡ object_of (values_fields kind.now (view values))) }
 {
     let mut members = Map::new(alloc);
@@ -40,16 +40,16 @@ pub(crate) fn with_values(alloc: Global, kind: &str, values: Value) -> Result<Va
     Ok(Value::Object(members))
 }
 
-// The same, of one value.
+/// A payload or a target of one value.
 #[tactic(auto, unfolding(crate::specs::Objects::values_data))]
-pub(crate) fn valued(alloc: Global, kind: &str, value: Value) -> Result<Value, AllocError>
+pub fn valued(alloc: Global, kind: &str, value: Value) -> Result<Value, AllocError>
     ensures { IfOk result (λ v. view v ≡ values_data kind.now (view value ∷ [])) }
 {
     with_values(alloc, kind, Value::Array(vec![in alloc; value]?))
 }
 
-// A list of one payload.
-fn one_payload(alloc: Global, kind: &str, value: Value) -> Result<Value, AllocError>
+/// A list of one payload.
+pub fn one_payload(alloc: Global, kind: &str, value: Value) -> Result<Value, AllocError>
     ensures { IfOk result (λ v. view v
         ≡ array_of (values_data kind.now (view value ∷ []) ∷ [])) }
 {

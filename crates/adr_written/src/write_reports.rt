@@ -13,9 +13,9 @@ use adr_text::{Name, array, put, put_maybe};
 use serde_json::{Map, Value};
 use std::alloc::{AllocError, Global};
 
-// A list of one resource: its intervals and its name.
+/// A list of one resource: its intervals and its name.
 #[tactic(auto, unfolding(crate::specs::WrittenReports::resources_data))]
-fn resources(alloc: Global, intervals: Value, name: &str) -> Result<Value, AllocError>
+pub fn resources(alloc: Global, intervals: Value, name: &str) -> Result<Value, AllocError>
     ensures { IfOk result (λ v. view v ≡ resources_data (view intervals) name.now) }
 {
     let mut members = Map::new(alloc);
