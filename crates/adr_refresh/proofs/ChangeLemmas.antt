@@ -46,14 +46,14 @@ module _ {K : Type 0} {cmp : K → K → Ordering} (order : IsTotalOrder cmp) wh
       twice false b = refl
 
   module _ {V : Type 0} where
-    abbrev with_keys : List K → List (K × V) → List K
+    abbrev pub with_keys : List K → List (K × V) → List K
     with_keys keys rows = fold (λ keys r. insert_key cmp keys r.0) keys rows
 
-    with_keys_in_order : (keys : List K) (rows : List (K × V)) → IsStrictlySortedBy cmp keys → IsStrictlySortedBy cmp (with_keys keys rows)
+    pub with_keys_in_order : (keys : List K) (rows : List (K × V)) → IsStrictlySortedBy cmp keys → IsStrictlySortedBy cmp (with_keys keys rows)
     with_keys_in_order keys [] h = h
     with_keys_in_order keys (r ∷ rows) h = with_keys_in_order (insert_key cmp keys r.0) rows (keys_in_order_put keys r.0 h)
 
-    any-with_keys : (q : K) (keys : List K) (rows : List (K × V)) → list_any (is_at (cmp q)) (with_keys keys rows) ≡ (is_some (at cmp q rows) || list_any (is_at (cmp q)) keys)
+    pub any-with_keys : (q : K) (keys : List K) (rows : List (K × V)) → list_any (is_at (cmp q)) (with_keys keys rows) ≡ (is_some (at cmp q rows) || list_any (is_at (cmp q)) keys)
     any-with_keys q keys [] = refl
     any-with_keys q keys (r ∷ rows) = any-with_keys q (insert_key cmp keys r.0) rows ∙ ap (λ b. is_some (at cmp q rows) || b) (any-put q keys r.0) ∙ by (is_eq (cmp q r.0)) (at cmp q rows) (list_any (is_at (cmp q)) keys)
       where
@@ -65,7 +65,7 @@ module _ {K : Type 0} {cmp : K → K → Ordering} (order : IsTotalOrder cmp) wh
   -- ---- what is made of each key, under it
 
   module _ {X : Type 0} (exact : CmpEqualImpliesEq cmp) (g : K → Option X) where
-    abbrev under : K → Option (K × X)
+    abbrev pub under : K → Option (K × X)
     under k = option_map (λ x. (k, x)) (g k)
 
     at_one : (q k : K) (o : Option X) (rest : List (K × X)) → at cmp q (cons_option (option_map (λ x. (k, x)) o) rest) ≡ cond (is_eq (cmp q k)) (option_or o (at cmp q rest)) (at cmp q rest)
@@ -76,7 +76,7 @@ module _ {K : Type 0} {cmp : K → K → Ordering} (order : IsTotalOrder cmp) wh
         by false = refl
     at_one q k (Some x) rest = refl
 
-    at-under : (q : K) (ks : List K) → at cmp q (filter_map under ks) ≡ cond (list_any (is_at (cmp q)) ks) (g q) None
+    pub at-under : (q : K) (ks : List K) → at cmp q (filter_map under ks) ≡ cond (list_any (is_at (cmp q)) ks) (g q) None
     at-under q [] = refl
     at-under q (k ∷ ks) =
         at_one q k (g k) (filter_map under ks)
@@ -108,7 +108,7 @@ module _ {K : Type 0} {cmp : K → K → Ordering} (order : IsTotalOrder cmp) wh
     one_in_order k None rest behind h = h
     one_in_order k (Some x) rest behind h = (behind, h)
 
-    in_order_under : (ks : List K) → IsStrictlySortedBy cmp ks → InOrder cmp (filter_map under ks)
+    pub in_order_under : (ks : List K) → IsStrictlySortedBy cmp ks → InOrder cmp (filter_map under ks)
     unfolding IsStrictlySortedBy
     in_order_under [] h = tt
     in_order_under (k ∷ ks) h = one_in_order k (g k) (filter_map under ks) (through (Behind cmp k) (Behind cmp k) ks (keys_of (filter_map under ks)) (all_behind k ks) h.0) (in_order_under ks h.1)

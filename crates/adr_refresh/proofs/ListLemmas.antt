@@ -1,6 +1,6 @@
 -- Lists of which something is made of some elements, and of others nothing.
-use Rattle.std.proofs.Common.{◌≡◌, ℕ, Bool, true, false, cond, not, ◌||◌, List, [], ◌∷◌, map, filter, Option, Some, None, Ordering, Less, Equal, Greater, refl, sym, ap, ap₂, ◌∙◌, arith}
-use Rattle.adr_refresh.proofs.Common.{All, All-cons, All-contains, All-head, All-nil, All-tail, Contains, Contains-append_right, at, cons_option, exact_unsigned, filter_map, insert_entry, is_eq, list_any, lookup, match_ordering, nat_cmp, remove_entry}
+use Rattle.std.proofs.Common.{◌≡◌, ℕ, Bool, true, false, cond, ◌||◌, List, [], ◌∷◌, map, filter, Option, Some, None, Ordering, Less, Equal, Greater, refl, sym, ap, ap₂, ◌∙◌, arith}
+use Rattle.adr_refresh.proofs.Common.{All, All-cons, All-contains, All-head, All-nil, All-tail, Contains, Contains-append_right, at, cons_option, exact_unsigned, filter_map, insert_entry, list_any, lookup, match_ordering, nat_cmp, remove_entry}
 
 pub false_unless : (b : Bool) → (b ≡ true → ⊥) → b ≡ false
 false_unless true h = absurd (h refl)

@@ -20,7 +20,7 @@ alike : {K : Type 0} {cmp : K → K → Ordering} → CmpEqualImpliesEq cmp → 
 alike exact passes q k is = ap passes (sym (exact q k (equal_from_is _ is)))
 
 module _ {K V : Type 0} {cmp : K → K → Ordering} (order : IsTotalOrder cmp) where
-  past_head : (q : K) (e : K × V) (es : List (K × V)) → InOrder cmp (e ∷ es) → is_eq (cmp q e.0) ≡ true → at cmp q es ≡ None
+  pub past_head : (q : K) (e : K × V) (es : List (K × V)) → InOrder cmp (e ∷ es) → is_eq (cmp q e.0) ≡ true → at cmp q es ≡ None
   past_head q e es up is = lookup-none (is_at (cmp q)) es (none_past_head (eq_by_cmp_equiv order) q e es (IsDistinct-from_sorted cmp (keys_of (e ∷ es)) up) is)
 
   -- rows in order lie over what was there

@@ -1,5 +1,5 @@
 -- What a change leaves of the sources that it does not touch: evidence, scans and edits.
-use Rattle.std.proofs.Common.{◌≡◌, ℕ, Bool, true, false, cond, List, [], ◌∷◌, Option, Some, None, Equal, refl, sym, ap, subst, ◌∙◌}
+use Rattle.std.proofs.Common.{◌≡◌, ℕ, Bool, true, false, cond, List, [], ◌∷◌, Option, Some, None, refl, sym, ap, subst, ◌∙◌}
 use Rattle.std.specs.Prelude.{option_and_then}
 use Rattle.adr_objects.specs.declared.kind.Kind.{Kind}
 use Rattle.adr_objects.specs.declared.kind.Kind.TheVariants as kind
@@ -13,7 +13,7 @@ use Rattle.adr_view.specs.Views.{rows_known, rolled_up}
 use Rattle.adr_refresh.specs.Sources.{Source, Upstream, Reported, RolledUp, rows_of}
 use Rattle.adr_refresh.specs.Touched.{rises, rising, sources_by, sources_at, touched}
 use Rattle.adr_refresh.specs.Laws.{OthersAreShownAsBefore}
-use Rattle.adr_refresh.proofs.Common.{Base, Contains, at, at-insert_entry, cond_both, cons_option, equal_from_is, filter_map, in_flat, insert_entry, is_eq, key_order, mirror_cmp, mirror_exact}
+use Rattle.adr_refresh.proofs.Common.{Base, Contains, at, at-insert_entry, cons_option, equal_from_is, in_flat, insert_entry, is_eq, key_order, mirror_cmp, mirror_exact}
 use Rattle.adr_refresh.proofs.ListLemmas.{behind_first, false_unless, the_first}
 use Rattle.adr_refresh.proofs.StayLemmas.{known_stay}
 use Rattle.adr_refresh.proofs.EditLemmas.{edits_leave_others}

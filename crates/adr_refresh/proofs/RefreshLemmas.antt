@@ -1,6 +1,6 @@
 -- Books that keep the view, and are refreshed source by source, are those of the whole views: what they have at a key, first behind one source, then
 -- behind several, of which one may come again, and in the end behind all that are not shown as before.
-use Rattle.std.proofs.Common.{◌≡◌, ℕ, Bool, true, false, cond, ◌||◌, not, ⊎_elim, List, [], ◌∷◌, fold, Option, Some, None, refl, sym, ap, ap₂, subst, ◌∙◌}
+use Rattle.std.proofs.Common.{◌≡◌, ℕ, Bool, true, false, cond, ◌||◌, not, ⊎_elim, List, [], ◌∷◌, Option, None, refl, sym, ap, ap₂, subst, ◌∙◌}
 use Rattle.std.specs.Prelude.{is_some}
 use Rattle.adr_objects.specs.declared.shown.Stamps.{Stamps}
 use Rattle.adr_state.specs.declared.keys.ViewKey.{ViewKey}
@@ -72,7 +72,7 @@ module _ (before after : Base) (stands : StandsInOrder after) (now : ℕ) where
 
   -- ---- one source
 
-  at-kept : (q : ViewKey) (kept : Rows) (s : Source) → at view_cmp q (kept_after after kept s) ≡ cond (is_of s q) (cond (is_kept (source_of q)) (new_at q) (at view_cmp q kept)) (at view_cmp q kept)
+  pub at-kept : (q : ViewKey) (kept : Rows) (s : Source) → at view_cmp q (kept_after after kept s) ≡ cond (is_of s q) (cond (is_kept (source_of q)) (new_at q) (at view_cmp q kept)) (at view_cmp q kept)
   at-kept q kept s = ⊎_elim
       (λ is. subst (λ (t : Source). at view_cmp q (kept_after after kept t) ≡ cond (is_of t q) (cond (is_kept (source_of q)) (new_at q) (at view_cmp q kept)) (at view_cmp q kept)) (its_source s q is) (mine (is_kept (source_of q))))
       (λ other. rw other (stays other (is_kept s)))
@@ -94,7 +94,7 @@ module _ (before after : Base) (stands : StandsInOrder after) (now : ℕ) where
       stays other false = refl
 
   -- what is told of a key, and its stamps, as its source is refreshed
-  at-told : (q : ViewKey) (books : Books) (s : Source) → at view_cmp q (refreshed before after now books s).told ≡ option_or (cond (is_of s q) (change_at q (was q (at view_cmp q books.kept)) (new_at q)) None) (at view_cmp q books.told)
+  pub at-told : (q : ViewKey) (books : Books) (s : Source) → at view_cmp q (refreshed before after now books s).told ≡ option_or (cond (is_of s q) (change_at q (was q (at view_cmp q books.kept)) (new_at q)) None) (at view_cmp q books.told)
   at-told q books s =
       let rows = rows_before before books.kept s in
       at-with_rows view_total q books.told (changes_told rows (rows_of after s)) (changes_in_order rows (rows_of after s))
@@ -104,7 +104,7 @@ module _ (before after : Base) (stands : StandsInOrder after) (now : ℕ) where
       (λ other. let none : at view_cmp q (rows_of after s) ≡ None = rows_own after s q other in rw (other, none) refl)
       (cases_Bool (is_of s q)))
 
-  at-stamps : (q : ViewKey) (books : Books) (s : Source) → at view_cmp q (refreshed before after now books s).stamps ≡ cond (is_of s q) (stamp_at (was q (at view_cmp q books.kept)) (new_at q) now (at view_cmp q books.stamps)) (at view_cmp q books.stamps)
+  pub at-stamps : (q : ViewKey) (books : Books) (s : Source) → at view_cmp q (refreshed before after now books s).stamps ≡ cond (is_of s q) (stamp_at (was q (at view_cmp q books.kept)) (new_at q) now (at view_cmp q books.stamps)) (at view_cmp q books.stamps)
   at-stamps q books s =
       let rows = rows_before before books.kept s in
       let mine = rows_at (is_of s) books.stamps in

@@ -1,5 +1,5 @@
 -- What a share leaves of the other programs, and who takes part by the weights in one.
-use Rattle.std.proofs.Common.{◌≡◌, ℕ, false, List, Option, None, refl, sym, ap, ◌∙◌}
+use Rattle.std.proofs.Common.{◌≡◌, ℕ, false, List, None, refl, sym, ap, ◌∙◌}
 use Rattle.std.specs.Prelude.{option_map, option_and_then, if◌then◌else◌}
 use Rattle.adr_objects.specs.declared.body.EventBody.{EventBody}
 use Rattle.adr_state.specs.declared.keys.ShareKey.{ShareKey}

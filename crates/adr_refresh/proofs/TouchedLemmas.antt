@@ -1,5 +1,5 @@
 -- Whoever refreshes all that a change touches refreshes all that is not shown as before.
-use Rattle.std.proofs.Common.{◌≡◌, List}
+use Rattle.std.proofs.Common.{List}
 use Rattle.adr_state.specs.BaseChanges.{BaseChange, changed}
 use Rattle.adr_refresh.specs.Sources.{Source}
 use Rattle.adr_refresh.specs.Touched.{touched}

@@ -1,5 +1,5 @@
 -- The changes of sources in their order stand as those between the whole views.
-use Rattle.std.proofs.Common.{◌≡◌, ℕ, Bool, true, false, cond, ⊎_elim, List, [], ◌∷◌, ◌++◌, map, Option, Some, None, Less, refl, sym, ap, ap₂, subst, ◌∙◌}
+use Rattle.std.proofs.Common.{◌≡◌, Bool, true, false, cond, ⊎_elim, List, [], ◌∷◌, ◌++◌, map, Option, Some, None, Less, refl, sym, ap, ap₂, ◌∙◌}
 use Rattle.adr_state.specs.declared.keys.ViewKey.{ViewKey}
 use Rattle.adr_view.specs.declared.changes.Change.{Change}
 use Rattle.adr_view.specs.declared.changes.Operation.{Operation}
@@ -10,7 +10,7 @@ use Rattle.adr_view.specs.Views.{view}
 use Rattle.adr_refresh.specs.Sources.{Source, source_cmp, source_of, is_of, rows_of}
 use Rattle.adr_refresh.specs.Refresh.{as_row, changes_told}
 use Rattle.adr_refresh.specs.Laws.{HasAllThatDiffer, ChangesStandInTurn, changes_in_turn}
-use Rattle.adr_refresh.proofs.Common.{AllByRecursion, All-contains, All-from_recursion, Base, Behind, Contains, InOrder, IsStrictlySortedBy, at, cases_Bool, flat_map, from_flat, in_order_append, is_eq, list_any, made_in_order, none_sorted, option_or, true≢false, view_cmp, view_exact, view_total}
+use Rattle.adr_refresh.proofs.Common.{All-contains, All-from_recursion, Base, Behind, Contains, InOrder, IsStrictlySortedBy, at, cases_Bool, flat_map, from_flat, in_order_append, is_eq, list_any, made_in_order, true≢false, view_cmp, view_exact, view_total}
 use Rattle.adr_refresh.proofs.ListLemmas.{none_passes}
 use Rattle.adr_refresh.proofs.MapLemmas.{at-flat, found, or_none, same_maps}
 use Rattle.adr_refresh.proofs.ChangeLemmas.{change_at, at-changes, changes_in_order, no_change}

@@ -1,0 +1,6 @@
+pub mod Columns
+pub mod KeptViews
+pub mod Changes
+pub mod Rollups
+pub mod Refreshed
+pub mod Laws

@@ -1,0 +1,41 @@
+-- What a refresh makes of what tables keep.
+use Rattle.std.specs.Prelude.{◌≡◌, ℕ, List, Option, Result, IfOk}
+use Rattle.sqlite.specs.Store.{Ghosts}
+use Rattle.sqlite.specs.Held.{Held, state}
+use Rattle.sqlite.specs.State.{HasCleanDisk}
+use Rattle.adr_state.specs.declared.base.Base.{Base}
+use Rattle.adr_state.specs.declared.keys.ViewKey.{ViewKey}
+use Rattle.adr_view.specs.declared.view.Content.{Content}
+use Rattle.adr_db.specs.Bases.{Beside, HoldsBeside}
+use Rattle.adr_kept_view.specs.declared.change.RollupChange.{RollupChange}
+use Rattle.adr_kept_view.specs.declared.change.ShownChange.{ShownChange}
+use Rattle.adr_kept_view.specs.Changes.{found_of}
+use Rattle.adr_kept_view.specs.KeptViews.{KeepsView, Owns}
+use Rattle.adr_kept_view.specs.Refreshed.{IsEventRefreshed, IsRollupRefreshed}
+use Rattle.adr_upkeep.specs.declared.found.Found.{Found}
+
+-- what was found is what tables that hold a base, beside anything, keep of an event, and show of it now
+pub record IsFound (beside : Beside) (base : Base) (id : List ℕ) (found : Found) : Type 0 where
+  pub kept : found.kept ≡ (found_of beside base id).kept
+  pub stamps : found.stamps ≡ (found_of beside base id).stamps
+  pub shown : found.shown ≡ (found_of beside base id).shown
+
+module _ {S : Type 0} (g : Ghosts S) (old new : Held S) where
+  -- after Ok, it was found in what the tables held, and they hold that still
+  abbrev pub FindsEvent : {E : Type 0} → List ℕ → Result Found E → Type 0
+  FindsEvent id result = HasCleanDisk (state g new) → IfOk result (λ found. (beside : Beside) (base : Base) → HoldsBeside beside base (state g old) → IsFound beside base id found × HoldsBeside beside base (state g new))
+
+  -- after Ok, where the tables held a base and kept what was shown, they hold the base, beside what the refresh of the
+  -- event leaves, and its changes are answered
+  abbrev pub RefreshesEvent : {E : Type 0} → List ℕ → ℕ → Result (List ShownChange) E → Type 0
+  RefreshesEvent id now result =
+      HasCleanDisk (state g new)
+      → IfOk result (λ changes. (owner : ℕ → ℕ) (rows : List (ViewKey × Content)) (beside : Beside) (base : Base) → HoldsBeside beside base (state g old) → KeepsView owner rows beside → Owns owner base
+      → (after : Beside) × HoldsBeside after base (state g new) × IsEventRefreshed owner rows beside base now id changes after)
+
+  -- the same of the roll-up of an event
+  abbrev pub RefreshesRollup : {E : Type 0} → List ℕ → ℕ → Result (Option RollupChange) E → Type 0
+  RefreshesRollup id now result =
+      HasCleanDisk (state g new)
+      → IfOk result (λ change. (owner : ℕ → ℕ) (rows : List (ViewKey × Content)) (beside : Beside) (base : Base) → HoldsBeside beside base (state g old) → KeepsView owner rows beside
+      → (after : Beside) × HoldsBeside after base (state g new) × IsRollupRefreshed owner rows beside base now id change after)

@@ -1,0 +1,14 @@
+//! The tables of what is shown, kept up: what they keep of one upstream event is compared with what is shown now, and the
+//! difference is written and answered, on a lent transaction.
+#![tactic(auto)]
+
+mod columns;
+mod events;
+mod found;
+mod owner;
+mod rollups;
+mod stamps;
+mod turn;
+
+pub use events::refresh;
+pub use rollups::refresh_rollup;
