@@ -11,10 +11,10 @@ use Rattle.adr_touched.specs.Answers.{HasEach, HasEvents}
 use Rattle.adr_touched.specs.Laws.{sources_of, AnswersSuffice}
 
 module _ (keys : List MirrorKey) (numbers : List ℕ) where
-  abbrev front : List Source
+  abbrev pub front : List Source
   front = map Upstream keys ++ map Reported numbers
 
-  abbrev rolled : List Source
+  abbrev pub rolled : List Source
   rolled = map (λ (k : MirrorKey). RolledUp k.id) keys
 
   -- an event among the keys

@@ -4,3 +4,4 @@ pub mod Statements
 pub mod Found
 pub mod Live
 pub mod Covered
+pub mod Evidence

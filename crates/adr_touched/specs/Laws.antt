@@ -1,11 +1,15 @@
 -- That the answers have all that an edit touches.
-use Rattle.std.specs.Prelude.{ℕ, List, map, ◌++◌}
+use Rattle.std.specs.Prelude.{ℕ, List, [], map, ◌++◌, Option}
 use Rattle.adr_state.specs.declared.base.Base.{Base}
+use Rattle.adr_state.specs.declared.base.Mark.{Mark}
 use Rattle.adr_state.specs.declared.keys.MirrorKey.{MirrorKey}
+use Rattle.adr_state.specs.BaseChanges.{JoinMarks}
+use Rattle.adr_state.specs.Mirror.{joined}
 use Rattle.adr_state.specs.Portfolios.{PortfolioChange, DropVen, is_of_ven}
 use Rattle.adr_db.specs.Bases.{Beside, kept_beside}
 use Rattle.adr_refresh.specs.Sources.{Source, Upstream, Reported, RolledUp}
-use Rattle.adr_refresh.specs.Touched.{one_shares, reports_by, events_touched, reports_touched, touched_by}
+use Rattle.adr_refresh.specs.Touched.{one_shares, reports_by, events_touched, reports_touched, touched_by, touched}
+use Rattle.adr_mirror.specs.Raises.{HaveRisen}
 use Rattle.adr_touched.specs.Answers.{HasEach, HasEvents, live_events}
 
 -- the sources of upstream keys and of reports: each key, each report, and the roll-up at the id of each key
@@ -21,3 +25,7 @@ AnswersSuffice = (c : PortfolioChange) (base : Base) (keys : List MirrorKey) (nu
 abbrev pub VenIsCovered : Type 0
 VenIsCovered = (ven : ℕ) (beside : Beside) (base : Base) (keys : List MirrorKey) (numbers : List ℕ) → HasEvents keys (live_events (one_shares base.portfolio ven) (kept_beside beside base))
     → HasEach numbers (reports_by (is_of_ven ven base.portfolio.resources) base.portfolio) → HasEach (sources_of keys numbers) (touched_by (DropVen ven) base)
+
+-- the keys that are answered where evidence joins the mirror have all that it touches
+abbrev pub EvidenceIsCovered : Type 0
+EvidenceIsCovered = (base : Base) (marks : List (MirrorKey × Mark)) (scan : Option (List MirrorKey)) (keys : List MirrorKey) → HaveRisen base.mirror (joined base.mirror marks) keys → HasEach (sources_of keys []) (touched (JoinMarks marks scan) base)
