@@ -6,13 +6,15 @@ use Rattle.sqlite.specs.State.{HasCleanDisk}
 use Rattle.adr_state.specs.declared.base.Base.{Base}
 use Rattle.adr_state.specs.declared.keys.ViewKey.{ViewKey}
 use Rattle.adr_view.specs.declared.view.Content.{Content}
-use Rattle.adr_db.specs.Bases.{Beside, HoldsBeside}
+use Rattle.adr_db.specs.Bases.{Beside, kept_beside, HoldsBeside}
 use Rattle.adr_kept_view.specs.declared.change.RollupChange.{RollupChange}
 use Rattle.adr_kept_view.specs.declared.change.ShownChange.{ShownChange}
 use Rattle.adr_kept_view.specs.Changes.{found_of}
 use Rattle.adr_kept_view.specs.KeptViews.{KeepsView, Owns}
 use Rattle.adr_kept_view.specs.Refreshed.{IsEventRefreshed, IsRollupRefreshed}
 use Rattle.adr_upkeep.specs.declared.found.Found.{Found}
+use Rattle.adr_upkeep.specs.declared.sharers.Sharers.{Sharers}
+use Rattle.adr_upkeep.specs.Sharing.{AreThoseOf}
 
 -- what was found is what tables that hold a base, beside anything, keep of an event, and show of it now
 pub record IsFound (beside : Beside) (base : Base) (id : List ℕ) (found : Found) : Type 0 where
@@ -21,9 +23,13 @@ pub record IsFound (beside : Beside) (base : Base) (id : List ℕ) (found : Foun
   pub shown : found.shown ≡ (found_of beside base id).shown
 
 module _ {S : Type 0} (g : Ghosts S) (old new : Held S) where
-  -- after Ok, it was found in what the tables held, and they hold that still
-  abbrev pub FindsEvent : {E : Type 0} → List ℕ → Result Found E → Type 0
-  FindsEvent id result = HasCleanDisk (state g new) → IfOk result (λ found. (beside : Beside) (base : Base) → HoldsBeside beside base (state g old) → IsFound beside base id found × HoldsBeside beside base (state g new))
+  -- after Ok, where those who share were right, it was found in what the tables held; they hold that still, and those are
+  -- right still
+  abbrev pub FindsEvent : {E : Type 0} → List ℕ → Sharers → Sharers → Result Found E → Type 0
+  FindsEvent id before after result =
+      HasCleanDisk (state g new)
+      → IfOk result (λ found. (beside : Beside) (base : Base) → HoldsBeside beside base (state g old) → AreThoseOf (kept_beside beside base) before
+      → IsFound beside base id found × AreThoseOf (kept_beside beside base) after × HoldsBeside beside base (state g new))
 
   -- after Ok, where the tables held a base and kept what was shown, they hold the base, beside what the refresh of the
   -- event leaves, and its changes are answered
@@ -32,6 +38,14 @@ module _ {S : Type 0} (g : Ghosts S) (old new : Held S) where
       HasCleanDisk (state g new)
       → IfOk result (λ changes. (owner : ℕ → ℕ) (rows : List (ViewKey × Content)) (beside : Beside) (base : Base) → HoldsBeside beside base (state g old) → KeepsView owner rows beside → Owns owner base
       → (after : Beside) × HoldsBeside after base (state g new) × IsEventRefreshed owner rows beside base now id changes after)
+
+  -- the same where those who share were right, and they are right still
+  abbrev pub RefreshesSharing : {E : Type 0} → List ℕ → ℕ → Sharers → Sharers → Result (List ShownChange) E → Type 0
+  RefreshesSharing id now before after result =
+      HasCleanDisk (state g new)
+      → IfOk result (λ changes. (owner : ℕ → ℕ) (rows : List (ViewKey × Content)) (beside : Beside) (base : Base) → HoldsBeside beside base (state g old) → KeepsView owner rows beside → Owns owner base
+      → AreThoseOf (kept_beside beside base) before
+      → (later : Beside) × HoldsBeside later base (state g new) × AreThoseOf (kept_beside later base) after × IsEventRefreshed owner rows beside base now id changes later)
 
   -- the same of the roll-up of an event
   abbrev pub RefreshesRollup : {E : Type 0} → List ℕ → ℕ → Result (Option RollupChange) E → Type 0

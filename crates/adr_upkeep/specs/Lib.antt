@@ -1,3 +1,4 @@
 pub mod Turned
 pub mod Rolled
+pub mod Sharing
 pub mod Calls

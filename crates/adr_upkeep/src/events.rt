@@ -7,10 +7,11 @@ ghost use Rattle.adr_state.specs.Keys.{at};
 ghost use Rattle.adr_sql.specs.Calls.{LeavesLent};
 ghost use Rattle.adr_db.specs.Calls.{Turns, IsOfStore};
 ghost use Rattle.adr_kept_view.specs.Changes.{with_numbers};
-ghost use Rattle.adr_upkeep.specs.Calls.{RefreshesEvent};
+ghost use Rattle.adr_upkeep.specs.Calls.{RefreshesEvent, RefreshesSharing};
 ghost use Rattle.adr_upkeep.specs.Turned.{numbers_in, kept_with_each, changes_of, reads_of};
 
 use crate::found::{Found, find};
+use crate::sharers::Sharers;
 use crate::turn::turn_one;
 use adr_kept_view::ShownChange;
 use adr_objects::Number;
@@ -83,7 +84,25 @@ fn turn_each<S: Alter>(
 
 /// What tables keep of an upstream event is compared with what is shown of it now, by the numbers of the resources: what
 /// appears or differs is put, with its stamps, and what goes is removed with them; what stays is left alone. Answered are
-/// exactly the changes, in the order of the keys, each with what is told of it.
+/// exactly the changes, in the order of the keys, each with what is told of it. Those who share in its program are read
+/// unless they are known, and known then: events of one program, one after another, read them once. That holds only until
+/// something else of the portfolio is written.
+pub fn refresh_sharing<S: Alter>(
+    alloc: Global,
+    tx: &mut Transaction<'_, S>,
+    sharers: &mut Sharers,
+    event: &ObjectId,
+    now: Moment,
+) -> Result<Rows<ShownChange>, Refusal>
+    ensures lent { LeavesLent S.Store tx.old.conn tx.new.conn result }
+    ensures refreshes { RefreshesSharing S.Store tx.old.conn.now tx.new.conn.now event.now now sharers.old sharers.new result }
+    ensures refused { IfErr result IsOfStore }
+{
+    let found = find(alloc, tx, sharers, event)?;
+    turn_each(alloc, tx, event, now, &found)
+}
+
+/// The same of one event alone.
 pub fn refresh<S: Alter>(
     alloc: Global,
     tx: &mut Transaction<'_, S>,
@@ -94,6 +113,6 @@ pub fn refresh<S: Alter>(
     ensures refreshes { RefreshesEvent S.Store tx.old.conn.now tx.new.conn.now event.now now result }
     ensures refused { IfErr result IsOfStore }
 {
-    let found = find(alloc, tx, event)?;
-    turn_each(alloc, tx, event, now, &found)
+    let mut sharers = Sharers::none(alloc);
+    refresh_sharing(alloc, tx, &mut sharers, event, now)
 }

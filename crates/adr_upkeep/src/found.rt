@@ -7,10 +7,11 @@ ghost use Rattle.adr_db.specs.Calls.{IsOfStore};
 ghost use Rattle.adr_upkeep.specs.Calls.{FindsEvent};
 ghost use Rattle.adr_kept_view.specs.Changes.{kept_row, stamps_row, event_row};
 
+use crate::sharers::Sharers;
+use crate::shown::shown_by;
 use adr_db::reading::table_of;
 use adr_db::{ShownColumns, ShownKey};
 use adr_db_shown::{read_event_stamps, read_shown_of};
-use adr_events::shown;
 use adr_objects::{Number, ShownEvent, Stamps};
 use adr_state::{ViewKey, push_some};
 use adr_text::{ObjectId, Refusal, Rows, Table};
@@ -95,17 +96,18 @@ fn event_rows(
 pub(crate) fn find<S: Alter>(
     alloc: Global,
     tx: &mut Transaction<'_, S>,
+    sharers: &mut Sharers,
     event: &ObjectId,
 ) -> Result<Found, Refusal>
     ensures lent { LeavesLent S.Store tx.old.conn tx.new.conn result }
-    ensures finds { FindsEvent S.Store tx.old.conn.now tx.new.conn.now event.now result }
+    ensures finds { FindsEvent S.Store tx.old.conn.now tx.new.conn.now event.now sharers.old sharers.new result }
     ensures refused { IfErr result IsOfStore }
 {
     let rows = read_shown_of(alloc, tx, event)?;
     let kept = table_of(alloc, kept_rows(alloc, rows)?)?;
     let rows = read_event_stamps(alloc, tx, event)?;
     let stamps = table_of(alloc, stamps_rows(alloc, rows.as_slice())?)?;
-    let rows = shown(alloc, tx, event)?;
+    let rows = shown_by(alloc, tx, sharers, event)?;
     let shown = table_of(alloc, event_rows(alloc, rows.as_slice())?)?;
     Ok(Found {
         kept,

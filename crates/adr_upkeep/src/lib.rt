@@ -7,8 +7,11 @@ mod events;
 mod found;
 mod owner;
 mod rollups;
+mod sharers;
+mod shown;
 mod stamps;
 mod turn;
 
-pub use events::refresh;
+pub use events::{refresh, refresh_sharing};
 pub use rollups::refresh_rollup;
+pub use sharers::Sharers;

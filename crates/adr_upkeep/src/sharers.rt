@@ -1,0 +1,108 @@
+//! Who shares in the program of an event, kept from one event to the next.
+ghost use Rattle.std.specs.Prelude.{◌≡◌, None, Some, IfOk, IfErr, if◌then◌else◌, bytes_eq, false};
+ghost use Rattle.std.specs.Option.{option_map_or};
+ghost use Rattle.adr_state.specs.Participants.{is_for};
+ghost use Rattle.adr_sql.specs.Calls.{LeavesLent};
+ghost use Rattle.adr_db.specs.Calls.{IsOfStore};
+ghost use Rattle.adr_db.specs.Kept.{Kept};
+ghost use Rattle.adr_db.specs.Sharing.{those_for};
+ghost use Rattle.adr_upkeep.specs.Sharing.{AreThoseOf, FindsThose};
+
+use adr_db_portfolio::read_sharers;
+use adr_objects::NameSet;
+use adr_state::{Participant, is_for, push_some};
+use adr_text::{ObjectId, Refusal, Rows};
+use sqlite::{Alter, Transaction};
+use std::alloc::{AllocError, Global};
+
+/// Those who share in the program of the event that was looked at last, so that of the events of one program, one after
+/// another, they are read once.
+pub struct Sharers {
+    program: Option<ObjectId>,
+    pub(crate) those: Rows<Participant>,
+}
+
+impl Drop for Sharers {
+    fn drop(self) {
+        let Sharers {
+            program: _,
+            those: _,
+        } = self;
+    }
+}
+
+impl Sharers {
+    /// Those of no program.
+    pub fn none(alloc: Global) -> Sharers
+        ensures { (kept : Kept) → AreThoseOf kept result }
+    {
+        Sharers {
+            program: None,
+            those: Rows::new(alloc),
+        }
+    }
+
+    // Whether they are those of this program.
+    fn is_of(&self, program: &ObjectId) -> bool
+        ensures { result ≡ option_map_or (λ p. bytes_eq p program.now) self.now.program false }
+    {
+        match &self.program {
+            Some(its) => *its == *program,
+            None => false,
+        }
+    }
+
+    /// Those who share in a program, which are read unless they were before.
+    pub(crate) fn read<S: Alter>(
+        &mut self,
+        alloc: Global,
+        tx: &mut Transaction<'_, S>,
+        program: &ObjectId,
+    ) -> Result<(), Refusal>
+        ensures lent { LeavesLent S.Store tx.old.conn tx.new.conn result }
+        ensures finds { FindsThose S.Store tx.old.conn.now tx.new.conn.now program.now self.old self.new result }
+        ensures refused { IfErr result IsOfStore }
+    {
+        if self.is_of(program) {
+            return Ok(());
+        }
+        let those = read_sharers(alloc, tx, program)?;
+        self.program = Some(program.copy(alloc)?);
+        self.those = those;
+        Ok(())
+    }
+}
+
+// One of them, where the event is for that name.
+fn one_for(
+    alloc: Global,
+    names: &Option<NameSet>,
+    one: &Participant,
+) -> Result<Option<Participant>, AllocError>
+    ensures { IfOk result (λ those. those ≡ (if is_for names.now one.now.name then Some one.now else None)) }
+{
+    if !is_for(names, &one.name) {
+        return Ok(None);
+    }
+    Ok(Some(Participant {
+        resource: one.resource,
+        weight: one.weight,
+        name: one.name.copy(alloc)?,
+        ven_name: one.ven_name.copy(alloc)?,
+    }))
+}
+
+/// Those for whose names an event is.
+pub(crate) fn those_for(
+    alloc: Global,
+    names: &Option<NameSet>,
+    sharers: &[Participant],
+) -> Result<Vec<Participant>, AllocError>
+    ensures { IfOk result (λ those. those.items ≡ those_for names.now sharers.now) }
+{
+    let mut those = Vec::new(alloc);
+    for one in sharers {
+        push_some(&mut those, one_for(alloc, names, one)?)?;
+    }
+    Ok(those)
+}

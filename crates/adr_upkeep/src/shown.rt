@@ -1,0 +1,58 @@
+//! What is shown of an upstream event, of whose program those who share may be known.
+ghost use Rattle.std.specs.Prelude.{◌≡◌, IfErr};
+ghost use Rattle.adr_sql.specs.Calls.{LeavesLent};
+ghost use Rattle.adr_db.specs.Calls.{IsOfStore};
+ghost use Rattle.adr_view.specs.Views.{event_rows, shown_of};
+ghost use Rattle.adr_upkeep.specs.Sharing.{FindsSharing};
+
+use crate::sharers::{Sharers, those_for};
+use adr_db_mirror::read_known;
+use adr_objects::EventBody;
+use adr_state::ViewKey;
+use adr_text::{ObjectId, Refusal, Rows};
+use adr_view::{Content, carries, event_body, event_key, rows_for};
+use sqlite::{Alter, Transaction};
+use std::alloc::Global;
+
+// What is shown of an event whose body was read.
+fn event_rows<S: Alter>(
+    alloc: Global,
+    tx: &mut Transaction<'_, S>,
+    sharers: &mut Sharers,
+    id: &ObjectId,
+    event: &EventBody,
+) -> Result<Rows<(ViewKey, Content)>, Refusal>
+    ensures lent { LeavesLent S.Store tx.old.conn tx.new.conn result }
+    ensures finds { FindsSharing S.Store tx.old.conn.now tx.new.conn.now sharers.old sharers.new (λ base rows. rows ≡ event_rows base id.now event.now) result }
+    ensures refused { IfErr result IsOfStore }
+{
+    if !carries(event) {
+        return Ok(Rows::new(alloc));
+    }
+    sharers.read(alloc, tx, &event.program)?;
+    let ps = those_for(alloc, &event.resource_names, sharers.those.as_slice())?;
+    if ps.len() > 10_000 {
+        return Err(Refusal::Store);
+    }
+    Ok(rows_for(alloc, id, event, &ps)?)
+}
+
+/// What is shown of an upstream event: for each of its participants, in the order of their numbers, its key with its
+/// content. Those who share in its program are read unless they are known.
+pub(crate) fn shown_by<S: Alter>(
+    alloc: Global,
+    tx: &mut Transaction<'_, S>,
+    sharers: &mut Sharers,
+    event: &ObjectId,
+) -> Result<Rows<(ViewKey, Content)>, Refusal>
+    ensures lent { LeavesLent S.Store tx.old.conn tx.new.conn result }
+    ensures finds { FindsSharing S.Store tx.old.conn.now tx.new.conn.now sharers.old sharers.new (λ base rows. rows ≡ shown_of base event.now) result }
+    ensures refused { IfErr result IsOfStore }
+{
+    let key = event_key(event)?;
+    let known = read_known(alloc, tx, &key)?;
+    match event_body(known.as_ref()) {
+        Some(body) => event_rows(alloc, tx, sharers, event, body),
+        None => Ok(Rows::new(alloc)),
+    }
+}
