@@ -1,0 +1,289 @@
+//! What a refresh takes.
+use crate::play::make_tables;
+use adr_db::Meta;
+use adr_db_portfolio::{put_resource, put_share, put_ven};
+use adr_mirror::put_evidence;
+use adr_objects::{
+    Body, EventBody, Found, Interval, Intervals, Kind, Number, ResourceName, Setpoint, Stamps,
+    UpstreamId,
+};
+use adr_state::{Limits, Resource, ShareKey, Ven, Weight, fresh};
+use adr_text::{Moment, Name, ObjectId, Refusal};
+use adr_upkeep::refresh;
+use anyhow::{Context, Result, bail};
+use sqlite::{Alter, Connection, Transaction};
+use std::alloc::Global;
+use std::time::{Clock, Duration, Instant};
+
+/// How many vens there are. Their numbers come first, and those of the resources behind them.
+const VENS: u64 = 10;
+
+/// How much is measured.
+#[derive(Clone, Copy)]
+struct Size {
+    participants: u64,
+    events: u64,
+}
+
+fn stamps(moment: u64) -> Result<Stamps, Refusal> {
+    Ok(fresh(Moment::at(moment)?))
+}
+
+fn program(alloc: Global) -> Result<ObjectId, Refusal> {
+    ObjectId::new(alloc, "p")
+}
+
+fn event_id(alloc: Global, event: u64) -> Result<ObjectId, Refusal> {
+    ObjectId::new(alloc, format!(in alloc; "e{event}")?.as_str())
+}
+
+fn fill_ven<S: Alter>(
+    alloc: Global,
+    tx: &mut Transaction<'_, S>,
+    number: u64,
+) -> Result<(), Refusal> {
+    let name = format!(in alloc; "ven {number}")?;
+    let ven = Ven {
+        name: Name::new(alloc, name.as_str())?,
+        stamps: stamps(1)?,
+    };
+    put_ven(tx, Number::new(number), &ven)
+}
+
+// The resource at a place has the number behind those of the vens.
+fn number_at(place: u64) -> Number {
+    Number::new(place.wrapping_add(VENS).wrapping_add(1))
+}
+
+fn name_resource<S: Alter>(
+    alloc: Global,
+    tx: &mut Transaction<'_, S>,
+    place: u64,
+    name: &str,
+) -> Result<(), Refusal> {
+    let resource = Resource {
+        ven: Number::new((place % VENS).wrapping_add(1)),
+        name: ResourceName::new(alloc, name)?,
+        stamps: stamps(1)?,
+    };
+    put_resource(tx, number_at(place), &resource)
+}
+
+fn fill_share<S: Alter>(
+    alloc: Global,
+    tx: &mut Transaction<'_, S>,
+    place: u64,
+) -> Result<(), Refusal> {
+    let key = ShareKey {
+        program: program(alloc)?,
+        resource: number_at(place),
+    };
+    match Weight::new(1) {
+        Some(weight) => put_share(tx, &key, weight),
+        None => Err(Refusal::BadShare),
+    }
+}
+
+fn fill_portfolio<S: Alter>(
+    alloc: Global,
+    tx: &mut Transaction<'_, S>,
+    size: Size,
+) -> Result<(), Refusal> {
+    for number in 1..=VENS {
+        fill_ven(alloc, tx, number)?;
+    }
+    for place in 0..size.participants {
+        let name = format!(in alloc; "resource {place}")?;
+        name_resource(alloc, tx, place, name.as_str())?;
+        fill_share(alloc, tx, place)?;
+    }
+    Ok(())
+}
+
+// An interval with so much for each participant.
+fn intervals(alloc: Global, size: Size, each: u64) -> Result<Intervals, Refusal> {
+    let amount = i64::try_from(size.participants.wrapping_mul(each)).unwrap_or(0);
+    let mut intervals = Vec::new(alloc);
+    intervals.push(Interval {
+        id: 0,
+        period: None,
+        setpoint: Some(Setpoint::new(amount)?),
+    })?;
+    Ok(Intervals::apart(intervals)?)
+}
+
+fn version(alloc: Global, size: Size, event: u64, each: u64) -> Result<Found, Refusal> {
+    let body = EventBody {
+        program: program(alloc)?,
+        name: None,
+        priority: None,
+        period: None,
+        resource_names: None,
+        intervals: intervals(alloc, size, each)?,
+    };
+    Ok(Found {
+        kind: Kind::Event,
+        id: UpstreamId::new(alloc, event_id(alloc, event)?.as_str())?,
+        moment: Moment::at(each)?,
+        body: Body::Event(body),
+    })
+}
+
+// The versions of all events in which each participant has so much, which is their moment too.
+fn versions(alloc: Global, size: Size, each: u64) -> Result<Vec<Found>, Refusal> {
+    let mut versions = Vec::new(alloc);
+    for event in 0..size.events {
+        versions.push(version(alloc, size, event, each)?)?;
+    }
+    Ok(versions)
+}
+
+fn put_events<S: Alter>(
+    alloc: Global,
+    tx: &mut Transaction<'_, S>,
+    size: Size,
+    each: u64,
+) -> Result<(), Refusal> {
+    let mut meta = Meta::first();
+    let versions = versions(alloc, size, each)?;
+    put_evidence(alloc, tx, &Limits::largest(), &mut meta, &versions, false)?;
+    Ok(())
+}
+
+// Refreshes each event, and answers how many changes were told.
+fn refresh_all<S: Alter>(
+    alloc: Global,
+    tx: &mut Transaction<'_, S>,
+    size: Size,
+    now: Moment,
+) -> Result<u64, Refusal> {
+    let mut told = 0u64;
+    for event in 0..size.events {
+        let changes = refresh(alloc, tx, &event_id(alloc, event)?, now)?;
+        told = told.wrapping_add(changes.len() as u64);
+    }
+    Ok(told)
+}
+
+/// What is done before a refresh is measured.
+#[derive(Clone, Copy)]
+enum Before {
+    /// All is new.
+    Fill,
+    Nothing,
+    /// One resource is renamed.
+    Rename,
+    /// Newer versions of the events come.
+    Versions,
+}
+
+fn prepare<S: Alter>(
+    alloc: Global,
+    tx: &mut Transaction<'_, S>,
+    size: Size,
+    before: Before,
+) -> Result<(), Refusal> {
+    match before {
+        Before::Fill => {
+            fill_portfolio(alloc, tx, size)?;
+            put_events(alloc, tx, size, 1)
+        }
+        Before::Nothing => Ok(()),
+        Before::Rename => name_resource(alloc, tx, 0, "renamed"),
+        Before::Versions => put_events(alloc, tx, size, 2),
+    }
+}
+
+fn prepare_in<S: Alter>(
+    alloc: Global,
+    conn: &mut Connection<S>,
+    size: Size,
+    before: Before,
+) -> Result<()> {
+    if !conn.is_autocommit() {
+        bail!("a transaction stands");
+    }
+    let mut tx = conn.transaction();
+    prepare(alloc, &mut tx, size, before)?;
+    tx.commit()?;
+    Ok(())
+}
+
+fn refresh_in<S: Alter>(
+    alloc: Global,
+    conn: &mut Connection<S>,
+    size: Size,
+    now: Moment,
+) -> Result<u64> {
+    if !conn.is_autocommit() {
+        bail!("a transaction stands");
+    }
+    let mut tx = conn.transaction();
+    let told = refresh_all(alloc, &mut tx, size, now)?;
+    tx.commit()?;
+    Ok(told)
+}
+
+/// Tenths of a microsecond, as microseconds.
+fn in_micros(alloc: Global, tenths: u64) -> Result<String> {
+    Ok(format!(in alloc; "{}.{}", tenths / 10, tenths % 10)?)
+}
+
+fn print_took<R: Print + AllocGlobal>(
+    rt: &R,
+    name: &str,
+    size: Size,
+    told: u64,
+    took: Duration,
+) -> Result<()> {
+    let tenths = u64::try_from(took.as_nanos() / 100).unwrap_or(u64::MAX);
+    let event = tenths.checked_div(size.events).unwrap_or(0);
+    let participant = event.checked_div(size.participants).unwrap_or(0);
+    let event = in_micros(rt.alloc(), event)?;
+    let participant = in_micros(rt.alloc(), participant)?;
+    println!(rt; "{name}: {event} us an event, {participant} us a participant, {told} changes")?;
+    Ok(())
+}
+
+fn measure<S: Alter, R: Print + Clock + AllocGlobal>(
+    rt: &R,
+    conn: &mut Connection<S>,
+    size: Size,
+    before: Before,
+    name: &str,
+) -> Result<()> {
+    prepare_in(rt.alloc(), conn, size, before)?;
+    let now = Moment::at(1)?;
+    let start = Instant::now(rt)?;
+    let told = refresh_in(rt.alloc(), conn, size, now)?;
+    let took = start.elapsed(rt)?;
+    print_took(rt, name, size, told, took)
+}
+
+fn measure_all<S: Alter, R: Print + Clock + AllocGlobal>(
+    rt: &R,
+    conn: &mut Connection<S>,
+    size: Size,
+) -> Result<()> {
+    make_tables(conn)?;
+    measure(rt, conn, size, Before::Fill, "all new")?;
+    measure(rt, conn, size, Before::Nothing, "no change")?;
+    measure(rt, conn, size, Before::Rename, "one change")?;
+    measure(rt, conn, size, Before::Versions, "all changed")
+}
+
+fn number_in(text: &str) -> Result<u64> {
+    text.parse().ok().context("no number")
+}
+
+/// Measures over so many participants and events, in memory or in the file of that path, which is to be a new one.
+pub fn run(rt: &HostRuntime, participants: &str, events: &str, file: Option<&str>) -> Result<()> {
+    let size = Size {
+        participants: number_in(participants)?,
+        events: number_in(events)?,
+    };
+    match file {
+        Some(path) => measure_all(rt, &mut Connection::open(rt, path)?, size),
+        None => measure_all(rt, &mut Connection::open_in_memory(rt.alloc())?, size),
+    }
+}

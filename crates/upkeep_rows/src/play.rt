@@ -1,0 +1,114 @@
+//! Edits are played one after another, each in a transaction of its own.
+use crate::counts::{Counts, print_counts, print_made};
+use crate::step::{Ended, World, step};
+use adr_db::create;
+use adr_state::Limits;
+use adr_text::Moment;
+use anyhow::{Result, bail};
+use sqlite::{Alter, Connection};
+use std::alloc::Global;
+
+/// The seeds, and how many steps are played from each.
+const SEEDS: [u64; 5] = [1, 22, 333, 4_444, 55_555];
+
+const STEPS: u64 = 300;
+
+const NANOS_PER_SECOND: u64 = 1_000_000_000;
+
+/// Few vens and resources, so that names are taken, and each is in many steps.
+fn limits() -> Limits {
+    let mut limits = Limits::largest();
+    limits.set("vens", 3);
+    limits.set("resources", 6);
+    limits.set("reports", 12);
+    limits
+}
+
+/// Makes the tables.
+pub fn make_tables<S: Alter>(conn: &mut Connection<S>) -> Result<()> {
+    if !conn.is_autocommit() {
+        bail!("a transaction stands");
+    }
+    let mut tx = conn.transaction();
+    create(&mut tx)?;
+    tx.commit()?;
+    Ok(())
+}
+
+/// One step: what an edit that is refused wrote goes with its transaction.
+fn step_in<S: Alter>(
+    alloc: Global,
+    conn: &mut Connection<S>,
+    world: &mut World,
+    now: Moment,
+) -> Result<Ended> {
+    if !conn.is_autocommit() {
+        bail!("a transaction stands");
+    }
+    let mut tx = conn.transaction();
+    let ended = step(alloc, &mut tx, world, now)?;
+    if let Ended::Made = ended {
+        tx.commit()?;
+    }
+    Ok(ended)
+}
+
+fn moment(step: u64) -> Result<Moment> {
+    Ok(Moment::at(step.wrapping_mul(NANOS_PER_SECOND))?)
+}
+
+/// Prints what differs at a step, and answers whether nothing does.
+fn tell<R: Print>(rt: &R, seed: u64, step: u64, ended: Ended) -> Result<bool> {
+    match ended {
+        Ended::Refused | Ended::Made => Ok(true),
+        Ended::Differs(what, None) => {
+            println!(rt; "seed {seed} step {step}: {what}")?;
+            Ok(false)
+        }
+        Ended::Differs(what, Some(event)) => {
+            println!(rt; "seed {seed} step {step}: {what}, e-{event}")?;
+            Ok(false)
+        }
+    }
+}
+
+/// Plays the steps of a seed, up to the first at which something differs, and answers whether nothing does.
+fn play_steps<S: Alter, R: Print + AllocGlobal>(
+    rt: &R,
+    conn: &mut Connection<S>,
+    seed: u64,
+    world: &mut World,
+) -> Result<bool> {
+    for step in 1..=STEPS {
+        let ended = step_in(rt.alloc(), conn, world, moment(step)?)?;
+        if !tell(rt, seed, step, ended)? {
+            return Ok(false);
+        }
+    }
+    Ok(true)
+}
+
+/// Plays a seed over tables in memory.
+fn play_seed<R: Print + AllocGlobal>(rt: &R, seed: u64, sum: &mut Counts) -> Result<bool> {
+    let mut conn = Connection::open_in_memory(rt.alloc())?;
+    make_tables(&mut conn)?;
+    let mut world = World::new(seed, limits());
+    let is_same = play_steps(rt, &mut conn, seed, &mut world)?;
+    print_counts(rt, seed, &world.counts)?;
+    sum.add_made(&world.counts);
+    Ok(is_same)
+}
+
+/// Plays each seed, and answers whether nothing differed.
+pub fn play<R: Print + AllocGlobal>(rt: &R) -> Result<bool> {
+    let mut is_same = true;
+    let mut sum = Counts::none();
+    for seed in SEEDS {
+        is_same &= play_seed(rt, seed, &mut sum)?;
+    }
+    print_made(rt, &sum)?;
+    if is_same {
+        println!(rt; "no difference")?;
+    }
+    Ok(is_same)
+}

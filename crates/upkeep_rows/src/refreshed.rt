@@ -1,0 +1,102 @@
+//! What is touched is refreshed, and what is told of it.
+use crate::touched::Touched;
+use adr_kept_view::{RollupChange, ShownChange};
+use adr_state::ViewKey;
+use adr_text::{Moment, ObjectId, Refusal};
+use adr_upkeep::{refresh, refresh_rollup};
+use adr_view::Change;
+use sqlite::{Alter, Transaction};
+use std::alloc::{AllocError, Global};
+use std::collections::BTreeSet;
+
+/// What is told of upstream events and of roll-ups, each behind the id of the event.
+#[derive(Drop)]
+pub struct Told {
+    pub shown: Vec<(ObjectId, ShownChange)>,
+    pub rollups: Vec<(ObjectId, RollupChange)>,
+}
+
+fn refresh_event<S: Alter>(
+    alloc: Global,
+    tx: &mut Transaction<'_, S>,
+    told: &mut Vec<(ObjectId, ShownChange)>,
+    event: &ObjectId,
+    now: Moment,
+) -> Result<(), Refusal> {
+    for change in refresh(alloc, tx, event, now)?.into_vec() {
+        told.push((event.copy(alloc)?, change))?;
+    }
+    Ok(())
+}
+
+// What is shown of each event is refreshed, in the order of their ids.
+fn refresh_events<S: Alter>(
+    alloc: Global,
+    tx: &mut Transaction<'_, S>,
+    events: &BTreeSet<ObjectId>,
+    now: Moment,
+) -> Result<Vec<(ObjectId, ShownChange)>, Refusal> {
+    let mut told = Vec::new(alloc);
+    for event in events {
+        refresh_event(alloc, tx, &mut told, event, now)?;
+    }
+    Ok(told)
+}
+
+fn refresh_one_rollup<S: Alter>(
+    alloc: Global,
+    tx: &mut Transaction<'_, S>,
+    told: &mut Vec<(ObjectId, RollupChange)>,
+    event: &ObjectId,
+    now: Moment,
+) -> Result<(), Refusal> {
+    if let Some(change) = refresh_rollup(alloc, tx, event, now)? {
+        told.push((event.copy(alloc)?, change))?;
+    }
+    Ok(())
+}
+
+fn refresh_rollups<S: Alter>(
+    alloc: Global,
+    tx: &mut Transaction<'_, S>,
+    events: &BTreeSet<ObjectId>,
+    now: Moment,
+) -> Result<Vec<(ObjectId, RollupChange)>, Refusal> {
+    let mut told = Vec::new(alloc);
+    for event in events {
+        refresh_one_rollup(alloc, tx, &mut told, event, now)?;
+    }
+    Ok(told)
+}
+
+/// Refreshes what is kept of the events that are touched, and then their roll-ups.
+pub fn refresh_touched<S: Alter>(
+    alloc: Global,
+    tx: &mut Transaction<'_, S>,
+    touched: &Touched,
+    now: Moment,
+) -> Result<Told, Refusal> {
+    let shown = refresh_events(alloc, tx, &touched.events, now)?;
+    let rollups = refresh_rollups(alloc, tx, &touched.events, now)?;
+    Ok(Told { shown, rollups })
+}
+
+impl Told {
+    /// The changes that are told, as changes of the view.
+    pub fn changes(&self, alloc: Global) -> Result<Vec<Change>, AllocError> {
+        let mut changes = Vec::new(alloc);
+        for (event, change) in &self.shown {
+            changes.push(Change {
+                key: ViewKey::Event(event.copy(alloc)?, change.resource),
+                operation: change.operation,
+            })?;
+        }
+        for (event, change) in &self.rollups {
+            changes.push(Change {
+                key: ViewKey::Rollup(event.copy(alloc)?),
+                operation: change.operation,
+            })?;
+        }
+        Ok(changes)
+    }
+}

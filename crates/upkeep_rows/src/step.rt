@@ -1,0 +1,246 @@
+//! One step: an edit, what is refreshed then, and what whole views give.
+use crate::choice::choose;
+use crate::compared::{Step, Wanted, differs_kept, differs_told, is_kept};
+use crate::counts::Counts;
+use crate::dice::Dice;
+use crate::edit::Edit;
+use crate::held::{Held, read_held, read_held_with};
+use crate::made::make;
+use crate::pages::{EVENTS, event_text};
+use crate::refreshed::{Told, refresh_touched};
+use crate::scene::Scene;
+use crate::touched::{Touched, add_touched};
+use adr_db::{Meta, put_meta, read_meta};
+use adr_db_state::{put_stamps, remove_stamps};
+use adr_events::view;
+use adr_objects::Kind;
+use adr_state::Limits;
+use adr_text::{Moment, ObjectId, Refusal};
+use adr_view::{Change, View, changes_of, restamped, row_at};
+use sqlite::{Alter, Transaction};
+use std::alloc::{AllocError, Global};
+
+/// What goes on from step to step beside the tables.
+#[derive(Drop)]
+pub struct World {
+    pub dice: Dice,
+    pub limits: Limits,
+    /// The number of the first event that isn't gone.
+    pub first_event: u64,
+    pub counts: Counts,
+}
+
+/// How a step ended.
+#[derive(Clone, Copy)]
+pub enum Ended {
+    /// The edit was refused, or there was nothing to edit, and the transaction is to be dropped.
+    Refused,
+    /// All is as it has to be.
+    Made,
+    /// Something differs; where it is kept of one event, its number.
+    Differs(&'static str, Option<u64>),
+}
+
+// Makes an edit, draws its number, and answers what it touched.
+fn edited<S: Alter>(
+    alloc: Global,
+    tx: &mut Transaction<'_, S>,
+    scene: &Scene<'_>,
+    mut meta: Meta,
+    edit: &Edit,
+) -> Result<Touched, Refusal> {
+    let mut touched = Touched::new(alloc);
+    add_touched(alloc, tx, &mut touched, scene.number, edit)?;
+    let risen = make(alloc, tx, scene, &mut meta, edit)?;
+    touched.add_keys(risen.as_slice())?;
+    meta.serial.draw(scene.limits, true)?;
+    put_meta(tx, &meta)?;
+    Ok(touched)
+}
+
+// What an edit touched, where it was made.
+fn unless_refused(edited: Result<Touched, Refusal>) -> Result<Option<Touched>, Refusal> {
+    match edited {
+        Ok(touched) => Ok(Some(touched)),
+        Err(Refusal::OutOfMemory) => Err(Refusal::OutOfMemory),
+        Err(Refusal::Store) => Err(Refusal::Store),
+        Err(_) => Ok(None),
+    }
+}
+
+fn wanted(alloc: Global, before: &Held, after: &View, now: Moment) -> Result<Wanted, AllocError> {
+    let changes = changes_of(alloc, &before.view, after)?;
+    let stamps = restamped(alloc, &before.stamps, &before.view, after, now)?;
+    Ok(Wanted { changes, stamps })
+}
+
+// The stamps of a program or a report that changes.
+fn keep_stamps_of<S: Alter>(
+    tx: &mut Transaction<'_, S>,
+    wanted: &Wanted,
+    change: &Change,
+) -> Result<(), Refusal> {
+    match row_at(&wanted.stamps, &change.key) {
+        Some(stamps) => put_stamps(tx, &change.key, *stamps),
+        None => remove_stamps(tx, &change.key),
+    }
+}
+
+// The stamps of the programs and reports that change: their rows are kept in no table.
+fn keep_stamps<S: Alter>(tx: &mut Transaction<'_, S>, wanted: &Wanted) -> Result<(), Refusal> {
+    for change in &wanted.changes {
+        if !is_kept(&change.key) {
+            keep_stamps_of(tx, wanted, change)?;
+        }
+    }
+    Ok(())
+}
+
+// What whole views give, and what the tables hold then.
+fn settle<S: Alter>(
+    alloc: Global,
+    tx: &mut Transaction<'_, S>,
+    before: &Held,
+    now: Moment,
+) -> Result<(Wanted, Held), Refusal> {
+    let view = view(alloc, tx)?;
+    let wanted = wanted(alloc, before, &view, now)?;
+    keep_stamps(tx, &wanted)?;
+    let after = read_held_with(alloc, tx, view)?;
+    Ok((wanted, after))
+}
+
+// What differs in what is kept of an event.
+fn differs_of<S: Alter>(
+    alloc: Global,
+    tx: &mut Transaction<'_, S>,
+    held: &Held,
+    number: u64,
+) -> Result<Option<&'static str>, Refusal> {
+    let text = event_text(alloc, number)?;
+    let event = ObjectId::new(alloc, text.as_str())?;
+    differs_kept(alloc, tx, held, &event)
+}
+
+// Looks at what is kept of each event that ever came.
+fn look_at_kept<S: Alter>(
+    alloc: Global,
+    tx: &mut Transaction<'_, S>,
+    held: &Held,
+    events: u64,
+) -> Result<Ended, Refusal> {
+    for number in 0..events {
+        if let Some(what) = differs_of(alloc, tx, held, number)? {
+            return Ok(Ended::Differs(what, Some(number)));
+        }
+    }
+    Ok(Ended::Made)
+}
+
+fn look<S: Alter>(
+    alloc: Global,
+    tx: &mut Transaction<'_, S>,
+    step: &Step<'_>,
+    wanted: &Wanted,
+    events: u64,
+) -> Result<Ended, Refusal> {
+    if let Some(what) = differs_told(alloc, step, wanted)? {
+        return Ok(Ended::Differs(what, None));
+    }
+    look_at_kept(alloc, tx, step.after, events)
+}
+
+impl World {
+    /// A new world.
+    pub fn new(seed: u64, limits: Limits) -> World {
+        World {
+            dice: Dice::new(seed),
+            limits,
+            first_event: 0,
+            counts: Counts::none(),
+        }
+    }
+
+    // So many events came, or may have.
+    fn events(&self) -> u64 {
+        self.first_event.wrapping_add(EVENTS)
+    }
+
+    fn note_made(&mut self, edit: &Edit) {
+        self.counts.count_made(edit.kind());
+        if let Edit::Gone(Kind::Event, _) = edit {
+            self.first_event = self.first_event.wrapping_add(1);
+        }
+    }
+
+    fn note_told(&mut self, before: &Held, after: &Held, told: &Told) {
+        self.counts.count_told(told);
+        self.counts.count_gone(before, after);
+    }
+}
+
+// What follows an edit that was made.
+fn follow<S: Alter>(
+    alloc: Global,
+    tx: &mut Transaction<'_, S>,
+    world: &mut World,
+    before: &Held,
+    touched: &Touched,
+    now: Moment,
+) -> Result<Ended, Refusal> {
+    let told = refresh_touched(alloc, tx, touched, now)?;
+    let (wanted, after) = settle(alloc, tx, before, now)?;
+    world.note_told(before, &after, &told);
+    let step = Step {
+        before,
+        after: &after,
+        touched,
+        told: &told,
+    };
+    look(alloc, tx, &step, &wanted, world.events())
+}
+
+// Chooses an edit and makes it, and answers what it touched, unless it was refused.
+fn edit_once<S: Alter>(
+    alloc: Global,
+    tx: &mut Transaction<'_, S>,
+    world: &mut World,
+    before: &Held,
+    now: Moment,
+) -> Result<Option<Touched>, Refusal> {
+    let meta = read_meta(tx)?;
+    let limits = world.limits;
+    let scene = Scene {
+        limits: &limits,
+        now,
+        number: meta.serial.next(),
+        before,
+        first_event: world.first_event,
+    };
+    let Some(edit) = choose(alloc, &mut world.dice, &scene)? else {
+        return Ok(None);
+    };
+    let touched = unless_refused(edited(alloc, tx, &scene, meta, &edit))?;
+    if touched.is_some() {
+        world.note_made(&edit);
+    }
+    Ok(touched)
+}
+
+/// Makes an edit, refreshes what it touched, and compares what is told and kept with what whole views give.
+pub fn step<S: Alter>(
+    alloc: Global,
+    tx: &mut Transaction<'_, S>,
+    world: &mut World,
+    now: Moment,
+) -> Result<Ended, Refusal> {
+    let before = read_held(alloc, tx)?;
+    world.counts.count_step();
+    match edit_once(alloc, tx, world, &before, now)? {
+        Some(touched) => follow(alloc, tx, world, &before, &touched, now),
+        None => {
+            world.counts.count_refused();
+            Ok(Ended::Refused)
+        }
+    }
+}
