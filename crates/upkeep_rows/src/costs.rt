@@ -9,7 +9,7 @@ use adr_objects::{
 };
 use adr_state::{Limits, Resource, ShareKey, Ven, Weight, fresh};
 use adr_text::{Moment, Name, ObjectId, Refusal};
-use adr_upkeep::refresh;
+use adr_upkeep::{Sharers, refresh_sharing};
 use anyhow::{Context, Result, bail};
 use sqlite::{Alter, Connection, Transaction};
 use std::alloc::Global;
@@ -158,8 +158,10 @@ fn refresh_all<S: Alter>(
     now: Moment,
 ) -> Result<u64, Refusal> {
     let mut told = 0u64;
+    let mut sharers = Sharers::none(alloc);
     for event in 0..size.events {
-        let changes = refresh(alloc, tx, &event_id(alloc, event)?, now)?;
+        let event = event_id(alloc, event)?;
+        let changes = refresh_sharing(alloc, tx, &mut sharers, &event, now)?;
         told = told.wrapping_add(changes.len() as u64);
     }
     Ok(told)

@@ -2,8 +2,8 @@
 use crate::touched::Touched;
 use adr_kept_view::{RollupChange, ShownChange};
 use adr_state::ViewKey;
-use adr_text::{Moment, ObjectId, Refusal};
-use adr_upkeep::{refresh, refresh_rollup};
+use adr_text::{Moment, ObjectId, Refusal, Rows};
+use adr_upkeep::{Sharers, refresh, refresh_rollup, refresh_sharing};
 use adr_view::Change;
 use sqlite::{Alter, Transaction};
 use std::alloc::{AllocError, Global};
@@ -16,17 +16,32 @@ pub struct Told {
     pub rollups: Vec<(ObjectId, RollupChange)>,
 }
 
-fn refresh_event<S: Alter>(
+fn note_changes(
     alloc: Global,
-    tx: &mut Transaction<'_, S>,
     told: &mut Vec<(ObjectId, ShownChange)>,
     event: &ObjectId,
-    now: Moment,
-) -> Result<(), Refusal> {
-    for change in refresh(alloc, tx, event, now)?.into_vec() {
+    changes: Rows<ShownChange>,
+) -> Result<(), AllocError> {
+    for change in changes.into_vec() {
         told.push((event.copy(alloc)?, change))?;
     }
     Ok(())
+}
+
+// What is shown of an event: one that is touched alone is refreshed for itself.
+fn refresh_event<S: Alter>(
+    alloc: Global,
+    tx: &mut Transaction<'_, S>,
+    sharers: &mut Sharers,
+    event: &ObjectId,
+    is_alone: bool,
+    now: Moment,
+) -> Result<Rows<ShownChange>, Refusal> {
+    if is_alone {
+        refresh(alloc, tx, event, now)
+    } else {
+        refresh_sharing(alloc, tx, sharers, event, now)
+    }
 }
 
 // What is shown of each event is refreshed, in the order of their ids.
@@ -37,8 +52,11 @@ fn refresh_events<S: Alter>(
     now: Moment,
 ) -> Result<Vec<(ObjectId, ShownChange)>, Refusal> {
     let mut told = Vec::new(alloc);
+    let mut sharers = Sharers::none(alloc);
+    let is_alone = events.len() == 1;
     for event in events {
-        refresh_event(alloc, tx, &mut told, event, now)?;
+        let changes = refresh_event(alloc, tx, &mut sharers, event, is_alone, now)?;
+        note_changes(alloc, &mut told, event, changes)?;
     }
     Ok(told)
 }
