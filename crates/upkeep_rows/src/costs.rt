@@ -2,7 +2,7 @@
 use crate::play::make_tables;
 use adr_db::Meta;
 use adr_db_portfolio::{put_resource, put_share, put_ven};
-use adr_mirror::put_evidence;
+use adr_mirror::{gone, put_evidence};
 use adr_objects::{
     Body, EventBody, Found, Interval, Intervals, Kind, Number, ResourceName, Setpoint, Stamps,
     UpstreamId,
@@ -150,6 +150,28 @@ fn put_events<S: Alter>(
     Ok(())
 }
 
+fn drop_event<S: Alter>(
+    alloc: Global,
+    tx: &mut Transaction<'_, S>,
+    event: u64,
+) -> Result<(), Refusal> {
+    let mut meta = Meta::first();
+    let id = event_id(alloc, event)?;
+    gone(alloc, tx, &Limits::largest(), &mut meta, Kind::Event, &id)?;
+    Ok(())
+}
+
+fn drop_events<S: Alter>(
+    alloc: Global,
+    tx: &mut Transaction<'_, S>,
+    size: Size,
+) -> Result<(), Refusal> {
+    for event in 0..size.events {
+        drop_event(alloc, tx, event)?;
+    }
+    Ok(())
+}
+
 // Refreshes each event, and answers how many changes were told.
 fn refresh_all<S: Alter>(
     alloc: Global,
@@ -177,6 +199,8 @@ enum Before {
     Rename,
     /// Newer versions of the events come.
     Versions,
+    /// The events are gone.
+    Gone,
 }
 
 fn prepare<S: Alter>(
@@ -193,6 +217,7 @@ fn prepare<S: Alter>(
         Before::Nothing => Ok(()),
         Before::Rename => name_resource(alloc, tx, 0, "renamed"),
         Before::Versions => put_events(alloc, tx, size, 2),
+        Before::Gone => drop_events(alloc, tx, size),
     }
 }
 
@@ -271,7 +296,8 @@ fn measure_all<S: Alter, R: Print + Clock + AllocGlobal>(
     measure(rt, conn, size, Before::Fill, "all new")?;
     measure(rt, conn, size, Before::Nothing, "no change")?;
     measure(rt, conn, size, Before::Rename, "one change")?;
-    measure(rt, conn, size, Before::Versions, "all changed")
+    measure(rt, conn, size, Before::Versions, "all changed")?;
+    measure(rt, conn, size, Before::Gone, "all gone")
 }
 
 fn number_in(text: &str) -> Result<u64> {
