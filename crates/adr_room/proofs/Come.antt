@@ -153,13 +153,15 @@ module _ (limits : Limits) (first : Meta) (es fs : List Entry) (some : 0 < lengt
 
   module _ (kept : Kept) (numbers later : Meta) (old new : State) where
     -- where entries came so far, what the tables keep and the numbers say: those are appended to what was kept
-    pub record Now (there : Kept) : Type 0 where
-      pub held : Keeps there old
-      pub pending : numbers.pending ≡ length there.entries
+    pub record Now (held_there : Kept) : Type 0 where
+      pub held : Keeps held_there old
+      pub pending : numbers.pending ≡ length held_there.entries
       pub serial : numbers.serial ≡ first.serial + length es
-      pub waiting : length there.entries ≡ length kept.entries + length es
-      pub joined : appended (numbered numbers.serial fs) (outbox_of numbers there) ≡ appended (numbered first.serial both) (outbox_of first kept)
-      pub again : (o : Outbox) → with_outbox o there ≡ with_outbox o kept
+      pub waiting : length held_there.entries ≡ length kept.entries + length es
+      pub joined : appended (numbered numbers.serial fs) (outbox_of numbers held_there) ≡ appended (numbered first.serial both) (outbox_of first kept)
+      pub again : (o : Outbox) → with_outbox o held_there ≡ with_outbox o kept
+      pub there : Outbox
+      pub same : held_there ≡ with_outbox there kept
       pub others : (o : Outbox) (n : ℕ) → record (counting o numbers) { serial = n } ≡ record (counting o first) { serial = n }
 
     appended_now : (there : Kept) → Now there → IsAppended limits fs numbers later there new → IsAppended limits both first later kept new
@@ -205,20 +207,23 @@ module _ (limits : Limits) (first : Meta) (es fs : List Entry) (some : 0 < lengt
     -- the entries behind those that came so far
     pub come_more : (r after : Room) (there : Kept) → HasLeft limits first es r → (took (length fs) r).is_full ≡ false → Now there
         → ((after ≡ took (length fs) r) × IsAppended limits fs numbers later there new)
-        ⊎ ((after ≡ record (took (length fs) r) { is_full = true }) × (further limits numbers.serial fs (outbox_of numbers there) ≡ Err OutboxFull))
-        ⊎ ((after ≡ record (took (length fs) r) { is_short = true }) × (further limits numbers.serial fs (outbox_of numbers there) ≡ Err Exhausted))
+        ⊎ ((after ≡ record (took (length fs) r) { is_full = true }) × (further limits numbers.serial fs (outbox_of numbers there) ≡ Err OutboxFull) × Keeps there new)
+        ⊎ ((after ≡ record (took (length fs) r) { is_short = true }) × (further limits numbers.serial fs (outbox_of numbers there) ≡ Err Exhausted) × Keeps there new)
         → AreSoFar limits first kept both after later new
     come_more r after there h fit now (inl written) = subst (λ (room : Room). AreSoFar limits first kept both room later new) (sym written.0) (record {
       come = record { left = took_left r h; full = λ is. absurd (true≢false (sym is ∙ fit)) };
       written = λ had. inr (appended_now there now written.1);
+      tables = let b = appended_now there now written.1 in (b.outbox, b.keeps);
     })
     come_more r after there h fit now (inr (inl many_wait)) = subst (λ (room : Room). AreSoFar limits first kept both room later new) (sym many_wait.0) (record {
       come = record { left = record { left = (took_left r h).left; short = (took_left r h).short }; full = λ is. is_full_so there now many_wait.1 };
       written = λ had. absurd (true≢false had.1);
+      tables = (now.there, subst (λ (k : Kept). Keeps k new) now.same many_wait.2);
     })
     come_more r after there h fit now (inr (inr lacks)) = subst (λ (room : Room). AreSoFar limits first kept both room later new) (sym lacks.0) (record {
       come = record { left = record { left = (took_left r h).left; short = sym (is_short_so there now lacks.1) }; full = λ is. absurd (true≢false (sym is ∙ fit)) };
       written = λ had. absurd (true≢false had.0);
+      tables = (now.there, subst (λ (k : Kept). Keeps k new) now.same lacks.2);
     })
 
     -- what the tables keep where entries came so far
@@ -232,6 +237,8 @@ module _ (limits : Limits) (first : Meta) (es fs : List Entry) (some : 0 < lengt
         waiting = let none : length es ≡ 0 = ap length nothing in omega (arith, none);
         joined = λ i. appended (numbered (same i).serial (sym nothing_more i)) (outbox_of (same i) kept);
         again = λ o. refl;
+        there = outbox_of numbers kept;
+        same = refl;
         others = λ o n i. record (counting o (same i)) { serial = n };
       },
     )
@@ -254,6 +261,8 @@ module _ (limits : Limits) (first : Meta) (es fs : List Entry) (some : 0 < lengt
                 waiting = ap (λ (o : Outbox). length o.entries) (sym outbox) ∙ further_wait first.serial es kept.entries drawn;
                 joined = (λ i. appended (numbered (drawn_last i) fs) ((counts ∙ sym outbox) i)) ∙ appended_more first.serial es fs (outbox_of first kept);
                 again = λ o. refl;
+                there = a.outbox;
+                same = refl;
                 others = λ o n i. record (counting o (a.counted i)) { serial = n };
               },
             )

@@ -11,7 +11,9 @@ use Rattle.adr_state.specs.declared.limits.Limits.{Limits}
 use Rattle.adr_db.specs.declared.meta.Meta.{Meta}
 use Rattle.adr_db.specs.Kept.{Kept, Keeps}
 use Rattle.adr_db.specs.Images.{outbox_of}
+use Rattle.adr_delivery.specs.declared.outbox.Outbox.{Outbox}
 use Rattle.adr_outbox.specs.Appended.{further, IsAppended}
+use Rattle.adr_outbox.specs.Turned.{with_outbox}
 use Rattle.adr_room.specs.declared.room.Room.{Room}
 
 -- ---- numbers
@@ -48,10 +50,12 @@ pub record HaveCome (limits : Limits) (first : Meta) (kept : Kept) (es : List En
 abbrev pub HadRoom : Room → Type 0
 HadRoom room = (room.is_short ≡ false) × (room.is_full ≡ false)
 
--- these entries came so far, and while none lacked a number or room, all of them are appended
+-- these entries came so far; while none lacked a number or room, all of them are appended; and in any case the tables keep
+-- what they kept, but for the outbox
 pub record AreSoFar (limits : Limits) (first : Meta) (kept : Kept) (es : List Entry) (room : Room) (numbers : Meta) (s : State) : Type 0 where
   pub come : HaveCome limits first kept es room
   pub written : HadRoom room → AreAppended limits first numbers kept es s
+  pub tables : (o : Outbox) × Keeps (with_outbox o kept) s
 
 module _ {S : Type 0} (g : Ghosts S) (old new : Held S) where
   -- after Ok, what came so far has come, and these entries behind it
@@ -67,8 +71,8 @@ module _ {S : Type 0} (g : Ghosts S) (old new : Held S) where
       HasCleanDisk (state g new)
       → OnOk result ((kept : Kept) → Keeps kept (state g old) → numbers.pending ≡ length kept.entries
       → ((after ≡ before) × IsAppended limits entries numbers later kept (state g new))
-      ⊎ ((after ≡ record before { is_full = true }) × (further limits numbers.serial entries (outbox_of numbers kept) ≡ Err OutboxFull))
-      ⊎ ((after ≡ record before { is_short = true }) × (further limits numbers.serial entries (outbox_of numbers kept) ≡ Err Exhausted)))
+      ⊎ ((after ≡ record before { is_full = true }) × (further limits numbers.serial entries (outbox_of numbers kept) ≡ Err OutboxFull) × Keeps kept (state g new))
+      ⊎ ((after ≡ record before { is_short = true }) × (further limits numbers.serial entries (outbox_of numbers kept) ≡ Err Exhausted) × Keeps kept (state g new)))
 
 -- in the end none lacked a number or room, so that all that came is appended
 abbrev pub EndsWith : {T E : Type 0} → Room → Result T E → Type 0

@@ -3,6 +3,7 @@ use Rattle.adr_text.specs.declared.refusal.Refusal.TheVariants.{Exhausted, Outbo
 use Rattle.adr_db.proofs.Common.{state}
 use Rattle.adr_db.proofs.Results.{on_then}
 use Rattle.adr_db.specs.Images.{outbox_of}
+use Rattle.adr_db.specs.Kept.{Keeps}
 use Rattle.adr_outbox.specs.Appended.{further, IsAppended}
 use Rattle.adr_room.specs.declared.room.Room.{Room}
 use Rattle.adr_room.proofs.Come.{positive, was_enough, was_fit, now_kept, come_more}
@@ -25,7 +26,7 @@ returns-clause-adds g c clean =
     come_more limits first es fs some kept numbers later (state g.S.Store c.args.tx.now.conn.now) new before after there.0 so.come.left fit there.1
     (subst (λ (r : Room).
     ((after ≡ r) × IsAppended limits fs numbers later there.0 new)
-    ⊎ ((after ≡ record r { is_full = true }) × (further limits numbers.serial fs (outbox_of numbers there.0) ≡ Err OutboxFull))
-    ⊎ ((after ≡ record r { is_short = true }) × (further limits numbers.serial fs (outbox_of numbers there.0) ≡ Err Exhausted)))
+    ⊎ ((after ≡ record r { is_full = true }) × (further limits numbers.serial fs (outbox_of numbers there.0) ≡ Err OutboxFull) × Keeps there.0 new)
+    ⊎ ((after ≡ record r { is_short = true }) × (further limits numbers.serial fs (outbox_of numbers there.0) ≡ Err Exhausted) × Keeps there.0 new))
     c.take.ensures (writes there.0 there.1.held there.1.pending)))
     (c.write.ensures.writes clean)
