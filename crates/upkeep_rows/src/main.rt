@@ -19,6 +19,7 @@ mod refreshed;
 mod scene;
 mod step;
 mod touched;
+mod visited;
 
 use anyhow::{Result, bail};
 use std::env;

@@ -1,6 +1,7 @@
 //! Edits are played one after another, each in a transaction of its own.
 use crate::counts::{Counts, print_counts, print_made};
 use crate::step::{Ended, World, step};
+use crate::visited::visit_all;
 use adr_db::create;
 use adr_state::Limits;
 use adr_text::Moment;
@@ -88,6 +89,16 @@ fn play_steps<S: Alter, R: Print + AllocGlobal>(
     Ok(true)
 }
 
+/// Visits all events that came, in a transaction that is dropped, and answers whether each is told and kept.
+fn visit<S: Alter>(alloc: Global, conn: &mut Connection<S>, world: &World) -> Result<bool> {
+    if !conn.is_autocommit() {
+        bail!("a transaction stands");
+    }
+    let mut tx = conn.transaction();
+    let now = moment(STEPS.wrapping_add(1))?;
+    Ok(visit_all(alloc, &mut tx, &Limits::largest(), world.events(), now)?)
+}
+
 /// Plays a seed over tables in memory.
 fn play_seed<R: Print + AllocGlobal>(rt: &R, seed: u64, sum: &mut Counts) -> Result<bool> {
     let mut conn = Connection::open_in_memory(rt.alloc())?;
@@ -96,7 +107,11 @@ fn play_seed<R: Print + AllocGlobal>(rt: &R, seed: u64, sum: &mut Counts) -> Res
     let is_same = play_steps(rt, &mut conn, seed, &mut world)?;
     print_counts(rt, seed, &world.counts)?;
     sum.add_made(&world.counts);
-    Ok(is_same)
+    let is_visited = visit(rt.alloc(), &mut conn, &world)?;
+    if !is_visited {
+        println!(rt; "seed {seed}: a visit differs")?;
+    }
+    Ok(is_same && is_visited)
 }
 
 /// Plays each seed, and answers whether nothing differed.

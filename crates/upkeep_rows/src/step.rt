@@ -161,8 +161,8 @@ impl World {
         }
     }
 
-    // So many events came, or may have.
-    fn events(&self) -> u64 {
+    /// So many events came, or may have.
+    pub fn events(&self) -> u64 {
         self.first_event.wrapping_add(EVENTS)
     }
 

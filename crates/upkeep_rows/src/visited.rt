@@ -1,0 +1,120 @@
+//! Tables that keep nothing are visited, event by event, in a transaction that is dropped then: each shown event is told by
+//! one entry, and kept again.
+ghost use Rattle.upkeep_rows.specs.Told.{told_once};
+
+use crate::compared::differs_kept;
+use crate::held::{Held, read_held};
+use crate::pages::event_text;
+use adr_db::read_meta;
+use adr_db_shown::{read_shown_of, remove_shown};
+use adr_db_state::remove_stamps;
+use adr_delivery::{Addressee, Entry};
+use adr_kept_view::ShownChange;
+use adr_room::Room;
+use adr_state::{Limits, ViewKey};
+use adr_subscription::{FreeText, OperationKind};
+use adr_text::{Moment, ObjectId, Refusal};
+use adr_upkeep::Sharers;
+use adr_visit::{Tells, visit_events};
+use sqlite::{Alter, Transaction};
+use std::alloc::{AllocError, Global};
+
+/// Tells each change of an event by one entry to the utility.
+struct Once;
+
+impl Tells for Once {
+    ghost told = { told_once };
+
+    fn entries(
+        &self,
+        alloc: Global,
+        event: &ObjectId,
+        _change: &ShownChange,
+    ) -> Result<Vec<Entry>, AllocError> {
+        let entry = Entry::new(
+            Addressee::Utility(event.copy(alloc)?),
+            OperationKind::Post,
+            FreeText::new(alloc, "")?,
+        );
+        Ok(vec![in alloc; entry]?)
+    }
+}
+
+// What is kept of an event goes, with its stamps.
+fn forget<S: Alter>(
+    alloc: Global,
+    tx: &mut Transaction<'_, S>,
+    event: &ObjectId,
+) -> Result<(), Refusal> {
+    for row in read_shown_of(alloc, tx, event)?.into_vec() {
+        let (key, _) = row;
+        remove_shown(tx, &key)?;
+        remove_stamps(tx, &ViewKey::Event(key.event.copy(alloc)?, key.resource))?;
+    }
+    Ok(())
+}
+
+fn events_of(alloc: Global, count: u64) -> Result<Vec<ObjectId>, Refusal> {
+    let mut events = Vec::new(alloc);
+    for number in 0..count {
+        let text = event_text(alloc, number)?;
+        events.push(ObjectId::new(alloc, text.as_str())?)?;
+    }
+    Ok(events)
+}
+
+// How many events are shown, each to each of its resources.
+fn shown_count(held: &Held) -> u64 {
+    held.view
+        .iter()
+        .filter(|(key, _)| matches!(key, ViewKey::Event(_, _)))
+        .count() as u64
+}
+
+// Whether what is kept of each of them is what is shown.
+fn are_kept<S: Alter>(
+    alloc: Global,
+    tx: &mut Transaction<'_, S>,
+    held: &Held,
+    events: &[ObjectId],
+) -> Result<bool, Refusal> {
+    for event in events {
+        if differs_kept(alloc, tx, held, event)?.is_some() {
+            return Ok(false);
+        }
+    }
+    Ok(true)
+}
+
+/// Visits the events of those numbers, and answers whether each that is shown is told once and kept.
+pub fn visit_all<S: Alter>(
+    alloc: Global,
+    tx: &mut Transaction<'_, S>,
+    limits: &Limits,
+    count: u64,
+    now: Moment,
+) -> Result<bool, Refusal> {
+    let held = read_held(alloc, tx)?;
+    let events = events_of(alloc, count)?;
+    for event in &events {
+        forget(alloc, tx, event)?;
+    }
+    let mut meta = read_meta(tx)?;
+    let before = meta.pending;
+    let mut room = Room::new(limits, &meta);
+    let mut sharers = Sharers::none(alloc);
+    visit_events(
+        alloc,
+        tx,
+        &Once,
+        limits,
+        &mut meta,
+        &mut room,
+        &mut sharers,
+        &events,
+        now,
+    )?;
+    room.close(limits)?;
+    let told = meta.pending.wrapping_sub(before);
+    Ok(told == shown_count(&held) && are_kept(alloc, tx, &held, &events)?)
+}
