@@ -1,7 +1,7 @@
 -- Groups of entries one behind another are as all of them at once.
 use Rattle.std.proofs.Common.{◌≡◌, ◌⊎◌, inl, inr, ◌≤◌, ◌<◌, ◌+◌, ◌-◌, ◌==◌, eqb-true, ◌&&◌, not, ℕ, zero, suc, Bool, true, false, cond, nat_lt, List, ◌++◌, length, Result, Ok, Err, refl, sym, ap, subst, arith, ◌∙◌}
 use Rattle.std.specs.Result.{result_ok}
-use Rattle.std.proofs.lemmas.Bool.{lt-ltb, ltb-true, ltb-false, true≢false}
+use Rattle.std.proofs.lemmas.Bool.{le-ltb, lt-ltb, ltb-true, ltb-false, ne_eqb, true≢false}
 use Rattle.std.proofs.lemmas.List.{length-append}
 use Rattle.std.proofs.lemmas.Option.{same_Some}
 use Rattle.std.proofs.lemmas.List.FromFn.{length-enumerate_from}
@@ -66,13 +66,6 @@ pub positive : (n : ℕ) → (n == 0) ≡ false → 0 < n
 positive zero is = absurd cc
 positive (suc n) is = omega arith
 
-not_none : (n : ℕ) → 0 < n → (n == 0) ≡ false
-not_none n some = by (n == 0) refl
-  where
-    by : (b : Bool) → (n == 0) ≡ b → b ≡ false
-    by true is = absurd (let none : n ≡ 0 = eqb-true n 0 is in omega (arith, none, some))
-    by false is = refl
-
 decided : (most pending last waiting n : ℕ) → Decided most pending last waiting n (check_room most pending last waiting n)
 decided most pending last waiting n = by (n == 0) (nat_lt most (last + n)) (nat_lt pending (waiting + n)) refl refl refl
   where
@@ -93,7 +86,7 @@ has_room most pending last waiting n enough fits = by (check_room most pending l
 
 -- whether so many are short of numbers, or are too many
 some_so : (n : ℕ) (b : Bool) → 0 < n → b ≡ true → (not (n == 0) && b) ≡ true
-some_so n b some is = let there : (n == 0) ≡ false = not_none n some in rw (there, is) refl
+some_so n b some is = let there : (n == 0) ≡ false = ne_eqb n 0 (λ none. absurd (omega (arith, none, some))) in rw (there, is) refl
 
 none_so : (n : ℕ) (b : Bool) → b ≡ false → (not (n == 0) && b) ≡ false
 none_so n b is = rw is (by (not (n == 0)))
@@ -101,13 +94,6 @@ none_so n b is = rw is (by (not (n == 0)))
     by : (x : Bool) → (x && false) ≡ false
     by true = refl
     by false = refl
-
-enough_so : (most all : ℕ) → all ≤ most → nat_lt most all ≡ false
-enough_so most all enough = by (nat_lt most all) refl
-  where
-    by : (b : Bool) → nat_lt most all ≡ b → b ≡ false
-    by true is = absurd (let above : most < all = ltb-true most all is in omega (arith, above, enough))
-    by false is = refl
 
 module _ (limits : Limits) (first : Meta) (es fs : List Entry) (some : 0 < length fs) where
   abbrev both : List Entry
@@ -129,10 +115,10 @@ module _ (limits : Limits) (first : Meta) (es fs : List Entry) (some : 0 < lengt
       by false is =
           let left : length fs ≤ r.left = ltb-false r.left (length fs) is in
           let enough : first.serial + length both ≤ limits.serial = omega (arith, left, h.left, many, some) in
-          let before : are_short limits.serial first.serial es ≡ false = none_so (length es) (nat_lt limits.serial (first.serial + length es)) (enough_so limits.serial (first.serial + length es) (omega (arith, enough, many))) in
+          let before : are_short limits.serial first.serial es ≡ false = none_so (length es) (nat_lt limits.serial (first.serial + length es)) (le-ltb limits.serial (first.serial + length es) (omega (arith, enough, many))) in
           record {
             left = omega (arith, h.left, many);
-            short = h.short ∙ before ∙ sym (none_so (length both) (nat_lt limits.serial (first.serial + length both)) (enough_so limits.serial (first.serial + length both) enough));
+            short = h.short ∙ before ∙ sym (none_so (length both) (nat_lt limits.serial (first.serial + length both)) (le-ltb limits.serial (first.serial + length both) enough));
           }
 
   pub was_enough : (r : Room) → (took (length fs) r).is_short ≡ false → r.is_short ≡ false

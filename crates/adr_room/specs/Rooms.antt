@@ -79,6 +79,6 @@ abbrev pub EndsWith : {T E : Type 0} → Room → Result T E → Type 0
 EndsWith room result = OnOk result (HadRoom room)
 
 -- or the refusal is that of all that came at once: for want of numbers, and then of room
-abbrev pub RefusesAll : {T : Type 0} → Limits → Room → Result T Refusal → Type 0
-RefusesAll limits room result =
-    IfErr result (λ refusal. (first : Meta) (kept : Kept) (es : List Entry) → HaveCome limits first kept es room → IsRefusalOf refusal (further limits first.serial es (outbox_of first kept)))
+abbrev pub RefusesAll : {T : Type 0} → Room → Result T Refusal → Type 0
+RefusesAll room result =
+    IfErr result (λ refusal. (limits : Limits) (first : Meta) (kept : Kept) (es : List Entry) → HaveCome limits first kept es room → IsRefusalOf refusal (further limits first.serial es (outbox_of first kept)))

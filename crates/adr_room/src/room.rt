@@ -2,8 +2,9 @@
 ghost use Rattle.std.specs.Prelude.{◌≡◌, ◌⊎◌, [], Ok, IfErr, OnOk};
 ghost use Rattle.adr_text.specs.declared.refusal.Refusal.TheVariants.{Exhausted, OutboxFull};
 ghost use Rattle.adr_sql.specs.Calls.{LeavesLent};
+ghost use Rattle.adr_db.specs.Kept.{Kept};
 ghost use Rattle.adr_db.specs.Calls.{IsOfStore};
-ghost use Rattle.adr_room.specs.Rooms.{HasLeft, took, AddsTo, EndsWith, RefusesAll, Writes};
+ghost use Rattle.adr_room.specs.Rooms.{HaveCome, took, AddsTo, EndsWith, RefusesAll, Writes};
 
 use adr_db::Meta;
 use adr_delivery::{Entry, check_room};
@@ -48,7 +49,7 @@ fn of_store(appended: Result<(), Refusal>) -> Result<(), Refusal>
 impl Room {
     /// All that is left, before an entry comes.
     pub fn new(limits: &Limits, meta: &Meta) -> Room
-        ensures { HasLeft limits.now meta.now [] result }
+        ensures { (kept : Kept) → HaveCome limits.now meta.now kept [] result }
     {
         let most = limits.serial.get();
         let last = meta.serial.get();
@@ -131,9 +132,9 @@ impl Room {
 
     /// Whether all that came is appended: refused with `Exhausted` where there were no numbers for all of them, and then
     /// with `OutboxFull` where all of them were more than may wait.
-    pub fn close(&self, limits: &Limits) -> Result<(), Refusal>
+    pub fn close(&self) -> Result<(), Refusal>
         ensures ends { EndsWith self.now result }
-        ensures refuses { RefusesAll limits.now self.now result }
+        ensures refuses { RefusesAll self.now result }
         ensures listed { IfErr result (λ refusal. (refusal ≡ Exhausted) ⊎ (refusal ≡ OutboxFull)) }
     {
         if self.is_short {

@@ -114,7 +114,7 @@ pub fn visit_all<S: Alter>(
         &events,
         now,
     )?;
-    room.close(limits)?;
+    room.close()?;
     let told = meta.pending.wrapping_sub(before);
     Ok(told == shown_count(&held) && are_kept(alloc, tx, &held, &events)?)
 }
