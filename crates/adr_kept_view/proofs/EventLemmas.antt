@@ -10,7 +10,6 @@ use Rattle.adr_state.specs.declared.base.Base.{Base}
 use Rattle.adr_state.specs.declared.keys.ViewKey.{ViewKey}
 use Rattle.adr_state.specs.declared.keys.ViewKey.TheVariants as key
 use Rattle.adr_view.specs.declared.changes.Operation.{Operation}
-use Rattle.adr_view.specs.declared.changes.Operation.TheVariants.{Post, Put, Delete}
 use Rattle.adr_view.specs.declared.view.Content.{Content}
 use Rattle.adr_view.specs.declared.view.Content.TheVariants as content
 use Rattle.adr_view.specs.Changes.{restamped}
@@ -35,15 +34,16 @@ use Rattle.adr_db.specs.declared.shown.ShownKey.{ShownKey}
 use Rattle.adr_db.specs.Bases.{Beside}
 use Rattle.adr_db.specs.ShownKeys.{shown_cmp}
 use Rattle.adr_kept_view.specs.declared.change.ShownChange.{ShownChange}
+use Rattle.adr_kept_view.specs.declared.found.Found.{Found}
 use Rattle.adr_kept_view.specs.Columns.{columns_of, shown_rows, rollup_rows}
 use Rattle.adr_kept_view.specs.KeptViews.{ReadsBack, KeepsView, Owns}
-use Rattle.adr_kept_view.specs.Changes.{Found, found_of, kept_row, rows_kept, event_row, stamps_row, event_in, owner_in, change_at, numbers_of, with_numbers, change_found, changes_found, shown_with_each, stamps_with_each}
-use Rattle.adr_kept_view.specs.Refreshed.{books_behind, judged_in, IsTold, told_row, IsEventRefreshed}
+use Rattle.adr_kept_view.specs.Changes.{found_of, kept_row, rows_kept, event_row, stamps_row, event_in, owner_in, change_at, numbers_of, with_numbers, change_found, changes_found, shown_with_each, stamps_with_each}
+use Rattle.adr_kept_view.specs.Refreshed.{books_behind, judged_in, IsTold, told_row, IsRefreshed, as_shown}
 use Rattle.adr_kept_view.specs.Laws.{ReadsFound, with_found}
 use Rattle.adr_kept_view.proofs.FoundLemmas.{kept_part, kept_made, kept_is, at-of_event, of_one_event}
 use Rattle.adr_kept_view.proofs.OwnerLemmas.{at_there, event_there, resource_there}
 use Rattle.adr_kept_view.proofs.RowLemmas.{shown_total, shown_exact, then_apart, event_of, at-shown_rows, shown_rows_in_order, rollup_part, at-rollup_rows, rollup_rows_in_order}
-use Rattle.adr_kept_view.proofs.TurnLemmas.{WasKept, IsNow, turn, Says, Turns, turned}
+use Rattle.adr_kept_view.proofs.TurnLemmas.{at_judged, WasKept, IsNow, turn, Says, Turns, turned}
 use Rattle.adr_kept_view.proofs.WriteLemmas.{left_behind, each_in_order, at-each, at-others}
 
 -- one of the numbers has what all have
@@ -54,12 +54,6 @@ has_it P n (m ∷ ns) there all = by (is_eq (nat_cmp n m)) refl (λ rest. has_it
     by : (b : Bool) → is_eq (nat_cmp n m) ≡ b → (list_any (is_at (nat_cmp n)) ns ≡ true → P n) → P n
     by true is rest = subst P (sym (exact_unsigned n m (equal_from_is _ is))) (All-head P m ns all)
     by false is rest = rest (let among : (is_eq (nat_cmp n m) || list_any (is_at (nat_cmp n)) ns) ≡ true = there in subst (λ b. (b || list_any (is_at (nat_cmp n)) ns) ≡ true) is among)
-
--- a side of a map at a key
-at_judged : {V : Type 0} (k : ViewKey) (o : Operation) (before after : List (ViewKey × V)) → at view_cmp k (judged_in o before after) ≡ judged_in o (at view_cmp k before) (at view_cmp k after)
-at_judged k Post before after = refl
-at_judged k Put before after = refl
-at_judged k Delete before after = refl
 
 module _ (owner : ℕ → ℕ) (rows : List (ViewKey × Content)) (beside : Beside) (base : Base) (now : ℕ) (id : List ℕ) (keeps : KeepsView owner rows beside) (owns : Owns owner base) (stands : StandsInOrder base) (reads : All (ReadsFound (found_of beside base id)) (numbers_of (found_of beside base id))) where
   abbrev s : Source
@@ -358,18 +352,18 @@ module _ (owner : ℕ → ℕ) (rows : List (ViewKey × Content)) (beside : Besi
 
   -- ---- each change
 
-  each_told : All (IsTold owner rows beside books id) (filter_map change ns)
-  each_told = all_filter_map change (λ n. Unit {0}) (IsTold owner rows beside books id) (λ n h. made n) ns (each_there (λ n. Unit {0}) ns (λ n there. tt))
+  each_told : All (IsTold owner rows beside.stamps books id) (filter_map change ns)
+  each_told = all_filter_map change (λ n. Unit {0}) (IsTold owner rows beside.stamps books id) (λ n h. made n) ns (each_there (λ n. Unit {0}) ns (λ n there. tt))
     where
-      says : (n : ℕ) (c : ShownChange) → Says owner base.portfolio now id n (old n) (new n) (stamped n) c → IsTold owner rows beside books id c
-      says n c h = subst (λ m. IsTold owner rows beside books id (record c { resource = m })) (sym h.resource) (record {
+      says : (n : ℕ) (c : ShownChange) → Says owner base.portfolio now id n (old n) (new n) (stamped n) c → IsTold owner rows beside.stamps books id c
+      says n c h = subst (λ m. IsTold owner rows beside.stamps books id (record c { resource = m })) (sym h.resource) (record {
         shown = at_judged (q n) c.operation rows books.kept ∙ ap (judged_in c.operation (old n)) (kept_at n) ∙ h.shown;
         stamps = at_judged (q n) c.operation beside.stamps books.stamps ∙ ap (judged_in c.operation (stamped n)) (books_stamped n) ∙ h.stamped;
         ven = h.ven;
       })
 
-      made : (n : ℕ) → IfSome (change n) (IsTold owner rows beside books id)
-      made n = subst (λ o. IfSome o (IsTold owner rows beside books id)) (sym (change_is n)) (IfSome_then (turn owner base.portfolio now id n (old n) (stamped n) (new n)) (turns n).says (says n))
+      made : (n : ℕ) → IfSome (change n) (IsTold owner rows beside.stamps books id)
+      made n = subst (λ o. IfSome o (IsTold owner rows beside.stamps books id)) (sym (change_is n)) (IfSome_then (turn owner base.portfolio now id n (old n) (stamped n) (new n)) (turns n).says (says n))
 
   -- ---- in all
 
@@ -393,7 +387,7 @@ module _ (owner : ℕ → ℕ) (rows : List (ViewKey × Content)) (beside : Besi
       (λ other. ap is_some (others_stamped k other) ∙ keeps.stamped k kept ∙ ap is_some (sym (others_kept k other)))
       (cases_Bool (is_of s k))
 
-  pub event_refreshed : IsEventRefreshed owner rows beside base now id (changes_found base.portfolio now found) (with_found beside base now id found)
+  pub event_refreshed : IsRefreshed as_shown owner rows beside base now id (changes_found base.portfolio now found) (with_found beside base now id found)
   event_refreshed = record {
     tables = λ i. record beside { shown = same_shown i; rollups = (keeps.rollups ∙ same_rollups) i; stamps = same_stamps i };
     keeps = record {

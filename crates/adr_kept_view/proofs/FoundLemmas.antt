@@ -97,6 +97,14 @@ module _ (owner : ℕ → ℕ) (id : List ℕ) where
   abbrev made_rows : List (ViewKey × Content) → List (ℕ × ShownColumns)
   made_rows rows = filter_map (kept_made owner) (filter (λ e. is_key_of id e.0) rows)
 
+  -- nothing is kept of what is no shown event
+  passed_over : (rows : List (ViewKey × Content)) (i : List ℕ) (n : ℕ) (c : Content) → kept_part owner n c ≡ None → made_rows rows ≡ made_rows ((key.Event i n, c) ∷ rows)
+  passed_over rows i n c none = by (is_eq (id_cmp id i))
+    where
+      by : (b : Bool) → made_rows rows ≡ filter_map (kept_made owner) (cond b ((key.Event i n, c) ∷ filter (λ e. is_key_of id e.0) rows) (filter (λ e. is_key_of id e.0) rows))
+      by true = ap (λ (o : Option ShownColumns). cons_option (option_map (λ w. (n, w)) o) (made_rows rows)) (sym none)
+      by false = refl
+
   kept_one : (rows : List (ViewKey × Content)) (k : ViewKey) (c : Content) → kept_rows rows ≡ made_rows rows → kept_rows ((k, c) ∷ rows) ≡ made_rows ((k, c) ∷ rows)
   kept_one rows (key.Event i n) (content.Event e) rest = by (is_eq (id_cmp id i))
     where
@@ -105,21 +113,9 @@ module _ (owner : ℕ → ℕ) (id : List ℕ) where
           ≡ filter_map (kept_made owner) (cond b ((key.Event i n, content.Event e) ∷ filter (λ e. is_key_of id e.0) rows) (filter (λ e. is_key_of id e.0) rows))
       by true = ap (λ rows. (n, columns_of (owner n) e) ∷ rows) rest
       by false = rest
-  kept_one rows (key.Event i n) (content.Program name) rest = rest ∙ passed (is_eq (id_cmp id i))
-    where
-      passed : (b : Bool) → made_rows rows ≡ filter_map (kept_made owner) (cond b ((key.Event i n, content.Program name) ∷ filter (λ e. is_key_of id e.0) rows) (filter (λ e. is_key_of id e.0) rows))
-      passed true = refl
-      passed false = refl
-  kept_one rows (key.Event i n) (content.Report body) rest = rest ∙ passed (is_eq (id_cmp id i))
-    where
-      passed : (b : Bool) → made_rows rows ≡ filter_map (kept_made owner) (cond b ((key.Event i n, content.Report body) ∷ filter (λ e. is_key_of id e.0) rows) (filter (λ e. is_key_of id e.0) rows))
-      passed true = refl
-      passed false = refl
-  kept_one rows (key.Event i n) (content.Rollup r) rest = rest ∙ passed (is_eq (id_cmp id i))
-    where
-      passed : (b : Bool) → made_rows rows ≡ filter_map (kept_made owner) (cond b ((key.Event i n, content.Rollup r) ∷ filter (λ e. is_key_of id e.0) rows) (filter (λ e. is_key_of id e.0) rows))
-      passed true = refl
-      passed false = refl
+  kept_one rows (key.Event i n) (content.Program name) rest = rest ∙ passed_over rows i n (content.Program name) refl
+  kept_one rows (key.Event i n) (content.Report body) rest = rest ∙ passed_over rows i n (content.Report body) refl
+  kept_one rows (key.Event i n) (content.Rollup r) rest = rest ∙ passed_over rows i n (content.Rollup r) refl
   kept_one rows (key.Program i) c rest = rest
   kept_one rows (key.Report i) c rest = rest
   kept_one rows (key.Rollup i) c rest = rest

@@ -1,9 +1,10 @@
 -- What is written as the roll-up of an event is refreshed is what the refresh of that source leaves.
-use Rattle.std.proofs.Common.{◌≡◌, ℕ, Bool, true, false, cond, ⊎_elim, List, [], Option, Some, None, Ok, Ordering, refl, sym, ap, subst, ◌∙◌}
+use Rattle.std.proofs.Common.{◌≡◌, ℕ, Bool, true, false, cond, ⊎_elim, List, [], map, Option, Some, None, Ok, Ordering, refl, sym, ap, subst, ◌∙◌}
 use Rattle.std.specs.Prelude.{IfSome, is_some, option_map, option_and_then, bytes_eq}
 use Rattle.std.specs.Option.{option_to_list}
 use Rattle.std.specs.Result.{result_ok}
-use Rattle.std.proofs.lemmas.Option.{same_Some, IfSome_then}
+use Rattle.std.proofs.lemmas.List.Elements.{All-cons, All-nil}
+use Rattle.std.proofs.lemmas.Option.{same_Some}
 use Rattle.std.proofs.lemmas.Slice.Eq.{bytes_eq-Decides}
 use Rattle.adr_objects.specs.declared.report.Rollup.{Rollup}
 use Rattle.adr_objects.specs.declared.shown.Stamps.{Stamps}
@@ -24,7 +25,7 @@ use Rattle.adr_view.proofs.OrderLemmas.{in_order_put, in_order_removed}
 use Rattle.adr_refresh.specs.Maps.{rows_at}
 use Rattle.adr_refresh.specs.Sources.{Source, RolledUp, source_of, is_of, rows_of}
 use Rattle.adr_refresh.specs.Refresh.{Books, is_kept, changes_told, rows_before}
-use Rattle.adr_refresh.proofs.Common.{All-contains, InOrder, IsStrictlySortedBy, IsTotalOrder, at, at-insert_entry, cases_Bool, each_there, equal_from_is, exact_bytes, id_cmp, in_order_rows, is_at, is_eq, nat_list_cmp_total, none_sorted, option_or, view_cmp, view_exact, view_total}
+use Rattle.adr_refresh.proofs.Common.{All, All-contains, InOrder, IsStrictlySortedBy, IsTotalOrder, at, at-insert_entry, cases_Bool, each_there, equal_from_is, exact_bytes, id_cmp, in_order_rows, is_at, is_eq, nat_list_cmp_total, none_sorted, option_or, view_cmp, view_exact, view_total}
 use Rattle.adr_refresh.proofs.ChangeLemmas.{change_at as operation_at, has_stamps, stamp_at}
 use Rattle.adr_refresh.proofs.MapLemmas.{found as found_at, or_none, same_maps, tied}
 use Rattle.adr_refresh.proofs.RefreshLemmas.{at-kept, at-told, at-stamps, kept_in_order, of_in_order}
@@ -37,12 +38,12 @@ use Rattle.adr_kept_view.specs.declared.change.RollupChange.{RollupChange}
 use Rattle.adr_kept_view.specs.Columns.{rollup_columns, shown_rows, rollup_rows}
 use Rattle.adr_kept_view.specs.KeptViews.{ReadsBack, KeepsView}
 use Rattle.adr_kept_view.specs.Rollups.{stays, change_of, set_at, rollups_with, stamps_now, stamps_with}
-use Rattle.adr_kept_view.specs.Refreshed.{books_behind, rollup_told, IsRollupRefreshed}
+use Rattle.adr_kept_view.specs.Refreshed.{books_behind, judged_in, IsRollupTold, rollup_told, IsRefreshed, as_rolled_up}
 use Rattle.adr_kept_view.specs.Laws.{with_rollup}
 use Rattle.adr_kept_view.proofs.FoundLemmas.{kept_part}
 use Rattle.adr_kept_view.proofs.OwnerLemmas.{at_there}
 use Rattle.adr_kept_view.proofs.RowLemmas.{shown_total, shown_exact, event_of, at-shown_rows, shown_rows_in_order, rollup_part, at-rollup_rows, rollup_rows_in_order}
-use Rattle.adr_kept_view.proofs.TurnLemmas.{both_ways}
+use Rattle.adr_kept_view.proofs.TurnLemmas.{at_judged, both_ways}
 use Rattle.adr_kept_view.proofs.WriteLemmas.{at-removed}
 
 module _ {K V : Type 0} {cmp : K → K → Ordering} (order : IsTotalOrder cmp) where
@@ -106,7 +107,7 @@ module _ (id : List ℕ) (now : ℕ) where
     kept : cond stay (columns_at old) (option_map (rollup_columns id) new) ≡ columns_at (as_content new)
     stamped : cond stay stamps (option_map (λ r. stamps_now now (columns_at old) stamps) new) ≡ stamp_at old (as_content new) now stamps
     told : option_map (λ (c : RollupChange). c.operation) change ≡ operation_at (key.Rollup id) old (as_content new)
-    says : IfSome change (λ c. as_content new ≡ Some (content.Rollup c.rollup))
+    says : IfSome change (λ c. judged_in c.operation old (as_content new) ≡ Some (content.Rollup c.rollup))
 
   abbrev RollsAs : Option Content → Option Stamps → Option Rollup → Type 0
   RollsAs old stamps new = Rolls (stays id (columns_at old) new) (change_of id (columns_at old) new) old stamps new
@@ -276,17 +277,17 @@ module _ (owner : ℕ → ℕ) (rows : List (ViewKey × Content)) (beside : Besi
   -- ---- what is told
 
   abbrev told_then : List (ViewKey × Operation)
-  told_then = option_to_list (option_map (rollup_told id) (change_of id columns_were new))
+  told_then = map (rollup_told id) (option_to_list (change_of id columns_were new))
 
-  told_at : (o : Option RollupChange) → at view_cmp q (option_to_list (option_map (rollup_told id) o)) ≡ option_map (λ (c : RollupChange). c.operation) o
+  told_at : (o : Option RollupChange) → at view_cmp q (map (rollup_told id) (option_to_list o)) ≡ option_map (λ (c : RollupChange). c.operation) o
   told_at None = refl
   told_at (Some c) = let itself : is_eq (id_cmp id id) ≡ true = tied nat_list_cmp_total id in rw itself refl
 
-  told_apart : (k : ViewKey) → is_of s k ≡ false → (o : Option RollupChange) → at view_cmp k (option_to_list (option_map (rollup_told id) o)) ≡ None
+  told_apart : (k : ViewKey) → is_of s k ≡ false → (o : Option RollupChange) → at view_cmp k (map (rollup_told id) (option_to_list o)) ≡ None
   told_apart k other None = refl
   told_apart k other (Some c) = let differ = apart k other in rw differ refl
 
-  told_up : (o : Option RollupChange) → InOrder view_cmp (option_to_list (option_map (rollup_told id) o))
+  told_up : (o : Option RollupChange) → InOrder view_cmp (map (rollup_told id) (option_to_list o))
   unfolding IsStrictlySortedBy
   told_up None = tt
   told_up (Some c) = (tt, tt)
@@ -326,7 +327,11 @@ module _ (owner : ℕ → ℕ) (rows : List (ViewKey × Content)) (beside : Besi
       (λ other. ap is_some (others_stamped k other) ∙ keeps.stamped k kept ∙ ap is_some (sym (others_kept k other)))
       (cases_Bool (is_of s k))
 
-  pub rollup_refreshed : IsRollupRefreshed owner rows beside base now id (change_of id columns_were new) (with_rollup beside base now id)
+  each_told : (o : Option RollupChange) → IfSome o (λ c. judged_in c.operation old (as_content id now new) ≡ Some (content.Rollup c.rollup)) → All (IsRollupTold rows books id) (option_to_list o)
+  each_told None says = All-nil (IsRollupTold rows books id)
+  each_told (Some c) says = All-cons (IsRollupTold rows books id) c [] (at_judged q c.operation rows books.kept ∙ ap (judged_in c.operation old) kept_at ∙ says) (All-nil (IsRollupTold rows books id))
+
+  pub rollup_refreshed : IsRefreshed as_rolled_up owner rows beside base now id (option_to_list (change_of id columns_were new)) (with_rollup beside base now id)
   rollup_refreshed = record {
     tables = λ i. record beside { shown = (keeps.shown ∙ same_shown) i; rollups = same_rollups i; stamps = same_stamps i };
     keeps = record {
@@ -338,5 +343,5 @@ module _ (owner : ℕ → ℕ) (rows : List (ViewKey × Content)) (beside : Besi
       stamped = stamped_then;
     };
     told = same_told;
-    shown = IfSome_then (change_of id columns_were new) rolls.says (λ c is. kept_at ∙ is);
+    each = each_told (change_of id columns_were new) rolls.says;
   }

@@ -7,10 +7,13 @@ use Rattle.std.proofs.lemmas.Option.{same_Some}
 use Rattle.std.proofs.lemmas.Slice.Eq.{bytes_eq-Decides}
 use Rattle.adr_objects.specs.declared.shown.ShownEvent.{ShownEvent}
 use Rattle.adr_objects.specs.declared.shown.Stamps.{Stamps}
+use Rattle.adr_state.specs.declared.keys.ViewKey.{ViewKey}
 use Rattle.adr_state.specs.declared.keys.ViewKey.TheVariants as key
 use Rattle.adr_state.specs.declared.portfolio.Portfolio.{Portfolio}
-use Rattle.adr_view.specs.declared.changes.Operation.TheVariants.{Put}
+use Rattle.adr_state.specs.Keys.{view_cmp, at}
 use Rattle.adr_state.specs.Stamping.{modified_at}
+use Rattle.adr_view.specs.declared.changes.Operation.{Operation}
+use Rattle.adr_view.specs.declared.changes.Operation.TheVariants.{Post, Put, Delete}
 use Rattle.adr_view.specs.declared.view.Content.{Content}
 use Rattle.adr_view.specs.declared.view.Content.TheVariants as content
 use Rattle.adr_view.specs.Same.{is_same_content}
@@ -25,6 +28,12 @@ use Rattle.adr_kept_view.specs.Changes.{owner_in, event_in, gone, change_at}
 use Rattle.adr_kept_view.specs.Refreshed.{judged_in}
 use Rattle.adr_kept_view.proofs.FoundLemmas.{kept_part}
 use Rattle.adr_kept_view.proofs.WriteLemmas.{left_behind}
+
+-- a side of a map at a key
+pub at_judged : {V : Type 0} (k : ViewKey) (o : Operation) (before after : List (ViewKey × V)) → at view_cmp k (judged_in o before after) ≡ judged_in o (at view_cmp k before) (at view_cmp k after)
+at_judged k Post before after = refl
+at_judged k Put before after = refl
+at_judged k Delete before after = refl
 
 pub both_ways : (a b : Bool) → (a ≡ true → b ≡ true) → (b ≡ true → a ≡ true) → a ≡ b
 both_ways true b one other = sym (one refl)

@@ -30,15 +30,10 @@ use Rattle.adr_db.specs.Bases.{Beside}
 use Rattle.adr_db.specs.Kept.{Kept}
 use Rattle.adr_db.specs.ShownKeys.{shown_cmp}
 use Rattle.adr_kept_view.specs.declared.change.ShownChange.{ShownChange}
+use Rattle.adr_kept_view.specs.declared.found.Found.{Found}
 use Rattle.adr_kept_view.specs.Columns.{columns_of}
 
 -- ---- what is found
-
--- of an event, by the numbers of the resources: what is kept, the stamps, and what is shown now
-pub record Found : Type 0 where
-  pub kept : List (ℕ × ShownColumns)
-  pub stamps : List (ℕ × Stamps)
-  pub shown : List (ℕ × ShownEvent)
 
 -- what is kept, behind the number of the resource
 abbrev pub kept_row : ShownKey × ShownColumns → ℕ × ShownColumns

@@ -1,5 +1,6 @@
 -- Laws of the refresh of what tables keep.
 use Rattle.std.specs.Prelude.{◌≡◌, ℕ, List, Ok, IfSome, All}
+use Rattle.std.specs.Option.{option_to_list}
 use Rattle.std.specs.Ordering.{nat_cmp}
 use Rattle.adr_state.specs.declared.base.Base.{Base}
 use Rattle.adr_state.specs.declared.keys.ViewKey.{ViewKey}
@@ -14,9 +15,10 @@ use Rattle.adr_shown.specs.RollupTexts.{kept_rollup_text}
 use Rattle.adr_shown.specs.ReadRollups.{kept_rollup_of}
 use Rattle.adr_db.specs.Bases.{Beside}
 use Rattle.adr_kept_view.specs.KeptViews.{KeepsView, Owns}
-use Rattle.adr_kept_view.specs.Changes.{Found, found_of, numbers_of, change_found, changes_found, shown_with_each, stamps_with_each}
+use Rattle.adr_kept_view.specs.declared.found.Found.{Found}
+use Rattle.adr_kept_view.specs.Changes.{found_of, numbers_of, change_found, changes_found, shown_with_each, stamps_with_each}
 use Rattle.adr_kept_view.specs.Rollups.{change_of, rollups_with, stamps_with}
-use Rattle.adr_kept_view.specs.Refreshed.{IsEventRefreshed, IsRollupRefreshed}
+use Rattle.adr_kept_view.specs.Refreshed.{IsRefreshed, as_shown, as_rolled_up}
 
 -- the text of what is shown now, of the resource of a number, reads back
 abbrev pub ReadsFound : Found → ℕ → Type 0
@@ -34,7 +36,7 @@ with_found beside base now id found = record beside {
 abbrev pub EventIsRefreshed : Type 0
 EventIsRefreshed = (owner : ℕ → ℕ) (rows : List (ViewKey × Content)) (beside : Beside) (base : Base) (now : ℕ) (id : List ℕ) → KeepsView owner rows beside → Owns owner base → StandsInOrder base
     → All (ReadsFound (found_of beside base id)) (numbers_of (found_of beside base id))
-    → IsEventRefreshed owner rows beside base now id (changes_found base.portfolio now (found_of beside base id)) (with_found beside base now id (found_of beside base id))
+    → IsRefreshed as_shown owner rows beside base now id (changes_found base.portfolio now (found_of beside base id)) (with_found beside base now id (found_of beside base id))
 
 -- what stands beside a base, with the roll-up of an event as it is now
 abbrev pub with_rollup : Beside → Base → ℕ → List ℕ → Beside
@@ -47,4 +49,4 @@ with_rollup beside base now id = record beside {
 abbrev pub RollupIsRefreshed : Type 0
 RollupIsRefreshed = (owner : ℕ → ℕ) (rows : List (ViewKey × Content)) (beside : Beside) (base : Base) (now : ℕ) (id : List ℕ) → KeepsView owner rows beside → StandsInOrder base
     → IfSome (rollup_at base.mirror base.portfolio id) (λ r. kept_rollup_of (kept_rollup_text id r) ≡ Ok (id, r))
-    → IsRollupRefreshed owner rows beside base now id (change_of id (at id_cmp id beside.rollups) (rollup_at base.mirror base.portfolio id)) (with_rollup beside base now id)
+    → IsRefreshed as_rolled_up owner rows beside base now id (option_to_list (change_of id (at id_cmp id beside.rollups) (rollup_at base.mirror base.portfolio id))) (with_rollup beside base now id)

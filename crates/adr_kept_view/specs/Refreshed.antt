@@ -1,7 +1,7 @@
 -- What it is that what tables keep was refreshed: it is what the refresh of the source leaves, and what is answered is
 -- what that tells.
-use Rattle.std.specs.Prelude.{◌≡◌, ℕ, List, [], map, Option, Some, option_map, IfSome, All}
-use Rattle.std.specs.Option.{option_to_list}
+use Rattle.std.specs.Prelude.{◌≡◌, ℕ, List, [], map, Some, All}
+use Rattle.adr_objects.specs.declared.shown.Stamps.{Stamps}
 use Rattle.adr_state.specs.declared.base.Base.{Base}
 use Rattle.adr_state.specs.declared.keys.ViewKey.{ViewKey}
 use Rattle.adr_state.specs.declared.keys.ViewKey.TheVariants as key
@@ -33,31 +33,47 @@ judged_in Post before after = after
 judged_in Put before after = after
 judged_in Delete before after = before
 
+-- what of an upstream event is refreshed, as changes of one type tell it: its source, a change as a row of what is told,
+-- and when a change is right, by the ven that owns each resource, the rows and stamps before, and the books behind it
+pub record Part (C : Type 0) : Type 1 where
+  pub source : List ℕ → Source
+  pub row : List ℕ → C → ViewKey × Operation
+  pub IsRight : (ℕ → ℕ) → List (ViewKey × Content) → List (ViewKey × Stamps) → Books → List ℕ → C → Type 0
+
+-- what stands beside the base then has what the books keep of that part of the event, and its stamps, and keeps what is
+-- shown still; and the changes are what is told, in the order of the keys, each of them right
+pub record IsRefreshed {C : Type 0} (part : Part C) (owner : ℕ → ℕ) (rows : List (ViewKey × Content)) (before : Beside) (base : Base) (now : ℕ) (id : List ℕ) (changes : List C) (after : Beside) : Type 0 where
+  pub tables : after ≡ with_books owner (books_behind rows before base now (part.source id)) before
+  pub keeps : KeepsView owner (books_behind rows before base now (part.source id)).kept after
+  pub told : map (part.row id) changes ≡ (books_behind rows before base now (part.source id)).told
+  pub each : All (part.IsRight owner rows before.stamps (books_behind rows before base now (part.source id)) id) changes
+
+-- ---- what the resources are shown
+
 -- a change is of what stands at its key, with its stamps, and of the ven that owns the resource
-pub record IsTold (owner : ℕ → ℕ) (rows : List (ViewKey × Content)) (beside : Beside) (books : Books) (id : List ℕ) (c : ShownChange) : Type 0 where
+pub record IsTold (owner : ℕ → ℕ) (rows : List (ViewKey × Content)) (stamps_before : List (ViewKey × Stamps)) (books : Books) (id : List ℕ) (c : ShownChange) : Type 0 where
   pub shown : at view_cmp (key.Event id c.resource) (judged_in c.operation rows books.kept) ≡ Some (content.Event c.shown)
-  pub stamps : at view_cmp (key.Event id c.resource) (judged_in c.operation beside.stamps books.stamps) ≡ Some c.stamps
+  pub stamps : at view_cmp (key.Event id c.resource) (judged_in c.operation stamps_before books.stamps) ≡ Some c.stamps
   pub ven : owner c.resource ≡ c.ven
 
--- a change as a row of what is told
+-- as a row of what is told
 abbrev pub told_row : List ℕ → ShownChange → ViewKey × Operation
 told_row id c = (key.Event id c.resource, c.operation)
 
--- what stands beside the base then has what the books keep of the event, and its stamps, and keeps what is shown still;
--- and the changes are what is told, in the order of the keys
-pub record IsEventRefreshed (owner : ℕ → ℕ) (rows : List (ViewKey × Content)) (before : Beside) (base : Base) (now : ℕ) (id : List ℕ) (changes : List ShownChange) (after : Beside) : Type 0 where
-  pub tables : after ≡ with_books owner (books_behind rows before base now (upstream_event id)) before
-  pub keeps : KeepsView owner (books_behind rows before base now (upstream_event id)).kept after
-  pub told : map (told_row id) changes ≡ (books_behind rows before base now (upstream_event id)).told
-  pub each : All (IsTold owner rows before (books_behind rows before base now (upstream_event id)) id) changes
+-- an event as it is shown to its participants
+abbrev pub as_shown : Part ShownChange
+as_shown = record { source = upstream_event; row = told_row; IsRight = IsTold }
 
--- a change of a roll-up as a row of what is told
+-- ---- the roll-up
+
+-- a change is of what stands at the key of the roll-up
+abbrev pub IsRollupTold : List (ViewKey × Content) → Books → List ℕ → RollupChange → Type 0
+IsRollupTold rows books id c = at view_cmp (key.Rollup id) (judged_in c.operation rows books.kept) ≡ Some (content.Rollup c.rollup)
+
+-- as a row of what is told
 abbrev pub rollup_told : List ℕ → RollupChange → ViewKey × Operation
 rollup_told id c = (key.Rollup id, c.operation)
 
--- the same of the roll-up of an event
-pub record IsRollupRefreshed (owner : ℕ → ℕ) (rows : List (ViewKey × Content)) (before : Beside) (base : Base) (now : ℕ) (id : List ℕ) (change : Option RollupChange) (after : Beside) : Type 0 where
-  pub tables : after ≡ with_books owner (books_behind rows before base now (RolledUp id)) before
-  pub keeps : KeepsView owner (books_behind rows before base now (RolledUp id)).kept after
-  pub told : option_to_list (option_map (rollup_told id) change) ≡ (books_behind rows before base now (RolledUp id)).told
-  pub shown : IfSome change (λ c. at view_cmp (key.Rollup id) (books_behind rows before base now (RolledUp id)).kept ≡ Some (content.Rollup c.rollup))
+-- an event as it is rolled up; where its roll-up goes, nothing is told
+abbrev pub as_rolled_up : Part RollupChange
+as_rolled_up = record { source = λ id. RolledUp id; row = rollup_told; IsRight = λ owner rows stamps books id c. IsRollupTold rows books id c }

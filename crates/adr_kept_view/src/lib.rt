@@ -3,6 +3,8 @@
 #![tactic(auto)]
 
 mod change;
+mod found;
 pub mod laws;
 
 pub use change::{RollupChange, ShownChange};
+pub use found::Found;

@@ -1,5 +1,6 @@
 -- The changes of sources in their order stand as those between the whole views.
 use Rattle.std.proofs.Common.{◌≡◌, Bool, true, false, cond, ⊎_elim, List, [], ◌∷◌, ◌++◌, map, Option, Some, None, Less, refl, sym, ap, ap₂, ◌∙◌}
+use Rattle.std.proofs.lemmas.List.{map-append}
 use Rattle.adr_state.specs.declared.keys.ViewKey.{ViewKey}
 use Rattle.adr_view.specs.declared.changes.Change.{Change}
 use Rattle.adr_view.specs.declared.changes.Operation.{Operation}
@@ -19,16 +20,12 @@ use Rattle.adr_refresh.proofs.SourceLemmas.{source_itself, its_source, keys_stan
 
 -- ---- rows in place of changes
 
-abbrev as_change : ViewKey × Operation → Change
+abbrev pub as_change : ViewKey × Operation → Change
 as_change r = record { key = r.0; operation = r.1 }
 
-back : (cs : List Change) → map as_change (map as_row cs) ≡ cs
+pub back : (cs : List Change) → map as_change (map as_row cs) ≡ cs
 back [] = refl
 back (c ∷ cs) = ap (λ rest. c ∷ rest) (back cs)
-
-map-append : {A B : Type 0} (f : A → B) (xs ys : List A) → map f (xs ++ ys) ≡ map f xs ++ map f ys
-map-append f [] ys = refl
-map-append f (x ∷ xs) ys = ap (λ rest. f x ∷ rest) (map-append f xs ys)
 
 module _ (before after : Base) (stands_before : StandsInOrder before) (stands : StandsInOrder after) where
   abbrev told_of : Source → List (ViewKey × Operation)

@@ -1,5 +1,6 @@
 -- What a refresh makes of what tables keep.
 use Rattle.std.specs.Prelude.{◌≡◌, ℕ, List, Option, Result, IfOk}
+use Rattle.std.specs.Option.{option_to_list}
 use Rattle.sqlite.specs.Store.{Ghosts}
 use Rattle.sqlite.specs.Held.{Held, state}
 use Rattle.sqlite.specs.State.{HasCleanDisk}
@@ -8,19 +9,12 @@ use Rattle.adr_state.specs.declared.keys.ViewKey.{ViewKey}
 use Rattle.adr_view.specs.declared.view.Content.{Content}
 use Rattle.adr_db.specs.Bases.{Beside, kept_beside, HoldsBeside}
 use Rattle.adr_kept_view.specs.declared.change.RollupChange.{RollupChange}
-use Rattle.adr_kept_view.specs.declared.change.ShownChange.{ShownChange}
+use Rattle.adr_kept_view.specs.declared.found.Found.{Found}
 use Rattle.adr_kept_view.specs.Changes.{found_of}
 use Rattle.adr_kept_view.specs.KeptViews.{KeepsView, Owns}
-use Rattle.adr_kept_view.specs.Refreshed.{IsEventRefreshed, IsRollupRefreshed}
-use Rattle.adr_upkeep.specs.declared.found.Found.{Found}
+use Rattle.adr_kept_view.specs.Refreshed.{Part, IsRefreshed, as_rolled_up}
 use Rattle.adr_upkeep.specs.declared.sharers.Sharers.{Sharers}
 use Rattle.adr_upkeep.specs.Sharing.{AreThoseOf}
-
--- what was found is what tables that hold a base, beside anything, keep of an event, and show of it now
-pub record IsFound (beside : Beside) (base : Base) (id : List ℕ) (found : Found) : Type 0 where
-  pub kept : found.kept ≡ (found_of beside base id).kept
-  pub stamps : found.stamps ≡ (found_of beside base id).stamps
-  pub shown : found.shown ≡ (found_of beside base id).shown
 
 module _ {S : Type 0} (g : Ghosts S) (old new : Held S) where
   -- after Ok, where those who share were right, it was found in what the tables held; they hold that still, and those are
@@ -29,27 +23,34 @@ module _ {S : Type 0} (g : Ghosts S) (old new : Held S) where
   FindsEvent id before after result =
       HasCleanDisk (state g new)
       → IfOk result (λ found. (beside : Beside) (base : Base) → HoldsBeside beside base (state g old) → AreThoseOf (kept_beside beside base) before
-      → IsFound beside base id found × AreThoseOf (kept_beside beside base) after × HoldsBeside beside base (state g new))
+      → (found ≡ found_of beside base id) × AreThoseOf (kept_beside beside base) after × HoldsBeside beside base (state g new))
 
-  -- after Ok, where the tables held a base and kept what was shown, they hold the base, beside what the refresh of the
-  -- event leaves, and its changes are answered
-  abbrev pub RefreshesEvent : {E : Type 0} → List ℕ → ℕ → Result (List ShownChange) E → Type 0
-  RefreshesEvent id now result =
+  -- after Ok, where the tables held a base and kept what was shown, they hold the base, beside what the refresh of that part
+  -- of the event leaves, and its changes are answered
+  abbrev pub RefreshesAlone : {C E : Type 0} → Part C → List ℕ → ℕ → Result (List C) E → Type 0
+  RefreshesAlone part id now result =
       HasCleanDisk (state g new)
       → IfOk result (λ changes. (owner : ℕ → ℕ) (rows : List (ViewKey × Content)) (beside : Beside) (base : Base) → HoldsBeside beside base (state g old) → KeepsView owner rows beside → Owns owner base
-      → (after : Beside) × HoldsBeside after base (state g new) × IsEventRefreshed owner rows beside base now id changes after)
+      → (after : Beside) × HoldsBeside after base (state g new) × IsRefreshed part owner rows beside base now id changes after)
 
   -- the same where those who share were right, and they are right still
-  abbrev pub RefreshesSharing : {E : Type 0} → List ℕ → ℕ → Sharers → Sharers → Result (List ShownChange) E → Type 0
-  RefreshesSharing id now before after result =
+  abbrev pub RefreshesSharing : {C E : Type 0} → Part C → List ℕ → ℕ → Sharers → Sharers → Result (List C) E → Type 0
+  RefreshesSharing part id now before after result =
       HasCleanDisk (state g new)
       → IfOk result (λ changes. (owner : ℕ → ℕ) (rows : List (ViewKey × Content)) (beside : Beside) (base : Base) → HoldsBeside beside base (state g old) → KeepsView owner rows beside → Owns owner base
       → AreThoseOf (kept_beside beside base) before
-      → (later : Beside) × HoldsBeside later base (state g new) × AreThoseOf (kept_beside later base) after × IsEventRefreshed owner rows beside base now id changes later)
+      → (later : Beside) × HoldsBeside later base (state g new) × AreThoseOf (kept_beside later base) after × IsRefreshed part owner rows beside base now id changes later)
 
-  -- the same of the roll-up of an event
+  -- the same of the roll-up of an event, whoever owns the resources
   abbrev pub RefreshesRollup : {E : Type 0} → List ℕ → ℕ → Result (Option RollupChange) E → Type 0
   RefreshesRollup id now result =
       HasCleanDisk (state g new)
       → IfOk result (λ change. (owner : ℕ → ℕ) (rows : List (ViewKey × Content)) (beside : Beside) (base : Base) → HoldsBeside beside base (state g old) → KeepsView owner rows beside
-      → (after : Beside) × HoldsBeside after base (state g new) × IsRollupRefreshed owner rows beside base now id change after)
+      → (after : Beside) × HoldsBeside after base (state g new) × IsRefreshed as_rolled_up owner rows beside base now id (option_to_list change) after)
+
+  abbrev pub RefreshesRollupSharing : {E : Type 0} → List ℕ → ℕ → Sharers → Sharers → Result (Option RollupChange) E → Type 0
+  RefreshesRollupSharing id now before after result =
+      HasCleanDisk (state g new)
+      → IfOk result (λ change. (owner : ℕ → ℕ) (rows : List (ViewKey × Content)) (beside : Beside) (base : Base) → HoldsBeside beside base (state g old) → KeepsView owner rows beside
+      → AreThoseOf (kept_beside beside base) before
+      → (later : Beside) × HoldsBeside later base (state g new) × AreThoseOf (kept_beside later base) after × IsRefreshed as_rolled_up owner rows beside base now id (option_to_list change) later)

@@ -6,14 +6,16 @@ ghost use Rattle.std.specs.Ordering.{nat_cmp};
 ghost use Rattle.adr_state.specs.Keys.{at};
 ghost use Rattle.adr_sql.specs.Calls.{LeavesLent};
 ghost use Rattle.adr_db.specs.Calls.{Turns, IsOfStore};
-ghost use Rattle.adr_kept_view.specs.Changes.{with_numbers};
-ghost use Rattle.adr_upkeep.specs.Calls.{RefreshesEvent, RefreshesSharing};
-ghost use Rattle.adr_upkeep.specs.Turned.{numbers_in, kept_with_each, changes_of, reads_of};
+ghost use Rattle.adr_kept_view.specs.Changes.{with_numbers, numbers_of, changes_found};
+ghost use Rattle.adr_kept_view.specs.Laws.{ReadsFound};
+ghost use Rattle.adr_kept_view.specs.Refreshed.{as_shown};
+ghost use Rattle.adr_upkeep.specs.Calls.{RefreshesAlone, RefreshesSharing};
+ghost use Rattle.adr_upkeep.specs.Turned.{kept_with_each};
 
-use crate::found::{Found, find};
+use crate::found::find;
 use crate::sharers::Sharers;
 use crate::turn::turn_one;
-use adr_kept_view::ShownChange;
+use adr_kept_view::{Found, ShownChange};
 use adr_objects::Number;
 use adr_state::push_some;
 use adr_text::{Moment, ObjectId, Refusal, Rows, Table};
@@ -43,7 +45,7 @@ fn add_numbers<V: Drop>(
 
 // The resources of which something is kept or shown.
 fn numbers_of(alloc: Global, found: &Found) -> Result<BTreeSet<Number>, AllocError>
-    ensures { IfOk result (λ numbers. numbers.keys ≡ numbers_in found.now) }
+    ensures { IfOk result (λ numbers. numbers.keys ≡ numbers_of found.now) }
 {
     let mut numbers = BTreeSet::new(alloc);
     add_numbers(&mut numbers, &found.kept)?;
@@ -60,8 +62,8 @@ fn turn_each<S: Alter>(
     found: &Found,
 ) -> Result<Rows<ShownChange>, Refusal>
     ensures lent { LeavesLent S.Store tx.old.conn tx.new.conn result }
-    ensures turns { Turns S.Store tx.old.conn.now tx.new.conn.now (kept_with_each event.now now found.now) (λ kept changes. changes ≡ changes_of kept.portfolio now found.now) result }
-    ensures reads { OnOk result (All (reads_of found.now) (numbers_in found.now)) }
+    ensures turns { Turns S.Store tx.old.conn.now tx.new.conn.now (kept_with_each event.now now found.now) (λ kept changes. changes ≡ changes_found kept.portfolio now found.now) result }
+    ensures reads { OnOk result (All (ReadsFound found.now) (numbers_of found.now)) }
     ensures refused { IfErr result IsOfStore }
 {
     let numbers = numbers_of(alloc, found)?;
@@ -95,7 +97,7 @@ pub fn refresh_sharing<S: Alter>(
     now: Moment,
 ) -> Result<Rows<ShownChange>, Refusal>
     ensures lent { LeavesLent S.Store tx.old.conn tx.new.conn result }
-    ensures refreshes { RefreshesSharing S.Store tx.old.conn.now tx.new.conn.now event.now now sharers.old sharers.new result }
+    ensures refreshes { RefreshesSharing S.Store tx.old.conn.now tx.new.conn.now as_shown event.now now sharers.old sharers.new result }
     ensures refused { IfErr result IsOfStore }
 {
     let found = find(alloc, tx, sharers, event)?;
@@ -110,7 +112,7 @@ pub fn refresh<S: Alter>(
     now: Moment,
 ) -> Result<Rows<ShownChange>, Refusal>
     ensures lent { LeavesLent S.Store tx.old.conn tx.new.conn result }
-    ensures refreshes { RefreshesEvent S.Store tx.old.conn.now tx.new.conn.now event.now now result }
+    ensures refreshes { RefreshesAlone S.Store tx.old.conn.now tx.new.conn.now as_shown event.now now result }
     ensures refused { IfErr result IsOfStore }
 {
     let mut sharers = Sharers::none(alloc);

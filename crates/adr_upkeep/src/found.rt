@@ -12,20 +12,13 @@ use crate::shown::shown_by;
 use adr_db::reading::table_of;
 use adr_db::{ShownColumns, ShownKey};
 use adr_db_shown::{read_event_stamps, read_shown_of};
+use adr_kept_view::Found;
 use adr_objects::{Number, ShownEvent, Stamps};
 use adr_state::{ViewKey, push_some};
-use adr_text::{ObjectId, Refusal, Rows, Table};
+use adr_text::{ObjectId, Refusal, Rows};
 use adr_view::Content;
 use sqlite::{Alter, Transaction};
 use std::alloc::{AllocError, Global};
-
-/// Of an event, by the numbers of the resources: what is kept, the stamps, and what is shown now.
-#[derive(Drop)]
-pub(crate) struct Found {
-    pub kept: Table<Number, ShownColumns>,
-    pub stamps: Table<Number, Stamps>,
-    pub shown: Table<Number, ShownEvent>,
-}
 
 // What is kept, behind the numbers of the resources.
 fn kept_rows(

@@ -6,6 +6,7 @@ mod columns;
 mod events;
 mod found;
 mod owner;
+mod rolled_up;
 mod rollups;
 mod sharers;
 mod shown;
@@ -13,5 +14,5 @@ mod stamps;
 mod turn;
 
 pub use events::{refresh, refresh_sharing};
-pub use rollups::refresh_rollup;
+pub use rollups::{refresh_rollup, refresh_rollup_sharing};
 pub use sharers::Sharers;

@@ -8,17 +8,18 @@ ghost use Rattle.adr_db.specs.Kept.{with_rollup, with_stamps};
 ghost use Rattle.adr_db.specs.Calls.{LeavesKept, Turns, IsOfStore};
 ghost use Rattle.adr_kept_view.specs.Columns.{rollup_columns as columns_of};
 ghost use Rattle.adr_kept_view.specs.Rollups.{kept_with};
-ghost use Rattle.adr_upkeep.specs.Calls.{RefreshesRollup};
+ghost use Rattle.adr_upkeep.specs.Calls.{RefreshesRollup, RefreshesRollupSharing};
 ghost use Rattle.adr_upkeep.specs.Rolled.{operation_of, told_of, ReadsRolled};
 
 use crate::columns::rollup_columns;
+use crate::rolled_up::rollup_by;
+use crate::sharers::Sharers;
 use crate::stamps::stamps_put;
 use adr_db::RollupColumns;
 use adr_db_shown::{put_rollup, read_rollup, remove_rollup};
 use adr_db_state::{put_stamps, read_stamps_of, remove_stamps};
 use adr_kept_view::RollupChange;
 use adr_objects::{Rollup, Stamps};
-use adr_reports::rollup;
 use adr_shown::write_rolled_up;
 use adr_state::{ViewKey, fresh};
 use adr_text::{Moment, ObjectId, Refusal};
@@ -120,21 +121,23 @@ fn told(operation: Option<Operation>, rollup: Option<Rollup>) -> Option<RollupCh
 
 /// What tables keep of the roll-up of an upstream event is compared with what it is now: one that appears or differs is put,
 /// with its stamps; one that goes is removed with them, which is no change; and one that stays is left alone. Answered is
-/// exactly the change, if there is one, with what is told of it.
-pub fn refresh_rollup<S: Alter>(
+/// exactly the change, if there is one, with what is told of it. Those who share in its program are read unless they are
+/// known, and known then, as `refresh_sharing` has it.
+pub fn refresh_rollup_sharing<S: Alter>(
     alloc: Global,
     tx: &mut Transaction<'_, S>,
+    sharers: &mut Sharers,
     event: &ObjectId,
     now: Moment,
 ) -> Result<Option<RollupChange>, Refusal>
     ensures lent { LeavesLent S.Store tx.old.conn tx.new.conn result }
-    ensures refreshes { RefreshesRollup S.Store tx.old.conn.now tx.new.conn.now event.now now result }
+    ensures refreshes { RefreshesRollupSharing S.Store tx.old.conn.now tx.new.conn.now event.now now sharers.old sharers.new result }
     ensures refused { IfErr result IsOfStore }
 {
     let place = ViewKey::Rollup(event.copy(alloc)?);
     let old = read_rollup(alloc, tx, event)?;
     let stamps = read_stamps_of(tx, &place)?;
-    let new = rollup(alloc, tx, event)?;
+    let new = rollup_by(alloc, tx, sharers, event)?;
     let operation = turn_rollup(
         alloc,
         tx,
@@ -146,4 +149,19 @@ pub fn refresh_rollup<S: Alter>(
         new.as_ref(),
     )?;
     Ok(told(operation, new))
+}
+
+/// The same of one event alone.
+pub fn refresh_rollup<S: Alter>(
+    alloc: Global,
+    tx: &mut Transaction<'_, S>,
+    event: &ObjectId,
+    now: Moment,
+) -> Result<Option<RollupChange>, Refusal>
+    ensures lent { LeavesLent S.Store tx.old.conn tx.new.conn result }
+    ensures refreshes { RefreshesRollup S.Store tx.old.conn.now tx.new.conn.now event.now now result }
+    ensures refused { IfErr result IsOfStore }
+{
+    let mut sharers = Sharers::none(alloc);
+    refresh_rollup_sharing(alloc, tx, &mut sharers, event, now)
 }

@@ -1,15 +1,16 @@
 //! Who shares in the program of an event, kept from one event to the next.
-ghost use Rattle.std.specs.Prelude.{◌≡◌, None, Some, IfOk, IfErr, if◌then◌else◌, bytes_eq, false};
+ghost use Rattle.std.specs.Prelude.{◌≡◌, ◌≤◌, None, Some, IfOk, IfErr, length, if◌then◌else◌, bytes_eq, false};
 ghost use Rattle.std.specs.Option.{option_map_or};
-ghost use Rattle.adr_state.specs.Participants.{is_for};
+ghost use Rattle.adr_state.specs.Participants.{is_for, participants};
+ghost use Rattle.adr_state.specs.Weights.{most_resources};
 ghost use Rattle.adr_sql.specs.Calls.{LeavesLent};
 ghost use Rattle.adr_db.specs.Calls.{IsOfStore};
 ghost use Rattle.adr_db.specs.Kept.{Kept};
 ghost use Rattle.adr_db.specs.Sharing.{those_for};
-ghost use Rattle.adr_upkeep.specs.Sharing.{AreThoseOf, FindsThose};
+ghost use Rattle.adr_upkeep.specs.Sharing.{AreThoseOf, FindsThose, FindsSharing};
 
 use adr_db_portfolio::read_sharers;
-use adr_objects::NameSet;
+use adr_objects::{EventBody, NameSet};
 use adr_state::{Participant, is_for, push_some};
 use adr_text::{ObjectId, Refusal, Rows};
 use sqlite::{Alter, Transaction};
@@ -19,7 +20,7 @@ use std::alloc::{AllocError, Global};
 /// another, they are read once.
 pub struct Sharers {
     program: Option<ObjectId>,
-    pub(crate) those: Rows<Participant>,
+    those: Rows<Participant>,
 }
 
 impl Drop for Sharers {
@@ -29,6 +30,40 @@ impl Drop for Sharers {
             those: _,
         } = self;
     }
+}
+
+// One of them, where the event is for that name.
+fn one_for(
+    alloc: Global,
+    names: &Option<NameSet>,
+    one: &Participant,
+) -> Result<Option<Participant>, AllocError>
+    ensures { IfOk result (λ those. those ≡ (if is_for names.now one.now.name then Some one.now else None)) }
+{
+    if !is_for(names, &one.name) {
+        return Ok(None);
+    }
+    Ok(Some(Participant {
+        resource: one.resource,
+        weight: one.weight,
+        name: one.name.copy(alloc)?,
+        ven_name: one.ven_name.copy(alloc)?,
+    }))
+}
+
+// Those for whose names an event is.
+fn those_for(
+    alloc: Global,
+    names: &Option<NameSet>,
+    sharers: &[Participant],
+) -> Result<Vec<Participant>, AllocError>
+    ensures { IfOk result (λ those. those.items ≡ those_for names.now sharers.now) }
+{
+    let mut those = Vec::new(alloc);
+    for one in sharers {
+        push_some(&mut those, one_for(alloc, names, one)?)?;
+    }
+    Ok(those)
 }
 
 impl Sharers {
@@ -52,8 +87,8 @@ impl Sharers {
         }
     }
 
-    /// Those who share in a program, which are read unless they were before.
-    pub(crate) fn read<S: Alter>(
+    // Those who share in a program, which are read unless they were before.
+    fn read<S: Alter>(
         &mut self,
         alloc: Global,
         tx: &mut Transaction<'_, S>,
@@ -71,38 +106,25 @@ impl Sharers {
         self.those = those;
         Ok(())
     }
-}
 
-// One of them, where the event is for that name.
-fn one_for(
-    alloc: Global,
-    names: &Option<NameSet>,
-    one: &Participant,
-) -> Result<Option<Participant>, AllocError>
-    ensures { IfOk result (λ those. those ≡ (if is_for names.now one.now.name then Some one.now else None)) }
-{
-    if !is_for(names, &one.name) {
-        return Ok(None);
+    /// The participants of an event. Those who share in its program are read unless they are known. The store's refusal
+    /// where they are more than resources there may be, which what is kept rules out.
+    pub(crate) fn participants<S: Alter>(
+        &mut self,
+        alloc: Global,
+        tx: &mut Transaction<'_, S>,
+        event: &EventBody,
+    ) -> Result<Rows<Participant>, Refusal>
+        ensures lent { LeavesLent S.Store tx.old.conn tx.new.conn result }
+        ensures finds { FindsSharing S.Store tx.old.conn.now tx.new.conn.now self.old self.new (λ base ps. ps ≡ participants base.portfolio event.now) result }
+        ensures few { IfOk result (λ ps. length ps ≤ most_resources) }
+        ensures refused { IfErr result IsOfStore }
+    {
+        self.read(alloc, tx, &event.program)?;
+        let ps = those_for(alloc, &event.resource_names, self.those.as_slice())?;
+        if ps.len() > 10_000 {
+            return Err(Refusal::Store);
+        }
+        Ok(Rows::from_vec(ps))
     }
-    Ok(Some(Participant {
-        resource: one.resource,
-        weight: one.weight,
-        name: one.name.copy(alloc)?,
-        ven_name: one.ven_name.copy(alloc)?,
-    }))
-}
-
-/// Those for whose names an event is.
-pub(crate) fn those_for(
-    alloc: Global,
-    names: &Option<NameSet>,
-    sharers: &[Participant],
-) -> Result<Vec<Participant>, AllocError>
-    ensures { IfOk result (λ those. those.items ≡ those_for names.now sharers.now) }
-{
-    let mut those = Vec::new(alloc);
-    for one in sharers {
-        push_some(&mut those, one_for(alloc, names, one)?)?;
-    }
-    Ok(those)
 }

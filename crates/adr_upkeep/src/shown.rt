@@ -5,7 +5,7 @@ ghost use Rattle.adr_db.specs.Calls.{IsOfStore};
 ghost use Rattle.adr_view.specs.Views.{event_rows, shown_of};
 ghost use Rattle.adr_upkeep.specs.Sharing.{FindsSharing};
 
-use crate::sharers::{Sharers, those_for};
+use crate::sharers::Sharers;
 use adr_db_mirror::read_known;
 use adr_objects::EventBody;
 use adr_state::ViewKey;
@@ -29,12 +29,8 @@ fn event_rows<S: Alter>(
     if !carries(event) {
         return Ok(Rows::new(alloc));
     }
-    sharers.read(alloc, tx, &event.program)?;
-    let ps = those_for(alloc, &event.resource_names, sharers.those.as_slice())?;
-    if ps.len() > 10_000 {
-        return Err(Refusal::Store);
-    }
-    Ok(rows_for(alloc, id, event, &ps)?)
+    let ps = sharers.participants(alloc, tx, event)?;
+    Ok(rows_for(alloc, id, event, ps.as_slice())?)
 }
 
 /// What is shown of an upstream event: for each of its participants, in the order of their numbers, its key with its

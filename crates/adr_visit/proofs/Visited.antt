@@ -1,6 +1,5 @@
 -- A visit goes on: an event is refreshed behind entries that came so far.
 use Rattle.std.proofs.Common.{◌≡◌, inl, inr, ℕ, List, [], ◌∷◌, ◌++◌, refl, ap, subst}
-use Rattle.std.proofs.lemmas.List.Elements.{All-weaker}
 use Rattle.sqlite.specs.State.{State}
 use Rattle.adr_delivery.specs.declared.entry.Entry.{Entry}
 use Rattle.adr_delivery.specs.declared.outbox.Outbox.{Outbox}
@@ -9,24 +8,22 @@ use Rattle.adr_state.specs.declared.keys.ViewKey.{ViewKey}
 use Rattle.adr_state.specs.declared.limits.Limits.{Limits}
 use Rattle.adr_view.specs.declared.view.Content.{Content}
 use Rattle.adr_refresh.specs.Refresh.{Books}
-use Rattle.adr_refresh.specs.Touched.{upstream_event}
 use Rattle.adr_db.specs.declared.meta.Meta.{Meta}
 use Rattle.adr_db.specs.Bases.{Beside, kept_beside, HoldsBeside}
 use Rattle.adr_db.specs.Images.{outbox_of}
 use Rattle.adr_db.specs.Kept.{Keeps}
 use Rattle.adr_outbox.specs.Turned.{with_outbox}
-use Rattle.adr_kept_view.specs.declared.change.ShownChange.{ShownChange}
 use Rattle.adr_kept_view.specs.KeptViews.{KeepsView, Owns}
-use Rattle.adr_kept_view.specs.Refreshed.{books_behind, with_books, IsTold, IsEventRefreshed}
+use Rattle.adr_kept_view.specs.Refreshed.{books_behind, with_books, Part, IsRefreshed}
 use Rattle.adr_upkeep.specs.declared.sharers.Sharers.{Sharers}
 use Rattle.adr_upkeep.specs.Sharing.{AreThoseOf}
 use Rattle.adr_room.specs.declared.room.Room.{Room}
 use Rattle.adr_room.specs.Rooms.{AreAppended}
 use Rattle.adr_visit.specs.Visits.{IsAt}
 
-module _ (limits : Limits) (first : Meta) (owner : ℕ → ℕ) (base : Base) (rows : List (ViewKey × Content)) (beside : Beside) (es : List Entry) (room : Room) (sharers after : Sharers) (numbers : Meta) (now : ℕ) (id : List ℕ) (changes : List ShownChange) (old new : State) where
+module _ {C : Type 0} (part : Part C) (limits : Limits) (first : Meta) (owner : ℕ → ℕ) (base : Base) (rows : List (ViewKey × Content)) (beside : Beside) (es : List Entry) (room : Room) (sharers after : Sharers) (numbers : Meta) (now : ℕ) (id : List ℕ) (changes : List C) (old new : State) where
   abbrev books : Books
-  books = books_behind rows beside base now (upstream_event id)
+  books = books_behind rows beside base now (part.source id)
 
   abbrev middle : Beside
   middle = with_books owner books beside
@@ -34,7 +31,7 @@ module _ (limits : Limits) (first : Meta) (owner : ℕ → ℕ) (base : Base) (r
   -- what a refresh says that is begun there
   abbrev pub Refreshes : Type 0
   Refreshes = (owner : ℕ → ℕ) (rows : List (ViewKey × Content)) (beside : Beside) (base : Base) → HoldsBeside beside base old → KeepsView owner rows beside → Owns owner base → AreThoseOf (kept_beside beside base) sharers
-      → (later : Beside) × HoldsBeside later base new × AreThoseOf (kept_beside later base) after × IsEventRefreshed owner rows beside base now id changes later
+      → (later : Beside) × HoldsBeside later base new × AreThoseOf (kept_beside later base) after × IsRefreshed part owner rows beside base now id changes later
 
   module _ (at : IsAt limits first owner base rows beside es room sharers numbers old) (refreshes : Refreshes) where
     -- beside the entries of an outbox
@@ -63,7 +60,7 @@ module _ (limits : Limits) (first : Meta) (owner : ℕ → ℕ) (base : Base) (r
     abbrev some : Outbox
     some = at.come.tables.0
 
-    refreshed : IsEventRefreshed owner rows beside base now id changes middle
+    refreshed : IsRefreshed part owner rows beside base now id changes middle
     refreshed =
         let so = refreshes owner rows (beside_with some) base at.come.tables.1 (keeps_with some) at.owns at.right in
         let keeps : KeepsView owner books.kept (with_books owner books (beside_with some)) = subst (λ (b : Beside). KeepsView owner books.kept b) so.3.tables so.3.keeps in
@@ -71,10 +68,10 @@ module _ (limits : Limits) (first : Meta) (owner : ℕ → ℕ) (base : Base) (r
           tables = refl;
           keeps = record { in_order = keeps.in_order; reads = keeps.reads; shown = keeps.shown; rollups = keeps.rollups; stamps_in_order = keeps.stamps_in_order; stamped = keeps.stamped };
           told = so.3.told;
-          each = All-weaker (IsTold owner rows (beside_with some) books id) (IsTold owner rows beside books id) (λ c h. record { shown = h.shown; stamps = h.stamps; ven = h.ven }) changes so.3.each;
+          each = so.3.each;
         }
 
-    pub visited_now : (m : Beside) × IsEventRefreshed owner rows beside base now id changes m × IsAt limits first owner base books.kept m es room after numbers new
+    pub visited_now : (m : Beside) × IsRefreshed part owner rows beside base now id changes m × IsAt limits first owner base books.kept m es room after numbers new
     visited_now =
         let so = refreshes owner rows (beside_with some) base at.come.tables.1 (keeps_with some) at.owns at.right in (
           middle,

@@ -9,12 +9,10 @@ use Rattle.adr_state.specs.declared.base.Base.{Base}
 use Rattle.adr_state.specs.declared.keys.ViewKey.{ViewKey}
 use Rattle.adr_state.specs.declared.limits.Limits.{Limits}
 use Rattle.adr_view.specs.declared.view.Content.{Content}
-use Rattle.adr_refresh.specs.Touched.{upstream_event}
 use Rattle.adr_db.specs.declared.meta.Meta.{Meta}
 use Rattle.adr_db.specs.Bases.{Beside, kept_beside}
-use Rattle.adr_kept_view.specs.declared.change.ShownChange.{ShownChange}
 use Rattle.adr_kept_view.specs.KeptViews.{KeepsView, Owns}
-use Rattle.adr_kept_view.specs.Refreshed.{books_behind, IsEventRefreshed}
+use Rattle.adr_kept_view.specs.Refreshed.{books_behind, Part, IsRefreshed}
 use Rattle.adr_upkeep.specs.declared.sharers.Sharers.{Sharers}
 use Rattle.adr_upkeep.specs.Sharing.{AreThoseOf}
 use Rattle.adr_room.specs.declared.room.Room.{Room}
@@ -30,27 +28,27 @@ pub record IsAt (limits : Limits) (first : Meta) (owner : ℕ → ℕ) (base : B
   pub waits : first.pending ≡ length beside.entries
   pub drawn : AreDrawn first (kept_beside beside base)
 
-module _ (told : List ℕ → ShownChange → List Entry) (owner : ℕ → ℕ) (base : Base) (now : ℕ) where
-  -- from what the tables keep of a view to what they keep once these events were refreshed, one after another: each leaves
-  -- what its refresh leaves, and the entries are those by which their changes are told, in turn
+module _ {C : Type 0} (part : Part C) (told : List ℕ → C → List Entry) (owner : ℕ → ℕ) (base : Base) (now : ℕ) where
+  -- from what the tables keep of a view to what they keep once that part of these events was refreshed, one after another:
+  -- each leaves what its refresh leaves, and the entries are those by which their changes are told, in turn
   abbrev pub IsTrail : List (ViewKey × Content) → Beside → List (List ℕ) → List (ViewKey × Content) → Beside → List Entry → Type 0
   IsTrail rows beside [] last later es = (rows ≡ last) × (beside ≡ later) × (es ≡ [])
   IsTrail rows beside (id ∷ ids) last later es =
-      (changes : List ShownChange) × (middle : Beside) × (rest : List Entry) × IsEventRefreshed owner rows beside base now id changes middle × (es ≡ flat_map (told id) changes ++ rest)
-      × IsTrail (books_behind rows beside base now (upstream_event id)).kept middle ids last later rest
+      (changes : List C) × (middle : Beside) × (rest : List Entry) × IsRefreshed part owner rows beside base now id changes middle × (es ≡ flat_map (told id) changes ++ rest)
+      × IsTrail (books_behind rows beside base now (part.source id)).kept middle ids last later rest
 
 module _ {S : Type 0} (g : Ghosts S) (old new : Held S) where
-  -- after Ok the event is refreshed, and its changes are told
-  abbrev pub VisitsOne : {T E : Type 0} → (List ℕ → ShownChange → List Entry) → Limits → List ℕ → ℕ → Room → Room → Sharers → Sharers → Meta → Meta → Result T E → Type 0
-  VisitsOne told limits id now before after sharers later numbers then result =
+  -- after Ok that part of the event is refreshed, and its changes are told
+  abbrev pub VisitsOne : {C T E : Type 0} → Part C → (List ℕ → C → List Entry) → Limits → List ℕ → ℕ → Room → Room → Sharers → Sharers → Meta → Meta → Result T E → Type 0
+  VisitsOne part told limits id now before after sharers later numbers then result =
       HasCleanDisk (state g new)
       → OnOk result ((first : Meta) (owner : ℕ → ℕ) (base : Base) (rows : List (ViewKey × Content)) (beside : Beside) (es : List Entry) → IsAt limits first owner base rows beside es before sharers numbers (state g old)
-      → (changes : List ShownChange) × (middle : Beside) × IsEventRefreshed owner rows beside base now id changes middle
-      × IsAt limits first owner base (books_behind rows beside base now (upstream_event id)).kept middle (es ++ flat_map (told id) changes) after later then (state g new))
+      → (changes : List _) × (middle : Beside) × IsRefreshed part owner rows beside base now id changes middle
+      × IsAt limits first owner base (books_behind rows beside base now (part.source id)).kept middle (es ++ flat_map (told id) changes) after later then (state g new))
 
-  -- so is each of them, one after another
-  abbrev pub VisitsEach : {T E : Type 0} → (List ℕ → ShownChange → List Entry) → Limits → List (List ℕ) → ℕ → Room → Room → Sharers → Sharers → Meta → Meta → Result T E → Type 0
-  VisitsEach told limits ids now before after sharers later numbers then result =
+  -- so is that part of each of them, one after another
+  abbrev pub VisitsEach : {C T E : Type 0} → Part C → (List ℕ → C → List Entry) → Limits → List (List ℕ) → ℕ → Room → Room → Sharers → Sharers → Meta → Meta → Result T E → Type 0
+  VisitsEach part told limits ids now before after sharers later numbers then result =
       HasCleanDisk (state g new)
       → OnOk result ((first : Meta) (owner : ℕ → ℕ) (base : Base) (rows : List (ViewKey × Content)) (beside : Beside) (es : List Entry) → IsAt limits first owner base rows beside es before sharers numbers (state g old)
-      → (last : List (ViewKey × Content)) × (end : Beside) × (further : List Entry) × IsTrail told owner base now rows beside ids last end further × IsAt limits first owner base last end (es ++ further) after later then (state g new))
+      → (last : List (ViewKey × Content)) × (end : Beside) × (further : List Entry) × IsTrail part told owner base now rows beside ids last end further × IsAt limits first owner base last end (es ++ further) after later then (state g new))

@@ -1,34 +1,27 @@
-//! How a change is told.
+//! How changes are told.
 ghost use Rattle.std.specs.Prelude.{◌≡◌, ℕ, List, IfOk};
 ghost use Rattle.std.specs.List.{flat_map};
 ghost use Rattle.adr_delivery.specs.declared.entry.Entry.{Entry as EntryOf};
-ghost use Rattle.adr_kept_view.specs.declared.change.ShownChange.{ShownChange as ChangeOf};
 
 use adr_delivery::Entry;
-use adr_kept_view::ShownChange;
 use adr_text::ObjectId;
 use std::alloc::{AllocError, Global};
 
-/// What tells the changes of what is shown.
-pub trait Tells {
+/// What tells changes of one type: those of what is shown of events, or those of roll-ups.
+pub trait Tells<C> {
     /// The entries by which a change of an event is told.
-    ghost told: { Self → List ℕ → ChangeOf → List EntryOf };
+    ghost told: { Self → List ℕ → C → List EntryOf };
 
-    fn entries(
-        &self,
-        alloc: Global,
-        event: &ObjectId,
-        change: &ShownChange,
-    ) -> Result<Vec<Entry>, AllocError>
+    fn entries(&self, alloc: Global, event: &ObjectId, change: &C) -> Result<Vec<Entry>, AllocError>
         ensures { IfOk result (λ entries. entries.items ≡ told self.now event.now change.now) };
 }
 
 /// The entries of the changes of an event, in their order.
-pub(crate) fn entries_of<T: Tells>(
+pub(crate) fn entries_of<C, T: Tells<C>>(
     alloc: Global,
     teller: &T,
     event: &ObjectId,
-    changes: &[ShownChange],
+    changes: &[C],
 ) -> Result<Vec<Entry>, AllocError>
     ensures { IfOk result (λ entries. entries.items ≡ flat_map (T.told teller.now event.now) changes.now) }
 {

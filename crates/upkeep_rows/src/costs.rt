@@ -1,15 +1,15 @@
 //! What a refresh takes.
 use crate::play::make_tables;
 use adr_db::Meta;
-use adr_db_portfolio::{put_resource, put_share, put_ven};
+use adr_db_portfolio::{put_report, put_resource, put_share, put_ven};
 use adr_mirror::{gone, put_evidence};
 use adr_objects::{
-    Body, EventBody, Found, Interval, Intervals, Kind, Number, ResourceName, Setpoint, Stamps,
-    UpstreamId,
+    Body, EventBody, Found, Interval, Intervals, Kind, Number, ReportBody, ReportHead,
+    ResourceName, Setpoint, Stamps, UpstreamId, UsageInterval,
 };
-use adr_state::{Limits, Resource, ShareKey, Ven, Weight, fresh};
-use adr_text::{Moment, Name, ObjectId, Refusal};
-use adr_upkeep::{Sharers, refresh_sharing};
+use adr_state::{Limits, Report, Resource, ShareKey, Ven, Weight, fresh};
+use adr_text::{Moment, Name, ObjectId, Refusal, Rows};
+use adr_upkeep::{Sharers, refresh_rollup_sharing, refresh_sharing};
 use anyhow::{Context, Result, bail};
 use sqlite::{Alter, Connection, Transaction};
 use std::alloc::Global;
@@ -172,19 +172,110 @@ fn drop_events<S: Alter>(
     Ok(())
 }
 
-// Refreshes each event, and answers how many changes were told.
+// A report that says so much for the one interval of an event.
+fn report(alloc: Global, event: u64, place: u64, amount: i64) -> Result<Report, Refusal> {
+    let name = format!(in alloc; "resource {place}")?;
+    let usage = UsageInterval {
+        id: 0,
+        usage: Some(Setpoint::new(amount)?),
+    };
+    let body = ReportBody {
+        head: ReportHead {
+            program: program(alloc)?,
+            event: event_id(alloc, event)?,
+            resource: number_at(place),
+            client: Name::new(alloc, "meter")?,
+            name: None,
+            resource_name: Name::new(alloc, name.as_str())?,
+        },
+        intervals: Rows::from_vec(vec![in alloc; usage]?),
+    };
+    Ok(Report {
+        revision: Number::new(1),
+        body,
+    })
+}
+
+// The reports on an event stand behind those on the ones before it, in the order of the resources.
+fn report_number(size: Size, event: u64, place: u64) -> Number {
+    Number::new(
+        event
+            .wrapping_mul(size.participants)
+            .wrapping_add(place)
+            .wrapping_add(100_000),
+    )
+}
+
+fn put_report_of<S: Alter>(
+    alloc: Global,
+    tx: &mut Transaction<'_, S>,
+    size: Size,
+    event: u64,
+    place: u64,
+    amount: i64,
+) -> Result<(), Refusal> {
+    let report = report(alloc, event, place, amount)?;
+    put_report(tx, report_number(size, event, place), &report)
+}
+
+// A report of so many participants on each event, who say so much.
+fn put_reports<S: Alter>(
+    alloc: Global,
+    tx: &mut Transaction<'_, S>,
+    size: Size,
+    participants: u64,
+    amount: i64,
+) -> Result<(), Refusal> {
+    for event in 0..size.events {
+        for place in 0..participants {
+            put_report_of(alloc, tx, size, event, place, amount)?;
+        }
+    }
+    Ok(())
+}
+
+/// What is refreshed.
+#[derive(Clone, Copy)]
+enum Refreshed {
+    Shown,
+    Rollups,
+}
+
+// Refreshes an event or its roll-up, and answers how many changes were told.
+fn refresh_one<S: Alter>(
+    alloc: Global,
+    tx: &mut Transaction<'_, S>,
+    sharers: &mut Sharers,
+    refreshed: Refreshed,
+    event: &ObjectId,
+    now: Moment,
+) -> Result<u64, Refusal> {
+    match refreshed {
+        Refreshed::Shown => {
+            let changes = refresh_sharing(alloc, tx, sharers, event, now)?;
+            Ok(changes.len() as u64)
+        }
+        Refreshed::Rollups => {
+            let change = refresh_rollup_sharing(alloc, tx, sharers, event, now)?;
+            Ok(u64::from(change.is_some()))
+        }
+    }
+}
+
+// Refreshes each event, or its roll-up, and answers how many changes were told.
 fn refresh_all<S: Alter>(
     alloc: Global,
     tx: &mut Transaction<'_, S>,
     size: Size,
+    refreshed: Refreshed,
     now: Moment,
 ) -> Result<u64, Refusal> {
     let mut told = 0u64;
     let mut sharers = Sharers::none(alloc);
     for event in 0..size.events {
         let event = event_id(alloc, event)?;
-        let changes = refresh_sharing(alloc, tx, &mut sharers, &event, now)?;
-        told = told.wrapping_add(changes.len() as u64);
+        let more = refresh_one(alloc, tx, &mut sharers, refreshed, &event, now)?;
+        told = told.wrapping_add(more);
     }
     Ok(told)
 }
@@ -199,6 +290,12 @@ enum Before {
     Rename,
     /// Newer versions of the events come.
     Versions,
+    /// Each participant reports on each event.
+    Reports,
+    /// One of them reports something else on each.
+    Report,
+    /// All of them do.
+    NewReports,
     /// The events are gone.
     Gone,
 }
@@ -217,6 +314,9 @@ fn prepare<S: Alter>(
         Before::Nothing => Ok(()),
         Before::Rename => name_resource(alloc, tx, 0, "renamed"),
         Before::Versions => put_events(alloc, tx, size, 2),
+        Before::Reports => put_reports(alloc, tx, size, size.participants, 1),
+        Before::Report => put_reports(alloc, tx, size, 1, 2),
+        Before::NewReports => put_reports(alloc, tx, size, size.participants, 3),
         Before::Gone => drop_events(alloc, tx, size),
     }
 }
@@ -240,13 +340,14 @@ fn refresh_in<S: Alter>(
     alloc: Global,
     conn: &mut Connection<S>,
     size: Size,
+    refreshed: Refreshed,
     now: Moment,
 ) -> Result<u64> {
     if !conn.is_autocommit() {
         bail!("a transaction stands");
     }
     let mut tx = conn.transaction();
-    let told = refresh_all(alloc, &mut tx, size, now)?;
+    let told = refresh_all(alloc, &mut tx, size, refreshed, now)?;
     tx.commit()?;
     Ok(told)
 }
@@ -277,12 +378,13 @@ fn measure<S: Alter, R: Print + Clock + AllocGlobal>(
     conn: &mut Connection<S>,
     size: Size,
     before: Before,
+    refreshed: Refreshed,
     name: &str,
 ) -> Result<()> {
     prepare_in(rt.alloc(), conn, size, before)?;
     let now = Moment::at(1)?;
     let start = Instant::now(rt)?;
-    let told = refresh_in(rt.alloc(), conn, size, now)?;
+    let told = refresh_in(rt.alloc(), conn, size, refreshed, now)?;
     let took = start.elapsed(rt)?;
     print_took(rt, name, size, told, took)
 }
@@ -293,11 +395,32 @@ fn measure_all<S: Alter, R: Print + Clock + AllocGlobal>(
     size: Size,
 ) -> Result<()> {
     make_tables(conn)?;
-    measure(rt, conn, size, Before::Fill, "all new")?;
-    measure(rt, conn, size, Before::Nothing, "no change")?;
-    measure(rt, conn, size, Before::Rename, "one change")?;
-    measure(rt, conn, size, Before::Versions, "all changed")?;
-    measure(rt, conn, size, Before::Gone, "all gone")
+    let shown = Refreshed::Shown;
+    measure(rt, conn, size, Before::Fill, shown, "all new")?;
+    measure(rt, conn, size, Before::Nothing, shown, "no change")?;
+    measure(rt, conn, size, Before::Rename, shown, "one change")?;
+    measure(rt, conn, size, Before::Versions, shown, "all changed")?;
+    let rollups = Refreshed::Rollups;
+    measure(rt, conn, size, Before::Reports, rollups, "new roll-ups")?;
+    measure(rt, conn, size, Before::Nothing, rollups, "roll-ups stay")?;
+    measure(
+        rt,
+        conn,
+        size,
+        Before::Report,
+        rollups,
+        "one report changed",
+    )?;
+    measure(
+        rt,
+        conn,
+        size,
+        Before::NewReports,
+        rollups,
+        "all reports changed",
+    )?;
+    measure(rt, conn, size, Before::Gone, shown, "all gone")?;
+    measure(rt, conn, size, Before::Nothing, rollups, "roll-ups gone")
 }
 
 fn number_in(text: &str) -> Result<u64> {

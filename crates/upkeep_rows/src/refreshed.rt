@@ -3,7 +3,7 @@ use crate::touched::Touched;
 use adr_kept_view::{RollupChange, ShownChange};
 use adr_state::ViewKey;
 use adr_text::{Moment, ObjectId, Refusal, Rows};
-use adr_upkeep::{Sharers, refresh, refresh_rollup, refresh_sharing};
+use adr_upkeep::{Sharers, refresh, refresh_rollup, refresh_rollup_sharing, refresh_sharing};
 use adr_view::Change;
 use sqlite::{Alter, Transaction};
 use std::alloc::{AllocError, Global};
@@ -61,17 +61,20 @@ fn refresh_events<S: Alter>(
     Ok(told)
 }
 
+// The roll-up of an event, in the same way.
 fn refresh_one_rollup<S: Alter>(
     alloc: Global,
     tx: &mut Transaction<'_, S>,
-    told: &mut Vec<(ObjectId, RollupChange)>,
+    sharers: &mut Sharers,
     event: &ObjectId,
+    is_alone: bool,
     now: Moment,
-) -> Result<(), Refusal> {
-    if let Some(change) = refresh_rollup(alloc, tx, event, now)? {
-        told.push((event.copy(alloc)?, change))?;
+) -> Result<Option<RollupChange>, Refusal> {
+    if is_alone {
+        refresh_rollup(alloc, tx, event, now)
+    } else {
+        refresh_rollup_sharing(alloc, tx, sharers, event, now)
     }
-    Ok(())
 }
 
 fn refresh_rollups<S: Alter>(
@@ -81,8 +84,13 @@ fn refresh_rollups<S: Alter>(
     now: Moment,
 ) -> Result<Vec<(ObjectId, RollupChange)>, Refusal> {
     let mut told = Vec::new(alloc);
+    let mut sharers = Sharers::none(alloc);
+    let is_alone = events.len() == 1;
     for event in events {
-        refresh_one_rollup(alloc, tx, &mut told, event, now)?;
+        let change = refresh_one_rollup(alloc, tx, &mut sharers, event, is_alone, now)?;
+        if let Some(change) = change {
+            told.push((event.copy(alloc)?, change))?;
+        }
     }
     Ok(told)
 }

@@ -1,28 +1,44 @@
-//! Tables that keep nothing are visited, event by event, in a transaction that is dropped then: each shown event is told by
-//! one entry, and kept again.
+//! Tables that keep nothing are visited, event by event and then roll-up by roll-up, in a transaction that is dropped then:
+//! each shown event and each roll-up is told by one entry, and kept again.
+ghost use Rattle.std.specs.Prelude.{◌≡◌, ◌∷◌, [], IfOk};
+ghost use Rattle.adr_delivery.specs.declared.addressee.Addressee.TheVariants.{Utility};
+ghost use Rattle.adr_delivery.specs.Entries.{fresh};
+ghost use Rattle.adr_subscription.specs.declared.words.OperationKind.TheVariants.{Post};
 ghost use Rattle.upkeep_rows.specs.Told.{told_once};
 
-use crate::compared::differs_kept;
+use crate::compared::{differs_kept, is_kept};
 use crate::held::{Held, read_held};
 use crate::pages::event_text;
 use adr_db::read_meta;
-use adr_db_shown::{read_shown_of, remove_shown};
+use adr_db_shown::{read_rollup, read_shown_of, remove_rollup, remove_shown};
 use adr_db_state::remove_stamps;
 use adr_delivery::{Addressee, Entry};
-use adr_kept_view::ShownChange;
+use adr_kept_view::{RollupChange, ShownChange};
 use adr_room::Room;
 use adr_state::{Limits, ViewKey};
 use adr_subscription::{FreeText, OperationKind};
 use adr_text::{Moment, ObjectId, Refusal};
 use adr_upkeep::Sharers;
-use adr_visit::{Tells, visit_events};
+use adr_visit::{Tells, visit_events, visit_rollups};
 use sqlite::{Alter, Transaction};
 use std::alloc::{AllocError, Global};
 
 /// Tells each change of an event by one entry to the utility.
 struct Once;
 
-impl Tells for Once {
+// The one entry.
+fn entry_once(alloc: Global, event: &ObjectId) -> Result<Vec<Entry>, AllocError>
+    ensures { IfOk result (λ entries. entries.items ≡ fresh (Utility event.now) Post [] ∷ []) }
+{
+    let entry = Entry::new(
+        Addressee::Utility(event.copy(alloc)?),
+        OperationKind::Post,
+        FreeText::new(alloc, "")?,
+    );
+    Ok(vec![in alloc; entry]?)
+}
+
+impl Tells<ShownChange> for Once {
     ghost told = { told_once };
 
     fn entries(
@@ -31,21 +47,33 @@ impl Tells for Once {
         event: &ObjectId,
         _change: &ShownChange,
     ) -> Result<Vec<Entry>, AllocError> {
-        let entry = Entry::new(
-            Addressee::Utility(event.copy(alloc)?),
-            OperationKind::Post,
-            FreeText::new(alloc, "")?,
-        );
-        Ok(vec![in alloc; entry]?)
+        entry_once(alloc, event)
     }
 }
 
-// What is kept of an event goes, with its stamps.
+impl Tells<RollupChange> for Once {
+    ghost told = { told_once };
+
+    fn entries(
+        &self,
+        alloc: Global,
+        event: &ObjectId,
+        _change: &RollupChange,
+    ) -> Result<Vec<Entry>, AllocError> {
+        entry_once(alloc, event)
+    }
+}
+
+// What is kept of an event and of its roll-up goes, with the stamps.
 fn forget<S: Alter>(
     alloc: Global,
     tx: &mut Transaction<'_, S>,
     event: &ObjectId,
 ) -> Result<(), Refusal> {
+    if read_rollup(alloc, tx, event)?.is_some() {
+        remove_rollup(tx, event)?;
+        remove_stamps(tx, &ViewKey::Rollup(event.copy(alloc)?))?;
+    }
     for row in read_shown_of(alloc, tx, event)?.into_vec() {
         let (key, _) = row;
         remove_shown(tx, &key)?;
@@ -63,12 +91,9 @@ fn events_of(alloc: Global, count: u64) -> Result<Vec<ObjectId>, Refusal> {
     Ok(events)
 }
 
-// How many events are shown, each to each of its resources.
-fn shown_count(held: &Held) -> u64 {
-    held.view
-        .iter()
-        .filter(|(key, _)| matches!(key, ViewKey::Event(_, _)))
-        .count() as u64
+// How many events are shown, each to each of its resources, and how many roll-ups there are.
+fn kept_count(held: &Held) -> u64 {
+    held.view.iter().filter(|(key, _)| is_kept(key)).count() as u64
 }
 
 // Whether what is kept of each of them is what is shown.
@@ -86,7 +111,7 @@ fn are_kept<S: Alter>(
     Ok(true)
 }
 
-/// Visits the events of those numbers, and answers whether each that is shown is told once and kept.
+/// Visits the events of those numbers, and answers whether each that is shown, and each roll-up, is told once and kept.
 pub fn visit_all<S: Alter>(
     alloc: Global,
     tx: &mut Transaction<'_, S>,
@@ -114,7 +139,18 @@ pub fn visit_all<S: Alter>(
         &events,
         now,
     )?;
+    visit_rollups(
+        alloc,
+        tx,
+        &Once,
+        limits,
+        &mut meta,
+        &mut room,
+        &mut sharers,
+        &events,
+        now,
+    )?;
     room.close()?;
     let told = meta.pending.wrapping_sub(before);
-    Ok(told == shown_count(&held) && are_kept(alloc, tx, &held, &events)?)
+    Ok(told == kept_count(&held) && are_kept(alloc, tx, &held, &events)?)
 }

@@ -5,9 +5,10 @@ use Rattle.adr_db.specs.Bases.{kept_beside}
 use Rattle.adr_db.specs.Kept.{Keeps}
 use Rattle.adr_events.proofs.OrderLemmas.{held_in_order}
 use Rattle.adr_kept_view.specs.declared.change.ShownChange.{ShownChange}
-use Rattle.adr_kept_view.specs.Changes.{Found, found_of, numbers_of, changes_found}
+use Rattle.adr_kept_view.specs.declared.found.Found.{Found}
+use Rattle.adr_kept_view.specs.Changes.{found_of, numbers_of, changes_found}
 use Rattle.adr_kept_view.specs.Laws.{ReadsFound, with_found}
-use Rattle.adr_kept_view.specs.Refreshed.{IsEventRefreshed}
+use Rattle.adr_kept_view.specs.Refreshed.{IsRefreshed, as_shown}
 use Rattle.adr_kept_view.proofs.EventLemmas.{event_refreshed}
 use Rattle.adr_upkeep.proofs.Common.{ok_with}
 use Rattle.adr_upkeep.proofs.events.refresh_sharing.Goals as goal
@@ -19,14 +20,13 @@ returns-clause-refreshes g c clean =
     let early : HasCleanDisk (state g.S.Store c.find.new.tx.conn.now) = omega (arith, c.turn_each.ensures.lent.stays.crash.clean) in
     ok_with c.turn_each.result (λ changes turns reads owner rows beside base was keeps owns right.
     let it = c.in_ok-found.ensures.finds early beside base was right in
-    let there : Found = record { kept = c.in_ok-found.found.kept; stamps = c.in_ok-found.found.stamps; shown = c.in_ok-found.found.shown } in
-    let same : there ≡ found_of beside base id = λ i. record { kept = it.0.kept i; stamps = it.0.stamps i; shown = it.0.shown i } in
+    let same : c.in_ok-found.found ≡ found_of beside base id = it.0 in
     let turned = turns (kept_beside beside base) it.2 in
     let all : All (ReadsFound (found_of beside base id)) (numbers_of (found_of beside base id)) = subst (λ (f : Found). All (ReadsFound f) (numbers_of f)) same reads in
     let so = event_refreshed owner rows beside base now id keeps owns (held_in_order beside base _ was) all in (
       with_found beside base now id (found_of beside base id),
       subst (λ (f : Found). Keeps (kept_beside (with_found beside base now id f) base) (state g.S.Store c.turn_each.new.tx.conn.now)) same turned.1,
       it.1,
-      subst (λ (cs : List ShownChange). IsEventRefreshed owner rows beside base now id cs (with_found beside base now id (found_of beside base id))) (sym (turned.0 ∙ ap (changes_found base.portfolio now) same)) so,
+      subst (λ (cs : List ShownChange). IsRefreshed as_shown owner rows beside base now id cs (with_found beside base now id (found_of beside base id))) (sym (turned.0 ∙ ap (changes_found base.portfolio now) same)) so,
     ))
     (c.turn_each.ensures.turns clean) c.turn_each.ensures.reads

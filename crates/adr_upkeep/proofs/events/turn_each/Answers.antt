@@ -9,8 +9,8 @@ use Rattle.adr_db.specs.Kept.{Keeps}
 use Rattle.adr_shown.specs.ShownTexts.{shown_text}
 use Rattle.adr_shown.specs.ReadShown.{shown_of}
 use Rattle.adr_kept_view.specs.declared.change.ShownChange.{ShownChange}
-use Rattle.adr_kept_view.specs.Changes.{change_at, kept_with, shown_with, stamps_with, shown_with_each, stamps_with_each}
-use Rattle.adr_upkeep.specs.Turned.{change_in, reads_of}
+use Rattle.adr_kept_view.specs.Changes.{change_at, change_found, kept_with, shown_with, stamps_with, shown_with_each, stamps_with_each}
+use Rattle.adr_kept_view.specs.Laws.{ReadsFound}
 use Rattle.adr_upkeep.proofs.Common.{added}
 use Rattle.adr_upkeep.proofs.events.turn_each.Goals as goal
 
@@ -25,7 +25,7 @@ resources-preserved g c = record {
       let found = c.args.found.now in
       let n = c.in-Some.resource.now in
       let rest = c.next.new.self in
-      let change : ℕ → Option ShownChange = change_in kept.portfolio c.args.now found in
+      let change : ℕ → Option ShownChange = change_found kept.portfolio c.args.now found in
       let early : HasCleanDisk (state g.S.Store c.resources.tx.conn.now) = omega (arith, c.turn_one.ensures.lent.stays.crash.clean) in
       let so = c.resources.invariant.turned early kept was in
       let one = c.in_ok-change.ensures.turns clean (record kept { shown = so.0; stamps = so.1 }) so.2 in
@@ -45,9 +45,9 @@ resources-preserved g c = record {
   reads = λ all.
       let found = c.args.found.now in
       let n = c.in-Some.resource.now in
-      let read : reads_of found n = subst (λ (o : Option ShownEvent). IfSome o (λ e. shown_of (shown_text e) ≡ Ok e)) c.at_number-in-resources-2.ensures c.in_ok-change.ensures.reads in
-      c.resources.invariant.reads (subst (All (reads_of found)) (sym c.in-Some.ensures.steps) (All-cons (reads_of found) n c.next.new.self read all));
+      let read : ReadsFound found n = subst (λ (o : Option ShownEvent). IfSome o (λ e. shown_of (shown_text e) ≡ Ok e)) c.at_number-in-resources-2.ensures c.in_ok-change.ensures.reads in
+      c.resources.invariant.reads (subst (All (ReadsFound found)) (sym c.in-Some.ensures.steps) (All-cons (ReadsFound found) n c.next.new.self read all));
 }
 
 pub returns-clause-reads : goal.returns-clause-reads
-returns-clause-reads g c = c.resources.invariant.reads (subst (All (reads_of c.args.found.now)) (sym c.in-None.ensures.steps.0) (All-nil (reads_of c.args.found.now)))
+returns-clause-reads g c = c.resources.invariant.reads (subst (All (ReadsFound c.args.found.now)) (sym c.in-None.ensures.steps.0) (All-nil (ReadsFound c.args.found.now)))

@@ -13,10 +13,10 @@ returns-clause-finds g c clean beside base was right =
     let one = c.in_ok-rows.ensures.finds early (kept_beside beside base) was in
     let two = c.in_ok-rows-2.ensures.finds late (kept_beside beside base) one.1 in
     let three = c.in_ok-rows-3.ensures.finds clean beside base two.1 right in (
-      record {
-        kept = c.in_ok-kept.ensures.map ∙ ap (map_of nat_cmp) (c.in_ok-kept_rows.ensures ∙ ap (map kept_row) one.0);
-        stamps = c.in_ok-stamps.ensures.map ∙ ap (map_of nat_cmp) (c.in_ok-stamps_rows.ensures ∙ ap (filter_map stamps_row) (c.as_slice.ensures ∙ two.0));
-        shown = c.in_ok-shown.ensures.map ∙ ap (map_of nat_cmp) (c.in_ok-event_rows.ensures ∙ ap (filter_map event_row) (c.as_slice-2.ensures ∙ three.0));
+      λ i. record {
+        kept = (c.in_ok-kept.ensures.map ∙ ap (map_of nat_cmp) (c.in_ok-kept_rows.ensures ∙ ap (map kept_row) one.0)) i;
+        stamps = (c.in_ok-stamps.ensures.map ∙ ap (map_of nat_cmp) (c.in_ok-stamps_rows.ensures ∙ ap (filter_map stamps_row) (c.as_slice.ensures ∙ two.0))) i;
+        shown = (c.in_ok-shown.ensures.map ∙ ap (map_of nat_cmp) (c.in_ok-event_rows.ensures ∙ ap (filter_map event_row) (c.as_slice-2.ensures ∙ three.0))) i;
       },
       three.1,
       three.2,

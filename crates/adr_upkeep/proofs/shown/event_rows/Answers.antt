@@ -1,7 +1,4 @@
 use Rattle.std.proofs.Common.{◌≡◌, true, cond, [], sym, ap, subst, ◌∙◌, rules}
-use Rattle.adr_db.specs.Bases.{kept_beside}
-use Rattle.adr_db.specs.Sharing.{those_for}
-use Rattle.adr_db_portfolio.proofs.Participating.{participants_are}
 use Rattle.adr_state.specs.Participants.{participants}
 use Rattle.adr_view.specs.Views.{carries, rows_for}
 use Rattle.adr_upkeep.proofs.shown.event_rows.Goals as goal
@@ -11,6 +8,5 @@ returns-clause-finds g c clean beside base was right =
     let id = c.args.id.now in
     let event = c.args.event.now in
     let some : carries event ≡ true = search rules in
-    let found = c.in_ok-read.ensures.finds clean (kept_beside beside base) was right in
-    let ps : c.in_ok-ps.ps.items ≡ participants base.portfolio event = c.in_ok-ps.ensures ∙ ap (those_for event.resource_names) (c.as_slice.ensures ∙ found.0) ∙ sym (participants_are (kept_beside beside base) event _ was) in
-    (subst (λ b. c.in_ok-rows_for.field-0 ≡ cond b (rows_for id event (participants base.portfolio event)) []) (sym some) (c.in_ok-rows_for.ensures ∙ ap (rows_for id event) (c.deref.ensures.value ∙ ps)), found.1, found.2)
+    let found = c.in_ok-ps.ensures.finds clean beside base was right in
+    (subst (λ b. c.in_ok-rows_for.field-0 ≡ cond b (rows_for id event (participants base.portfolio event)) []) (sym some) (c.in_ok-rows_for.ensures ∙ ap (rows_for id event) (c.as_slice.ensures ∙ found.0)), found.1, found.2)

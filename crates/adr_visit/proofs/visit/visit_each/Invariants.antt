@@ -6,7 +6,7 @@ use Rattle.adr_view.specs.declared.view.Content.{Content}
 use Rattle.adr_db.specs.declared.meta.Meta.{Meta}
 use Rattle.adr_db.specs.Bases.{Beside}
 use Rattle.adr_visit.specs.Visits.{IsAt, IsTrail}
-use Rattle.adr_visit.proofs.visit.visit_events.Given as goal
+use Rattle.adr_visit.proofs.visit.visit_each.Given as goal
 
 -- where the visit is now, and that a trail over the events that are left is, behind what was told so far, one over all
 abbrev pub invariant-events : goal.invariant-events
@@ -15,6 +15,6 @@ invariant-events g l = record {
   visited : HasCleanDisk (state g.S.Store l.tx.conn.now) → (first : Meta) (owner : ℕ → ℕ) (base : Base) (rows : List (ViewKey × Content)) (beside : Beside) (es : List Entry)
       → IsAt l.limits first owner base rows beside es l.fn.room l.fn.sharers l.fn.meta (state g.S.Store l.fn.tx.conn.now)
       → (here : List (ViewKey × Content)) × (there : Beside) × (told : List Entry) × IsAt l.limits first owner base here there (es ++ told) l.room l.sharers l.meta (state g.S.Store l.tx.conn.now)
-      × ((last : List (ViewKey × Content)) (end : Beside) (rest : List Entry) → IsTrail (g.T.Tells.told l.teller) owner base l.now here there (drop l.event-index l.events) last end rest
-      → IsTrail (g.T.Tells.told l.teller) owner base l.now rows beside l.events last end (told ++ rest));
+      × ((last : List (ViewKey × Content)) (end : Beside) (rest : List Entry) → IsTrail g.P.KeptUp.part (g.T.Tells.told l.teller) owner base l.now here there (drop l.event-index l.events) last end rest
+      → IsTrail g.P.KeptUp.part (g.T.Tells.told l.teller) owner base l.now rows beside l.events last end (told ++ rest));
 }

@@ -1,0 +1,5 @@
+pub mod Turns
+pub mod Whole
+pub mod Shown
+pub mod RolledUp
+pub mod Trails

@@ -1,0 +1,100 @@
+-- Laws of what is told as tables are refreshed, source by source.
+use Rattle.std.specs.Prelude.{◌≡◌, ℕ, true, List, [], map, All}
+use Rattle.std.specs.List.{flat_map}
+use Rattle.std.specs.List.Sorted.{IsStrictlySortedBy}
+use Rattle.adr_objects.specs.declared.shown.Stamps.{Stamps}
+use Rattle.adr_subscription.specs.declared.kept_sub.Sub.{Sub}
+use Rattle.adr_state.specs.declared.base.Base.{Base}
+use Rattle.adr_state.specs.declared.keys.ViewKey.{ViewKey}
+use Rattle.adr_state.specs.Keys.{view_cmp, at}
+use Rattle.adr_view.specs.declared.view.Content.{Content}
+use Rattle.adr_view.specs.Changes.{changes, restamped}
+use Rattle.adr_view.specs.Laws.{StandsInOrder}
+use Rattle.adr_view.specs.Views.{view}
+use Rattle.adr_delivery.specs.declared.entry.Entry.{Entry}
+use Rattle.adr_notices.specs.Made.{entries_made}
+use Rattle.adr_notices.specs.Shown.{Side}
+use Rattle.adr_refresh.specs.Laws.{HasAllThatDiffer}
+use Rattle.adr_refresh.specs.Refresh.{Books, refreshed_each}
+use Rattle.adr_refresh.specs.Sources.{Source, RolledUp, source_cmp, is_of, rows_of}
+use Rattle.adr_refresh.specs.Touched.{upstream_event}
+use Rattle.adr_db.specs.Bases.{Beside}
+use Rattle.adr_kept_view.specs.declared.change.RollupChange.{RollupChange}
+use Rattle.adr_kept_view.specs.declared.change.ShownChange.{ShownChange}
+use Rattle.adr_kept_view.specs.KeptViews.{KeepsView, Owns}
+use Rattle.adr_kept_view.specs.Refreshed.{IsRefreshed, as_shown, as_rolled_up}
+use Rattle.adr_visit.specs.Visits.{IsTrail}
+use Rattle.adr_told.specs.Told.{shown_entries, rollup_entries}
+
+-- ---- what the machine tells of a source
+
+-- what is shown before a command that leads from one base to another, and what is shown after it
+abbrev pub side_before : Base → List (ViewKey × Stamps) → Side
+side_before before stamps = record { base = before; view = view before; stamps = stamps }
+
+abbrev pub side_after : Base → List (ViewKey × Stamps) → Base → ℕ → Side
+side_after before stamps after now = record { base = after; view = view after; stamps = restamped stamps (view before) (view after) now }
+
+-- the entries of the changes of one source
+abbrev pub entries_of_source : List ℕ → List (ℕ × Sub) → Base → List (ViewKey × Stamps) → Base → ℕ → Source → List Entry
+entries_of_source client subs before stamps after now s = entries_made client subs (side_before before stamps) (side_after before stamps after now) (changes (rows_of before s) (rows_of after s))
+
+-- where rows stand in order, the entries of all changes are those of sources in their order, among which is each that is
+-- not shown as before
+abbrev pub WholeIsToldInTurn : Type 0
+WholeIsToldInTurn = (client : List ℕ) (subs : List (ℕ × Sub)) (before : Base) (stamps : List (ViewKey × Stamps)) (after : Base) (now : ℕ) (ss : List Source) → StandsInOrder before → StandsInOrder after
+    → IsStrictlySortedBy source_cmp ss → HasAllThatDiffer before after ss
+    → entries_made client subs (side_before before stamps) (side_after before stamps after now) (changes (view before) (view after)) ≡ flat_map (entries_of_source client subs before stamps after now) ss
+
+-- ---- what is told of a refresh
+
+-- what tables keep of a view, and their stamps, have at the keys of a source what they had before the command
+pub record IsUntouched (before : Base) (stamps : List (ViewKey × Stamps)) (rows : List (ViewKey × Content)) (beside : Beside) (s : Source) : Type 0 where
+  pub kept : (k : ViewKey) → is_of s k ≡ true → at view_cmp k rows ≡ at view_cmp k (rows_of before s)
+  pub stamped : (k : ViewKey) → is_of s k ≡ true → at view_cmp k beside.stamps ≡ at view_cmp k stamps
+
+-- where an event is refreshed that was not yet touched, under owners of the resources that are there before or after, the
+-- entries of what is answered are those of that source
+abbrev pub EventIsToldAsWhole : Type 0
+EventIsToldAsWhole = (client : List ℕ) (subs : List (ℕ × Sub)) (owner : ℕ → ℕ) (before : Base) (stamps : List (ViewKey × Stamps)) (after : Base) (now : ℕ) (id : List ℕ) (rows : List (ViewKey × Content)) (beside later : Beside) (cs : List ShownChange)
+    → StandsInOrder before → StandsInOrder after → Owns owner before → Owns owner after
+    → KeepsView owner rows beside → IsUntouched before stamps rows beside (upstream_event id) → IsRefreshed as_shown owner rows beside after now id cs later
+    → flat_map (shown_entries subs id) cs ≡ entries_of_source client subs before stamps after now (upstream_event id)
+
+-- so are those of a roll-up
+abbrev pub RollupIsToldAsWhole : Type 0
+RollupIsToldAsWhole = (client : List ℕ) (subs : List (ℕ × Sub)) (owner : ℕ → ℕ) (before : Base) (stamps : List (ViewKey × Stamps)) (after : Base) (now : ℕ) (id : List ℕ) (rows : List (ViewKey × Content)) (beside later : Beside) (cs : List RollupChange)
+    → StandsInOrder before → StandsInOrder after
+    → KeepsView owner rows beside → IsUntouched before stamps rows beside (RolledUp id) → IsRefreshed as_rolled_up owner rows beside after now id cs later
+    → flat_map (rollup_entries client id) cs ≡ entries_of_source client subs before stamps after now (RolledUp id)
+
+-- ---- what is told of a visit
+
+-- the books once sources were refreshed from what tables keep of a view and its stamps, with nothing told yet
+abbrev pub books_then : Base → Base → ℕ → List (ViewKey × Content) → Beside → List Source → Books
+books_then before after now rows beside ss = refreshed_each before after now (record { kept = rows; told = []; stamps = beside.stamps }) ss
+
+-- a visit of sources: its entries are those of the sources, one after another; the tables keep then what the refresh of the
+-- sources leaves, and all else beside the base is as it was
+pub record AreToldAsWhole (client : List ℕ) (subs : List (ℕ × Sub)) (owner : ℕ → ℕ) (before : Base) (stamps : List (ViewKey × Stamps)) (after : Base) (now : ℕ) (ss : List Source) (rows : List (ViewKey × Content)) (beside : Beside) (last : List (ViewKey × Content)) (end : Beside) (es : List Entry) : Type 0 where
+  pub entries : es ≡ flat_map (entries_of_source client subs before stamps after now) ss
+  pub kept : last ≡ (books_then before after now rows beside ss).kept
+  pub stamped : end.stamps ≡ (books_then before after now rows beside ss).stamps
+  pub alone : end ≡ record beside { shown = end.shown; rollups = end.rollups; stamps = end.stamps }
+  pub keeps : KeepsView owner last end
+
+-- so is a visit of events that were not yet touched, each once, in the order of their ids
+abbrev pub EventsAreToldAsWhole : Type 0
+EventsAreToldAsWhole = (client : List ℕ) (subs : List (ℕ × Sub)) (owner : ℕ → ℕ) (before : Base) (stamps : List (ViewKey × Stamps)) (after : Base) (now : ℕ) (ids : List (List ℕ)) (rows : List (ViewKey × Content)) (beside : Beside) (last : List (ViewKey × Content)) (end : Beside) (es : List Entry)
+    → StandsInOrder before → StandsInOrder after → Owns owner before → Owns owner after
+    → IsStrictlySortedBy source_cmp (map upstream_event ids) → KeepsView owner rows beside → All (IsUntouched before stamps rows beside) (map upstream_event ids)
+    → IsTrail as_shown (shown_entries subs) owner after now rows beside ids last end es
+    → AreToldAsWhole client subs owner before stamps after now (map upstream_event ids) rows beside last end es
+
+-- and so is one of roll-ups
+abbrev pub RollupsAreToldAsWhole : Type 0
+RollupsAreToldAsWhole = (client : List ℕ) (subs : List (ℕ × Sub)) (owner : ℕ → ℕ) (before : Base) (stamps : List (ViewKey × Stamps)) (after : Base) (now : ℕ) (ids : List (List ℕ)) (rows : List (ViewKey × Content)) (beside : Beside) (last : List (ViewKey × Content)) (end : Beside) (es : List Entry)
+    → StandsInOrder before → StandsInOrder after
+    → IsStrictlySortedBy source_cmp (map RolledUp ids) → KeepsView owner rows beside → All (IsUntouched before stamps rows beside) (map RolledUp ids)
+    → IsTrail as_rolled_up (rollup_entries client) owner after now rows beside ids last end es
+    → AreToldAsWhole client subs owner before stamps after now (map RolledUp ids) rows beside last end es

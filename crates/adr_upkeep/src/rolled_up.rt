@@ -1,0 +1,65 @@
+//! The roll-up of an upstream event, of whose program those who share may be known.
+ghost use Rattle.std.specs.Prelude.{◌≡◌, map, IfOk, IfErr};
+ghost use Rattle.adr_sql.specs.Calls.{LeavesLent};
+ghost use Rattle.adr_db.specs.Calls.{IsOfStore};
+ghost use Rattle.adr_view.specs.Rollups.{rollup_of, rollup_at};
+ghost use Rattle.adr_upkeep.specs.Sharing.{FindsSharing};
+
+use crate::sharers::Sharers;
+use adr_db_mirror::read_known;
+use adr_db_portfolio::read_reports_of;
+use adr_objects::{EventBody, Number, Rollup};
+use adr_state::Report;
+use adr_text::{ObjectId, Refusal, Rows};
+use adr_view::{event_body, event_key, reporters, rollup_for};
+use sqlite::{Alter, Transaction};
+use std::alloc::{AllocError, Global};
+
+// Reports without their numbers.
+fn without_numbers(alloc: Global, rows: Rows<(Number, Report)>) -> Result<Vec<Report>, AllocError>
+    ensures { IfOk result (λ reports. reports.items ≡ map (λ r. r.1) rows) }
+{
+    let mut reports = Vec::new(alloc);
+    'rows: for row in rows.into_vec() {
+        reports.push(row.1)?;
+    }
+    Ok(reports)
+}
+
+// The roll-up of an event whose body was read.
+fn event_rollup<S: Alter>(
+    alloc: Global,
+    tx: &mut Transaction<'_, S>,
+    sharers: &mut Sharers,
+    id: &ObjectId,
+    event: &EventBody,
+) -> Result<Option<Rollup>, Refusal>
+    ensures lent { LeavesLent S.Store tx.old.conn tx.new.conn result }
+    ensures finds { FindsSharing S.Store tx.old.conn.now tx.new.conn.now sharers.old sharers.new (λ base rollup. rollup ≡ rollup_of base.portfolio id.now event.now) result }
+    ensures refused { IfErr result IsOfStore }
+{
+    let ps = sharers.participants(alloc, tx, event)?;
+    let rows = read_reports_of(alloc, tx, id)?;
+    let reports = without_numbers(alloc, rows)?;
+    let rs = reporters(alloc, &reports, ps.as_slice())?;
+    Ok(rollup_for(alloc, event, &rs)?)
+}
+
+/// The roll-up of an upstream event over its participants. Those who share in its program are read unless they are known.
+pub(crate) fn rollup_by<S: Alter>(
+    alloc: Global,
+    tx: &mut Transaction<'_, S>,
+    sharers: &mut Sharers,
+    event: &ObjectId,
+) -> Result<Option<Rollup>, Refusal>
+    ensures lent { LeavesLent S.Store tx.old.conn tx.new.conn result }
+    ensures finds { FindsSharing S.Store tx.old.conn.now tx.new.conn.now sharers.old sharers.new (λ base rollup. rollup ≡ rollup_at base.mirror base.portfolio event.now) result }
+    ensures refused { IfErr result IsOfStore }
+{
+    let key = event_key(event)?;
+    let known = read_known(alloc, tx, &key)?;
+    match event_body(known.as_ref()) {
+        Some(body) => event_rollup(alloc, tx, sharers, event, body),
+        None => Ok(None),
+    }
+}
