@@ -60,7 +60,7 @@ module _ (owner : ℕ → ℕ) (rows : List (ViewKey × Content)) (beside : Besi
   s = upstream_event id
 
   abbrev books : Books
-  books = books_behind rows beside base now s
+  books = books_behind rows beside base base now s
 
   abbrev first : Books
   first = record { kept = rows; told = []; stamps = beside.stamps }
@@ -387,8 +387,8 @@ module _ (owner : ℕ → ℕ) (rows : List (ViewKey × Content)) (beside : Besi
       (λ other. ap is_some (others_stamped k other) ∙ keeps.stamped k kept ∙ ap is_some (sym (others_kept k other)))
       (cases_Bool (is_of s k))
 
-  pub event_refreshed : IsRefreshed as_shown owner rows beside base now id (changes_found base.portfolio now found) (with_found beside base now id found)
-  event_refreshed = record {
+  pub event_refreshed : (before : Base) → IsRefreshed as_shown owner rows beside before base now id (changes_found base.portfolio now found) (with_found beside base now id found)
+  event_refreshed before = record {
     tables = λ i. record beside { shown = same_shown i; rollups = (keeps.rollups ∙ same_rollups) i; stamps = same_stamps i };
     keeps = record {
       in_order = kept_up;

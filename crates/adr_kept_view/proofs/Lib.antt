@@ -6,3 +6,4 @@ pub mod OwnerLemmas
 pub mod RowLemmas
 pub mod EventLemmas
 pub mod RolledLemmas
+pub mod ObjectLemmas

@@ -47,11 +47,11 @@ use Rattle.adr_kept_view.proofs.TurnLemmas.{at_judged, both_ways}
 use Rattle.adr_kept_view.proofs.WriteLemmas.{at-removed}
 
 module _ {K V : Type 0} {cmp : K → K → Ordering} (order : IsTotalOrder cmp) where
-  at-set : (q k : K) (o : Option V) (es : List (K × V)) → InOrder cmp es → at cmp q (set_at cmp k o es) ≡ cond (is_eq (cmp q k)) o (at cmp q es)
+  pub at-set : (q k : K) (o : Option V) (es : List (K × V)) → InOrder cmp es → at cmp q (set_at cmp k o es) ≡ cond (is_eq (cmp q k)) o (at cmp q es)
   at-set q k None es up = at-removed order q k es up
   at-set q k (Some v) es up = at-insert_entry order q k v es
 
-  set_in_order : (k : K) (o : Option V) (es : List (K × V)) → InOrder cmp es → InOrder cmp (set_at cmp k o es)
+  pub set_in_order : (k : K) (o : Option V) (es : List (K × V)) → InOrder cmp es → InOrder cmp (set_at cmp k o es)
   set_in_order k None es up = in_order_removed cmp (is_at (cmp k)) es up
   set_in_order k (Some v) es up = in_order_put order k v es up
 
@@ -140,7 +140,7 @@ module _ (owner : ℕ → ℕ) (rows : List (ViewKey × Content)) (beside : Besi
   s = RolledUp id
 
   abbrev books : Books
-  books = books_behind rows beside base now s
+  books = books_behind rows beside base base now s
 
   abbrev first : Books
   first = record { kept = rows; told = []; stamps = beside.stamps }
@@ -331,8 +331,8 @@ module _ (owner : ℕ → ℕ) (rows : List (ViewKey × Content)) (beside : Besi
   each_told None says = All-nil (IsRollupTold rows books id)
   each_told (Some c) says = All-cons (IsRollupTold rows books id) c [] (at_judged q c.operation rows books.kept ∙ ap (judged_in c.operation old) kept_at ∙ says) (All-nil (IsRollupTold rows books id))
 
-  pub rollup_refreshed : IsRefreshed as_rolled_up owner rows beside base now id (option_to_list (change_of id columns_were new)) (with_rollup beside base now id)
-  rollup_refreshed = record {
+  pub rollup_refreshed : (before : Base) → IsRefreshed as_rolled_up owner rows beside before base now id (option_to_list (change_of id columns_were new)) (with_rollup beside base now id)
+  rollup_refreshed before = record {
     tables = λ i. record beside { shown = (keeps.shown ∙ same_shown) i; rollups = same_rollups i; stamps = same_stamps i };
     keeps = record {
       in_order = kept_up;

@@ -19,9 +19,10 @@ use Rattle.adr_kept_view.specs.declared.change.RollupChange.{RollupChange}
 use Rattle.adr_kept_view.specs.Columns.{shown_rows, rollup_rows}
 use Rattle.adr_kept_view.specs.KeptViews.{KeepsView}
 
--- the books of tables that keep these rows, with nothing told yet, once a source was refreshed
-abbrev pub books_behind : List (ViewKey × Content) → Beside → Base → ℕ → Source → Books
-books_behind rows beside base now s = refreshed base base now (record { kept = rows; told = []; stamps = beside.stamps }) s
+-- the books of tables that keep these rows, with nothing told yet, once a source was refreshed behind a change from one
+-- base to another
+abbrev pub books_behind : List (ViewKey × Content) → Beside → Base → Base → ℕ → Source → Books
+books_behind rows beside before base now s = refreshed before base now (record { kept = rows; told = []; stamps = beside.stamps }) s
 
 -- what stands beside a base with what books keep, and their stamps
 abbrev pub with_books : (ℕ → ℕ) → Books → Beside → Beside
@@ -33,20 +34,31 @@ judged_in Post before after = after
 judged_in Put before after = after
 judged_in Delete before after = before
 
--- what of an upstream event is refreshed, as changes of one type tell it: its source, a change as a row of what is told,
--- and when a change is right, by the ven that owns each resource, the rows and stamps before, and the books behind it
-pub record Part (C : Type 0) : Type 1 where
-  pub source : List ℕ → Source
-  pub row : List ℕ → C → ViewKey × Operation
-  pub IsRight : (ℕ → ℕ) → List (ViewKey × Content) → List (ViewKey × Stamps) → Books → List ℕ → C → Type 0
+-- the two sides of a change: the base before it and after it, the ven that owns each resource, and the rows that tables
+-- keep and the stamps, as a source is refreshed
+pub record Sides : Type 0 where
+  pub before : Base
+  pub after : Base
+  pub owner : ℕ → ℕ
+  pub rows : List (ViewKey × Content)
+  pub stamps : List (ViewKey × Stamps)
 
--- what stands beside the base then has what the books keep of that part of the event, and its stamps, and keeps what is
+-- a part of the view that is refreshed item by item, where changes of one type tell what differs: the source of an item, a
+-- change as a row of what is told, when a change is right, by the books behind it, and when an item says right what was
+-- shown before
+pub record Part (I C : Type 0) : Type 1 where
+  pub source : I → Source
+  pub row : I → C → ViewKey × Operation
+  pub IsRight : Sides → Books → I → C → Type 0
+  pub WasSo : Base → I → Type 0
+
+-- what stands beside the base then has what the books keep of the source of the item, and its stamps, and keeps what is
 -- shown still; and the changes are what is told, in the order of the keys, each of them right
-pub record IsRefreshed {C : Type 0} (part : Part C) (owner : ℕ → ℕ) (rows : List (ViewKey × Content)) (before : Beside) (base : Base) (now : ℕ) (id : List ℕ) (changes : List C) (after : Beside) : Type 0 where
-  pub tables : after ≡ with_books owner (books_behind rows before base now (part.source id)) before
-  pub keeps : KeepsView owner (books_behind rows before base now (part.source id)).kept after
-  pub told : map (part.row id) changes ≡ (books_behind rows before base now (part.source id)).told
-  pub each : All (part.IsRight owner rows before.stamps (books_behind rows before base now (part.source id)) id) changes
+pub record IsRefreshed {I C : Type 0} (part : Part I C) (owner : ℕ → ℕ) (rows : List (ViewKey × Content)) (beside : Beside) (before base : Base) (now : ℕ) (item : I) (changes : List C) (later : Beside) : Type 0 where
+  pub tables : later ≡ with_books owner (books_behind rows beside before base now (part.source item)) beside
+  pub keeps : KeepsView owner (books_behind rows beside before base now (part.source item)).kept later
+  pub told : map (part.row item) changes ≡ (books_behind rows beside before base now (part.source item)).told
+  pub each : All (part.IsRight (record { before = before; after = base; owner = owner; rows = rows; stamps = beside.stamps }) (books_behind rows beside before base now (part.source item)) item) changes
 
 -- ---- what the resources are shown
 
@@ -60,9 +72,9 @@ pub record IsTold (owner : ℕ → ℕ) (rows : List (ViewKey × Content)) (stam
 abbrev pub told_row : List ℕ → ShownChange → ViewKey × Operation
 told_row id c = (key.Event id c.resource, c.operation)
 
--- an event as it is shown to its participants
-abbrev pub as_shown : Part ShownChange
-as_shown = record { source = upstream_event; row = told_row; IsRight = IsTold }
+-- upstream events, by their ids, as they are shown to their participants
+abbrev pub as_shown : Part (List ℕ) ShownChange
+as_shown = record { source = upstream_event; row = told_row; IsRight = λ sides books id c. IsTold sides.owner sides.rows sides.stamps books id c; WasSo = λ before id. Unit {0} }
 
 -- ---- the roll-up
 
@@ -74,6 +86,6 @@ IsRollupTold rows books id c = at view_cmp (key.Rollup id) (judged_in c.operatio
 abbrev pub rollup_told : List ℕ → RollupChange → ViewKey × Operation
 rollup_told id c = (key.Rollup id, c.operation)
 
--- an event as it is rolled up; where its roll-up goes, nothing is told
-abbrev pub as_rolled_up : Part RollupChange
-as_rolled_up = record { source = λ id. RolledUp id; row = rollup_told; IsRight = λ owner rows stamps books id c. IsRollupTold rows books id c }
+-- upstream events as they are rolled up; where a roll-up goes, nothing is told
+abbrev pub as_rolled_up : Part (List ℕ) RollupChange
+as_rolled_up = record { source = λ id. RolledUp id; row = rollup_told; IsRight = λ sides books id c. IsRollupTold sides.rows books id c; WasSo = λ before id. Unit {0} }

@@ -5,6 +5,8 @@
 mod change;
 mod found;
 pub mod laws;
+mod object;
 
 pub use change::{RollupChange, ShownChange};
 pub use found::Found;
+pub use object::{ObjectChange, ObjectKey, OldObject};

@@ -3,3 +3,5 @@ pub mod Whole
 pub mod Shown
 pub mod RolledUp
 pub mod Trails
+pub mod Objects
+pub mod Commits

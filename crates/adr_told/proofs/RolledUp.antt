@@ -34,7 +34,7 @@ module _ (client : List ℕ) (subs : List (ℕ × Sub)) (before : Base) (stamps 
   q = key.Rollup id
 
   abbrev books : Books
-  books = books_behind rows beside after now s
+  books = books_behind rows beside before after now s
 
   abbrev side : Operation → Side
   side o = side_of o (side_before before stamps) (side_after before stamps after now)
@@ -49,5 +49,5 @@ module _ (client : List ℕ) (subs : List (ℕ × Sub)) (before : Base) (stamps 
 
 pub rollup_as_whole : RollupIsToldAsWhole
 rollup_as_whole client subs owner before stamps after now id rows beside later cs stands_before stands keeps untouched refreshed =
-    told_as_whole client subs before stamps after now (RolledUp id) rows beside stands_before stands keeps.in_order untouched refl (rollup_told id) (rollup_entries client id) cs refreshed.told
-    (All-weaker (IsRollupTold rows (books_behind rows beside after now (RolledUp id)) id) (λ c. rollup_entries client id c ≡ entries_of_change client subs (side_before before stamps) (side_after before stamps after now) (as_change (rollup_told id c))) (λ c told. told_one client subs before stamps after now id rows beside stands_before stands keeps.in_order untouched c told) cs refreshed.each)
+    told_as_whole client subs before stamps after now (RolledUp id) rows beside stands_before stands keeps.in_order untouched (rollup_told id) (rollup_entries client id) cs refreshed.told
+    (All-weaker (IsRollupTold rows (books_behind rows beside before after now (RolledUp id)) id) (λ c. rollup_entries client id c ≡ entries_of_change client subs (side_before before stamps) (side_after before stamps after now) (as_change (rollup_told id c))) (λ c told. told_one client subs before stamps after now id rows beside stands_before stands keeps.in_order untouched c told) cs refreshed.each)

@@ -70,7 +70,7 @@ module _ (client : List ℕ) (subs : List (ℕ × Sub)) (owner : ℕ → ℕ) (b
   s = upstream_event id
 
   abbrev books : Books
-  books = books_behind rows beside after now s
+  books = books_behind rows beside before after now s
 
   abbrev side : Operation → Side
   side o = side_of o (side_before before stamps) (side_after before stamps after now)
@@ -87,12 +87,12 @@ module _ (client : List ℕ) (subs : List (ℕ × Sub)) (owner : ℕ → ℕ) (b
   told_one c told =
       let q = key.Event id c.resource in
       let shown : at view_cmp q (side c.operation).view ≡ Some (content.Event c.shown) = shown_there client subs before stamps after now s rows beside stands_before stands up untouched refl q (source_itself s) c.operation ∙ told.shown in
-      let stamped : at view_cmp q (side c.operation).stamps ≡ Some c.stamps = stamped_there client subs before stamps after now s rows beside stands_before stands up untouched refl q (source_itself s) c.operation ∙ told.stamps in
+      let stamped : at view_cmp q (side c.operation).stamps ≡ Some c.stamps = stamped_there client subs before stamps after now s rows beside stands_before stands up untouched q (source_itself s) c.operation ∙ told.stamps in
       sym (told_on client subs id c (side c.operation) shown stamped (its_owner c.operation c.resource (content.Event c.shown) shown ∙ ap (λ ven. Some ven) told.ven))
 
-  told_all : (later : Beside) (cs : List ShownChange) → IsRefreshed as_shown owner rows beside after now id cs later → flat_map (shown_entries subs id) cs ≡ entries_of_source client subs before stamps after now s
+  told_all : (later : Beside) (cs : List ShownChange) → IsRefreshed as_shown owner rows beside before after now id cs later → flat_map (shown_entries subs id) cs ≡ entries_of_source client subs before stamps after now s
   told_all later cs refreshed =
-      told_as_whole client subs before stamps after now s rows beside stands_before stands up untouched refl (told_row id) (shown_entries subs id) cs refreshed.told
+      told_as_whole client subs before stamps after now s rows beside stands_before stands up untouched (told_row id) (shown_entries subs id) cs refreshed.told
       (All-weaker (IsTold owner rows beside.stamps books id) (λ c. shown_entries subs id c ≡ one c) (λ c told. told_one c told) cs refreshed.each)
 
 pub event_as_whole : EventIsToldAsWhole

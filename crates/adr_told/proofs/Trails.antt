@@ -1,5 +1,5 @@
 -- What a visit tells, one source after another, is what the machine tells of those sources.
-use Rattle.std.proofs.Common.{◌≡◌, ℕ, Bool, true, false, cond, List, [], ◌∷◌, ◌++◌, map, Less, refl, sym, ap, ap₂, subst, ◌∙◌}
+use Rattle.std.proofs.Common.{◌≡◌, ℕ, Bool, true, false, List, [], ◌∷◌, ◌++◌, map, Less, refl, sym, ap, ap₂, subst, ◌∙◌}
 use Rattle.std.specs.List.{All, flat_map}
 use Rattle.std.proofs.lemmas.List.Elements.{All-cons, All-from_recursion, All-head, All-nil, All-tail}
 use Rattle.adr_objects.specs.declared.shown.Stamps.{Stamps}
@@ -8,11 +8,9 @@ use Rattle.adr_delivery.specs.declared.entry.Entry.{Entry}
 use Rattle.adr_state.specs.declared.base.Base.{Base}
 use Rattle.adr_state.specs.declared.keys.ViewKey.{ViewKey}
 use Rattle.adr_view.specs.declared.view.Content.{Content}
-use Rattle.adr_view.specs.Changes.{restamped}
 use Rattle.adr_view.specs.Laws.{StandsInOrder}
-use Rattle.adr_refresh.specs.Maps.{rows_at}
-use Rattle.adr_refresh.specs.Refresh.{Books, is_kept, with_rows_of, refreshed, refreshed_each}
-use Rattle.adr_refresh.specs.Sources.{Source, source_cmp, is_of, rows_of}
+use Rattle.adr_refresh.specs.Refresh.{Books, refreshed, refreshed_each}
+use Rattle.adr_refresh.specs.Sources.{Source, source_cmp, is_of}
 use Rattle.adr_refresh.proofs.Common.{IsStrictlySortedBy, at, is_eq, true≢false, view_cmp}
 use Rattle.adr_refresh.proofs.RefreshLemmas.{at-kept, at-stamps}
 use Rattle.adr_refresh.proofs.SourceLemmas.{its_source, source_itself}
@@ -23,7 +21,7 @@ use Rattle.adr_visit.specs.Visits.{IsTrail}
 use Rattle.adr_told.specs.Laws.{IsUntouched, entries_of_source, AreToldAsWhole}
 
 -- a key of a later source is not of an earlier one
-apart : (s t : Source) → source_cmp s t ≡ Less → (k : ViewKey) → is_of t k ≡ true → is_of s k ≡ false
+pub apart : (s t : Source) → source_cmp s t ≡ Less → (k : ViewKey) → is_of t k ≡ true → is_of s k ≡ false
 apart s t less k is = by (is_of s k) refl
   where
     by : (b : Bool) → is_of s k ≡ b → b ≡ false
@@ -34,7 +32,7 @@ apart s t less k is = by (is_of s k) refl
 
 -- the books behind sources hang on what is kept and on the stamps, and not on what was told
 module _ (before after : Base) (now : ℕ) where
-  same_books : (one other : Books) → one.kept ≡ other.kept → one.stamps ≡ other.stamps → (ss : List Source)
+  pub same_books : (one other : Books) → one.kept ≡ other.kept → one.stamps ≡ other.stamps → (ss : List Source)
       → ((refreshed_each before after now one ss).kept ≡ (refreshed_each before after now other ss).kept) × ((refreshed_each before after now one ss).stamps ≡ (refreshed_each before after now other ss).stamps)
   same_books one other kept stamps [] = (kept, stamps)
   same_books one other kept stamps (s ∷ ss) = same_books (refreshed before after now one s) (refreshed before after now other s)
@@ -42,67 +40,57 @@ module _ (before after : Base) (now : ℕ) where
       (λ i. (refreshed before after now (record { kept = kept i; told = []; stamps = stamps i }) s).stamps)
       ss
 
-module _ {C : Type 0} (part : Part C) (entries : List ℕ → C → List Entry) (client : List ℕ) (subs : List (ℕ × Sub)) (owner : ℕ → ℕ) (before : Base) (stamps : List (ViewKey × Stamps)) (after : Base) (now : ℕ) (stands : StandsInOrder after) (kept : (id : List ℕ) → is_kept (part.source id) ≡ true) where
+module _ {I C : Type 0} (part : Part I C) (entries : I → C → List Entry) (client : List ℕ) (subs : List (ℕ × Sub)) (owner : ℕ → ℕ) (before : Base) (stamps : List (ViewKey × Stamps)) (after : Base) (now : ℕ) (stands : StandsInOrder after) where
   -- one item is told as the machine tells its source
   abbrev pub IsToldOne : Type 0
-  IsToldOne = (id : List ℕ) (rows : List (ViewKey × Content)) (beside later : Beside) (cs : List C) → KeepsView owner rows beside → IsUntouched before stamps rows beside (part.source id) → IsRefreshed part owner rows beside after now id cs later
+  IsToldOne = (id : I) (rows : List (ViewKey × Content)) (beside later : Beside) (cs : List C) → part.WasSo before id → KeepsView owner rows beside → IsUntouched before stamps rows beside (part.source id) → IsRefreshed part owner rows beside before after now id cs later
       → flat_map (entries id) cs ≡ entries_of_source client subs before stamps after now (part.source id)
 
   module _ (one : IsToldOne) where
-    -- the stamps behind a source of which rows are kept, whatever was shown before
-    same_stamps : (id : List ℕ) (rows : List (ViewKey × Content)) (beside : Beside) → (books_behind rows beside after now (part.source id)).stamps ≡ (refreshed before after now (record { kept = rows; told = []; stamps = beside.stamps }) (part.source id)).stamps
-    same_stamps id rows beside =
-        let s = part.source id in
-        let then : Bool → Base → List (ViewKey × Stamps) = λ b base. with_rows_of s beside.stamps (restamped (rows_at (is_of s) beside.stamps) (cond b (rows_at (is_of s) rows) (rows_of base s)) (rows_of after s) now) in
-        ap (λ b. then b after) (kept id) ∙ sym (ap (λ b. then b before) (kept id))
-
     -- what is not touched yet is not touched by an earlier source
-    untouched_still : (id : List ℕ) (rows : List (ViewKey × Content)) (beside middle : Beside) (cs : List C) → IsRefreshed part owner rows beside after now id cs middle → (t : Source) → source_cmp (part.source id) t ≡ Less → IsUntouched before stamps rows beside t
-        → IsUntouched before stamps (books_behind rows beside after now (part.source id)).kept middle t
+    untouched_still : (id : I) (rows : List (ViewKey × Content)) (beside middle : Beside) (cs : List C) → IsRefreshed part owner rows beside before after now id cs middle → (t : Source) → source_cmp (part.source id) t ≡ Less → IsUntouched before stamps rows beside t
+        → IsUntouched before stamps (books_behind rows beside before after now (part.source id)).kept middle t
     untouched_still id rows beside middle cs refreshed t less untouched = record {
-      kept = λ k is.
+      kept = λ kept k is.
           let other = apart (part.source id) t less k is in
-          at-kept after after stands now k rows (part.source id) ∙ rw other (untouched.kept k is);
+          at-kept before after stands now k rows (part.source id) ∙ rw other (untouched.kept kept k is);
       stamped = λ k is.
           let other = apart (part.source id) t less k is in
           ap (λ (b : Beside). at view_cmp k b.stamps) refreshed.tables
-          ∙ at-stamps after after stands now k (record { kept = rows; told = []; stamps = beside.stamps }) (part.source id)
+          ∙ at-stamps before after stands now k (record { kept = rows; told = []; stamps = beside.stamps }) (part.source id)
           ∙ rw other (untouched.stamped k is);
     }
 
-    all_still : (id : List ℕ) (rows : List (ViewKey × Content)) (beside middle : Beside) (cs : List C) → IsRefreshed part owner rows beside after now id cs middle → (ts : List Source) → All (λ t. source_cmp (part.source id) t ≡ Less) ts
-        → All (IsUntouched before stamps rows beside) ts → All (IsUntouched before stamps (books_behind rows beside after now (part.source id)).kept middle) ts
-    all_still id rows beside middle cs refreshed [] less untouched = All-nil (IsUntouched before stamps (books_behind rows beside after now (part.source id)).kept middle)
+    all_still : (id : I) (rows : List (ViewKey × Content)) (beside middle : Beside) (cs : List C) → IsRefreshed part owner rows beside before after now id cs middle → (ts : List Source) → All (λ t. source_cmp (part.source id) t ≡ Less) ts
+        → All (IsUntouched before stamps rows beside) ts → All (IsUntouched before stamps (books_behind rows beside before after now (part.source id)).kept middle) ts
+    all_still id rows beside middle cs refreshed [] less untouched = All-nil (IsUntouched before stamps (books_behind rows beside before after now (part.source id)).kept middle)
     all_still id rows beside middle cs refreshed (t ∷ ts) less untouched =
-        All-cons (IsUntouched before stamps (books_behind rows beside after now (part.source id)).kept middle) t ts
+        All-cons (IsUntouched before stamps (books_behind rows beside before after now (part.source id)).kept middle) t ts
         (untouched_still id rows beside middle cs refreshed t (All-head (λ t. source_cmp (part.source id) t ≡ Less) t ts less) (All-head (IsUntouched before stamps rows beside) t ts untouched))
         (all_still id rows beside middle cs refreshed ts (All-tail (λ t. source_cmp (part.source id) t ≡ Less) t ts less) (All-tail (IsUntouched before stamps rows beside) t ts untouched))
 
-    pub trail_as_whole : (ids : List (List ℕ)) (rows : List (ViewKey × Content)) (beside : Beside) (last : List (ViewKey × Content)) (end : Beside) (es : List Entry)
-        → IsStrictlySortedBy source_cmp (map part.source ids) → KeepsView owner rows beside → All (IsUntouched before stamps rows beside) (map part.source ids)
-        → IsTrail part entries owner after now rows beside ids last end es → AreToldAsWhole client subs owner before stamps after now (map part.source ids) rows beside last end es
+    pub trail_as_whole : (ids : List I) (rows : List (ViewKey × Content)) (beside : Beside) (last : List (ViewKey × Content)) (end : Beside) (es : List Entry)
+        → IsStrictlySortedBy source_cmp (map part.source ids) → All (part.WasSo before) ids → KeepsView owner rows beside → All (IsUntouched before stamps rows beside) (map part.source ids)
+        → IsTrail part entries owner before after now rows beside ids last end es → AreToldAsWhole client subs owner before stamps after now (map part.source ids) rows beside last end es
     unfolding IsStrictlySortedBy
-    trail_as_whole [] rows beside last end es up keeps untouched trail = record {
+    trail_as_whole [] rows beside last end es up were keeps untouched trail = record {
       entries = trail.2;
       kept = sym trail.0;
       stamped = ap (λ (b : Beside). b.stamps) (sym trail.1);
       alone = subst (λ (b : Beside). b ≡ record beside { shown = b.shown; rollups = b.rollups; stamps = b.stamps }) trail.1 refl;
       keeps = subst (λ (r : List (ViewKey × Content)). KeepsView owner r end) trail.0 (subst (λ (b : Beside). KeepsView owner rows b) trail.1 keeps);
     }
-    trail_as_whole (id ∷ ids) rows beside last end es up keeps untouched trail =
+    trail_as_whole (id ∷ ids) rows beside last end es up were keeps untouched trail =
         let s = part.source id in
-        let books = books_behind rows beside after now s in
+        let books = books_behind rows beside before after now s in
         let refreshed = trail.3 in
         let later = all_still id rows beside trail.1 trail.0 refreshed (map part.source ids) (All-from_recursion (λ t. source_cmp s t ≡ Less) (map part.source ids) up.0) (All-tail (IsUntouched before stamps rows beside) s (map part.source ids) untouched) in
-        let so = trail_as_whole ids books.kept trail.1 last end trail.2 up.1 refreshed.keeps later trail.5 in
-        let same = same_books before after now (record { kept = books.kept; told = []; stamps = trail.1.stamps }) (refreshed_first rows beside s) refl (ap (λ (b : Beside). b.stamps) refreshed.tables ∙ same_stamps id rows beside) (map part.source ids) in
+        let so = trail_as_whole ids books.kept trail.1 last end trail.2 up.1 (All-tail (part.WasSo before) id ids were) refreshed.keeps later trail.5 in
+        let same = same_books before after now (record { kept = books.kept; told = []; stamps = trail.1.stamps }) books refl (ap (λ (b : Beside). b.stamps) refreshed.tables) (map part.source ids) in
         record {
-          entries = trail.4 ∙ ap₂ (λ (a b : List Entry). a ++ b) (one id rows beside trail.1 trail.0 keeps (All-head (IsUntouched before stamps rows beside) s (map part.source ids) untouched) refreshed) so.entries;
+          entries = trail.4 ∙ ap₂ (λ (a b : List Entry). a ++ b) (one id rows beside trail.1 trail.0 (All-head (part.WasSo before) id ids were) keeps (All-head (IsUntouched before stamps rows beside) s (map part.source ids) untouched) refreshed) so.entries;
           kept = so.kept ∙ same.0;
           stamped = so.stamped ∙ same.1;
           alone = so.alone ∙ (λ i. record (refreshed.tables i) { shown = end.shown; rollups = end.rollups; stamps = end.stamps });
           keeps = so.keeps;
         }
-      where
-        refreshed_first : List (ViewKey × Content) → Beside → Source → Books
-        refreshed_first rows beside s = refreshed before after now (record { kept = rows; told = []; stamps = beside.stamps }) s

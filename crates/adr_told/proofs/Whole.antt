@@ -1,6 +1,5 @@
--- Where a source is refreshed of which tables keep rows, and which was not yet touched, what is told of what is answered is
--- what the machine tells of that source.
-use Rattle.std.proofs.Common.{◌≡◌, ℕ, true, cond, ⊎_elim, List, [], ◌∷◌, ◌++◌, map, refl, sym, ap, ap₂, ◌∙◌}
+-- Where a source is refreshed that was not yet touched, what is told of what is answered is what the machine tells of it.
+use Rattle.std.proofs.Common.{◌≡◌, ℕ, Bool, true, false, cond, ⊎_elim, List, [], ◌∷◌, ◌++◌, map, refl, sym, ap, ap₂, ◌∙◌}
 use Rattle.std.specs.List.{All, flat_map}
 use Rattle.std.proofs.lemmas.List.Elements.{All-head, All-tail}
 use Rattle.adr_objects.specs.declared.shown.Stamps.{Stamps}
@@ -18,7 +17,7 @@ use Rattle.adr_view.specs.Views.{view}
 use Rattle.adr_notices.specs.Made.{judged_in as side_of, entries_of_change}
 use Rattle.adr_notices.specs.Shown.{Side}
 use Rattle.adr_refresh.specs.Maps.{rows_at}
-use Rattle.adr_refresh.specs.Refresh.{Books, as_row, changes_told, is_kept}
+use Rattle.adr_refresh.specs.Refresh.{Books, as_row, changes_told, is_kept, rows_before}
 use Rattle.adr_refresh.specs.Sources.{Source, source_of, is_of, rows_of}
 use Rattle.adr_refresh.proofs.ChangeLemmas.{at-restamped, changes_in_order, stamp_at}
 use Rattle.adr_refresh.proofs.Common.{InOrder, at, cases_Bool, in_order_filtered, made_in_order, shown_in_order, view_cmp, view_exact, view_total, with_rows}
@@ -39,9 +38,9 @@ flat_of_map : {A B C : Type 0} (f : B → List C) (g : A → B) (xs : List A) �
 flat_of_map f g [] = refl
 flat_of_map f g (x ∷ xs) = ap (λ rest. f (g x) ++ rest) (flat_of_map f g xs)
 
-module _ (client : List ℕ) (subs : List (ℕ × Sub)) (before : Base) (stamps : List (ViewKey × Stamps)) (after : Base) (now : ℕ) (s : Source) (rows : List (ViewKey × Content)) (beside : Beside) (stands_before : StandsInOrder before) (stands : StandsInOrder after) (up : InOrder view_cmp rows) (untouched : IsUntouched before stamps rows beside s) (kept : is_kept s ≡ true) where
+module _ (client : List ℕ) (subs : List (ℕ × Sub)) (before : Base) (stamps : List (ViewKey × Stamps)) (after : Base) (now : ℕ) (s : Source) (rows : List (ViewKey × Content)) (beside : Beside) (stands_before : StandsInOrder before) (stands : StandsInOrder after) (up : InOrder view_cmp rows) (untouched : IsUntouched before stamps rows beside s) where
   abbrev books : Books
-  books = books_behind rows beside after now s
+  books = books_behind rows beside before after now s
 
   abbrev sides_before : Side
   sides_before = side_before before stamps
@@ -51,44 +50,59 @@ module _ (client : List ℕ) (subs : List (ℕ × Sub)) (before : Base) (stamps 
 
   -- ---- its changes
 
-  rows_were : rows_at (is_of s) rows ≡ rows_of before s
-  rows_were = same_maps view_total view_exact (rows_at (is_of s) rows) (rows_of before s) (in_order_filtered view_cmp (λ r. is_of s r.0) rows up) (rows_in_order before stands_before s) (λ q.
+  rows_were : is_kept s ≡ true → rows_at (is_of s) rows ≡ rows_of before s
+  rows_were kept = same_maps view_total view_exact (rows_at (is_of s) rows) (rows_of before s) (in_order_filtered view_cmp (λ r. is_of s r.0) rows up) (rows_in_order before stands_before s) (λ q.
       at-rows_at view_total view_exact q (is_of s) rows
       ∙ ⊎_elim
-      (λ is. rw is (untouched.kept q is))
+      (λ is. rw is (untouched.kept kept q is))
       (λ other. rw other (sym (rows_own before s q other)))
       (cases_Bool (is_of s q)))
 
+  known : rows_before before rows s ≡ rows_of before s
+  known = by (is_kept s) refl
+    where
+      by : (b : Bool) → is_kept s ≡ b → cond b (rows_at (is_of s) rows) (rows_of before s) ≡ rows_of before s
+      by true is = rows_were is
+      by false is = refl
+
   told_is : books.told ≡ map as_row (changes (rows_of before s) (rows_of after s))
   told_is =
-      ap (λ b. with_rows view_cmp [] (changes_told (cond b (rows_at (is_of s) rows) (rows_of after s)) (rows_of after s))) kept
-      ∙ ap (λ old. with_rows view_cmp [] (changes_told old (rows_of after s))) rows_were
+      ap (λ old. with_rows view_cmp [] (changes_told old (rows_of after s))) known
       ∙ made_in_order view_total (changes_told (rows_of before s) (rows_of after s)) (changes_in_order (rows_of before s) (rows_of after s))
 
   -- ---- both sides of a change
 
-  kept_source : (q : ViewKey) → is_of s q ≡ true → is_kept (source_of q) ≡ true
-  kept_source q is = ap is_kept (its_source s q is) ∙ kept
+  pub was_shown : (q : ViewKey) → is_of s q ≡ true → at view_cmp q (view before) ≡ at view_cmp q (rows_of before s)
+  was_shown q is = view_of_sources before stands_before q ∙ ap (λ t. at view_cmp q (rows_of before t)) (its_source s q is)
 
-  was_shown : (q : ViewKey) → is_of s q ≡ true → at view_cmp q (view before) ≡ at view_cmp q rows
-  was_shown q is = view_of_sources before stands_before q ∙ ap (λ t. at view_cmp q (rows_of before t)) (its_source s q is) ∙ sym (untouched.kept q is)
+  pub is_shown : (q : ViewKey) → is_of s q ≡ true → at view_cmp q (view after) ≡ at view_cmp q (rows_of after s)
+  is_shown q is = view_of_sources after stands q ∙ ap (λ t. at view_cmp q (rows_of after t)) (its_source s q is)
 
-  is_shown : (q : ViewKey) → is_of s q ≡ true → at view_cmp q (view after) ≡ at view_cmp q books.kept
-  is_shown q is =
-      let kept = kept_source q is in
-      view_of_sources after stands q ∙ sym (at-kept after after stands now q rows s ∙ rw (is, kept) refl)
+  -- what the books know of a key before is what was shown there
+  was_known : (q : ViewKey) → is_of s q ≡ true → cond (is_kept (source_of q)) (at view_cmp q rows) (at view_cmp q (rows_of before (source_of q))) ≡ at view_cmp q (view before)
+  was_known q is = by (is_kept (source_of q)) refl
+    where
+      by : (b : Bool) → is_kept (source_of q) ≡ b → cond b (at view_cmp q rows) (at view_cmp q (rows_of before (source_of q))) ≡ at view_cmp q (view before)
+      by true kept = untouched.kept (sym (ap is_kept (its_source s q is)) ∙ kept) q is ∙ sym (was_shown q is)
+      by false other = sym (view_of_sources before stands_before q)
 
   is_stamped : (q : ViewKey) → is_of s q ≡ true → at view_cmp q (restamped stamps (view before) (view after) now) ≡ at view_cmp q books.stamps
   is_stamped q is =
-      let kept = kept_source q is in
       at-restamped q stamps (view before) (view after) now (shown_in_order after)
-      ∙ (λ i. stamp_at (was_shown q is i) (view_of_sources after stands q i) now (sym (untouched.stamped q is) i))
-      ∙ sym (at-stamps after after stands now q (record { kept = rows; told = []; stamps = beside.stamps }) s ∙ rw (is, kept) refl)
+      ∙ (λ i. stamp_at (sym (was_known q is) i) (view_of_sources after stands q i) now (sym (untouched.stamped q is) i))
+      ∙ sym (at-stamps before after stands now q (record { kept = rows; told = []; stamps = beside.stamps }) s ∙ rw is refl)
 
-  pub shown_there : (q : ViewKey) → is_of s q ≡ true → (o : Operation) → at view_cmp q (side_of o sides_before sides_after).view ≡ at view_cmp q (judged_in o rows books.kept)
-  shown_there q is Post = is_shown q is
-  shown_there q is Put = is_shown q is
-  shown_there q is Delete = was_shown q is
+  -- where rows of the source are kept, they have both sides
+  module _ (kept : is_kept s ≡ true) where
+    kept_now : (q : ViewKey) → is_of s q ≡ true → at view_cmp q (rows_of after s) ≡ at view_cmp q books.kept
+    kept_now q is =
+        let there : is_kept (source_of q) ≡ true = ap is_kept (its_source s q is) ∙ kept in
+        ap (λ t. at view_cmp q (rows_of after t)) (sym (its_source s q is)) ∙ sym (at-kept before after stands now q rows s ∙ rw (is, there) refl)
+
+    pub shown_there : (q : ViewKey) → is_of s q ≡ true → (o : Operation) → at view_cmp q (side_of o sides_before sides_after).view ≡ at view_cmp q (judged_in o rows books.kept)
+    shown_there q is Post = is_shown q is ∙ kept_now q is
+    shown_there q is Put = is_shown q is ∙ kept_now q is
+    shown_there q is Delete = was_shown q is ∙ sym (untouched.kept kept q is)
 
   pub stamped_there : (q : ViewKey) → is_of s q ≡ true → (o : Operation) → at view_cmp q (side_of o sides_before sides_after).stamps ≡ at view_cmp q (judged_in o beside.stamps books.stamps)
   stamped_there q is Post = is_stamped q is

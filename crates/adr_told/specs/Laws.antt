@@ -15,16 +15,19 @@ use Rattle.adr_delivery.specs.declared.entry.Entry.{Entry}
 use Rattle.adr_notices.specs.Made.{entries_made}
 use Rattle.adr_notices.specs.Shown.{Side}
 use Rattle.adr_refresh.specs.Laws.{HasAllThatDiffer}
-use Rattle.adr_refresh.specs.Refresh.{Books, refreshed_each}
+use Rattle.adr_refresh.specs.Refresh.{Books, is_kept, refreshed_each}
 use Rattle.adr_refresh.specs.Sources.{Source, RolledUp, source_cmp, is_of, rows_of}
 use Rattle.adr_refresh.specs.Touched.{upstream_event}
 use Rattle.adr_db.specs.Bases.{Beside}
 use Rattle.adr_kept_view.specs.declared.change.RollupChange.{RollupChange}
 use Rattle.adr_kept_view.specs.declared.change.ShownChange.{ShownChange}
+use Rattle.adr_kept_view.specs.declared.object.ObjectChange.{ObjectChange}
+use Rattle.adr_kept_view.specs.declared.object.OldObject.{OldObject}
 use Rattle.adr_kept_view.specs.KeptViews.{KeepsView, Owns}
+use Rattle.adr_kept_view.specs.Objects.{StoodIn, as_object}
 use Rattle.adr_kept_view.specs.Refreshed.{IsRefreshed, as_shown, as_rolled_up}
 use Rattle.adr_visit.specs.Visits.{IsTrail}
-use Rattle.adr_told.specs.Told.{shown_entries, rollup_entries}
+use Rattle.adr_told.specs.Told.{shown_entries, rollup_entries, object_entries}
 
 -- ---- what the machine tells of a source
 
@@ -48,9 +51,10 @@ WholeIsToldInTurn = (client : List ℕ) (subs : List (ℕ × Sub)) (before : Bas
 
 -- ---- what is told of a refresh
 
--- what tables keep of a view, and their stamps, have at the keys of a source what they had before the command
+-- what tables keep of a view, where they keep rows of a source, and their stamps have at its keys what was shown and
+-- stamped before the command
 pub record IsUntouched (before : Base) (stamps : List (ViewKey × Stamps)) (rows : List (ViewKey × Content)) (beside : Beside) (s : Source) : Type 0 where
-  pub kept : (k : ViewKey) → is_of s k ≡ true → at view_cmp k rows ≡ at view_cmp k (rows_of before s)
+  pub kept : is_kept s ≡ true → (k : ViewKey) → is_of s k ≡ true → at view_cmp k rows ≡ at view_cmp k (rows_of before s)
   pub stamped : (k : ViewKey) → is_of s k ≡ true → at view_cmp k beside.stamps ≡ at view_cmp k stamps
 
 -- where an event is refreshed that was not yet touched, under owners of the resources that are there before or after, the
@@ -58,15 +62,22 @@ pub record IsUntouched (before : Base) (stamps : List (ViewKey × Stamps)) (rows
 abbrev pub EventIsToldAsWhole : Type 0
 EventIsToldAsWhole = (client : List ℕ) (subs : List (ℕ × Sub)) (owner : ℕ → ℕ) (before : Base) (stamps : List (ViewKey × Stamps)) (after : Base) (now : ℕ) (id : List ℕ) (rows : List (ViewKey × Content)) (beside later : Beside) (cs : List ShownChange)
     → StandsInOrder before → StandsInOrder after → Owns owner before → Owns owner after
-    → KeepsView owner rows beside → IsUntouched before stamps rows beside (upstream_event id) → IsRefreshed as_shown owner rows beside after now id cs later
+    → KeepsView owner rows beside → IsUntouched before stamps rows beside (upstream_event id) → IsRefreshed as_shown owner rows beside before after now id cs later
     → flat_map (shown_entries subs id) cs ≡ entries_of_source client subs before stamps after now (upstream_event id)
 
 -- so are those of a roll-up
 abbrev pub RollupIsToldAsWhole : Type 0
 RollupIsToldAsWhole = (client : List ℕ) (subs : List (ℕ × Sub)) (owner : ℕ → ℕ) (before : Base) (stamps : List (ViewKey × Stamps)) (after : Base) (now : ℕ) (id : List ℕ) (rows : List (ViewKey × Content)) (beside later : Beside) (cs : List RollupChange)
     → StandsInOrder before → StandsInOrder after
-    → KeepsView owner rows beside → IsUntouched before stamps rows beside (RolledUp id) → IsRefreshed as_rolled_up owner rows beside after now id cs later
+    → KeepsView owner rows beside → IsUntouched before stamps rows beside (RolledUp id) → IsRefreshed as_rolled_up owner rows beside before after now id cs later
     → flat_map (rollup_entries client id) cs ≡ entries_of_source client subs before stamps after now (RolledUp id)
+
+-- so are those of a program or a report, where what stood there was so before
+abbrev pub ObjectIsToldAsWhole : Type 0
+ObjectIsToldAsWhole = (client : List ℕ) (subs : List (ℕ × Sub)) (owner : ℕ → ℕ) (before : Base) (stamps : List (ViewKey × Stamps)) (after : Base) (now : ℕ) (old : OldObject) (rows : List (ViewKey × Content)) (beside later : Beside) (cs : List ObjectChange)
+    → StandsInOrder before → StandsInOrder after
+    → KeepsView owner rows beside → StoodIn before old → IsUntouched before stamps rows beside (as_object.source old) → IsRefreshed as_object owner rows beside before after now old cs later
+    → flat_map (object_entries subs old) cs ≡ entries_of_source client subs before stamps after now (as_object.source old)
 
 -- ---- what is told of a visit
 
@@ -88,7 +99,7 @@ abbrev pub EventsAreToldAsWhole : Type 0
 EventsAreToldAsWhole = (client : List ℕ) (subs : List (ℕ × Sub)) (owner : ℕ → ℕ) (before : Base) (stamps : List (ViewKey × Stamps)) (after : Base) (now : ℕ) (ids : List (List ℕ)) (rows : List (ViewKey × Content)) (beside : Beside) (last : List (ViewKey × Content)) (end : Beside) (es : List Entry)
     → StandsInOrder before → StandsInOrder after → Owns owner before → Owns owner after
     → IsStrictlySortedBy source_cmp (map upstream_event ids) → KeepsView owner rows beside → All (IsUntouched before stamps rows beside) (map upstream_event ids)
-    → IsTrail as_shown (shown_entries subs) owner after now rows beside ids last end es
+    → IsTrail as_shown (shown_entries subs) owner before after now rows beside ids last end es
     → AreToldAsWhole client subs owner before stamps after now (map upstream_event ids) rows beside last end es
 
 -- and so is one of roll-ups
@@ -96,5 +107,13 @@ abbrev pub RollupsAreToldAsWhole : Type 0
 RollupsAreToldAsWhole = (client : List ℕ) (subs : List (ℕ × Sub)) (owner : ℕ → ℕ) (before : Base) (stamps : List (ViewKey × Stamps)) (after : Base) (now : ℕ) (ids : List (List ℕ)) (rows : List (ViewKey × Content)) (beside : Beside) (last : List (ViewKey × Content)) (end : Beside) (es : List Entry)
     → StandsInOrder before → StandsInOrder after
     → IsStrictlySortedBy source_cmp (map RolledUp ids) → KeepsView owner rows beside → All (IsUntouched before stamps rows beside) (map RolledUp ids)
-    → IsTrail as_rolled_up (rollup_entries client) owner after now rows beside ids last end es
+    → IsTrail as_rolled_up (rollup_entries client) owner before after now rows beside ids last end es
     → AreToldAsWhole client subs owner before stamps after now (map RolledUp ids) rows beside last end es
+
+-- and so is one of programs and reports
+abbrev pub ObjectsAreToldAsWhole : Type 0
+ObjectsAreToldAsWhole = (client : List ℕ) (subs : List (ℕ × Sub)) (owner : ℕ → ℕ) (before : Base) (stamps : List (ViewKey × Stamps)) (after : Base) (now : ℕ) (olds : List OldObject) (rows : List (ViewKey × Content)) (beside : Beside) (last : List (ViewKey × Content)) (end : Beside) (es : List Entry)
+    → StandsInOrder before → StandsInOrder after
+    → IsStrictlySortedBy source_cmp (map as_object.source olds) → KeepsView owner rows beside → All (StoodIn before) olds → All (IsUntouched before stamps rows beside) (map as_object.source olds)
+    → IsTrail as_object (object_entries subs) owner before after now rows beside olds last end es
+    → AreToldAsWhole client subs owner before stamps after now (map as_object.source olds) rows beside last end es

@@ -1,15 +1,19 @@
 //! Who tells changes: to the subscriptions that match, and to the utility.
-ghost use Rattle.std.specs.Prelude.{◌≡◌, IfOk};
-ghost use Rattle.adr_told.specs.Told.{shown_notice, shown_entries, rollup_entries};
+ghost use Rattle.std.specs.Prelude.{◌≡◌, Some, IfOk};
+ghost use Rattle.adr_view.specs.declared.view.Content.TheVariants as content;
+ghost use Rattle.adr_notices.specs.Notices.{operation_kind, program_notice};
+ghost use Rattle.adr_kept_view.specs.declared.object.ObjectKey.TheVariants as object;
+ghost use Rattle.adr_told.specs.Told.{shown_notice, shown_entries, rollup_entries, noticed, object_entries};
 
 use adr_delivery::Entry;
-use adr_kept_view::{RollupChange, ShownChange};
+use adr_kept_view::{ObjectChange, ObjectKey, OldObject, RollupChange, ShownChange};
 use adr_notices::{EventNames, Notice, entries_of, operation_kind, rollup_entry};
-use adr_objects::{EventObject, Number};
+use adr_objects::{EventObject, Number, ProgramObject, ReportBody, ReportObject};
 use adr_subscription::{FreeText, ObjectKind, Sub};
 use adr_text::{Name, ObjectId, Table};
+use adr_view::Content;
 use adr_visit::Tells;
-use adr_written::write_event_notice;
+use adr_written::{write_event_notice, write_program_notice, write_report_notice};
 use std::alloc::{AllocError, Global};
 use std::marker::Model;
 
@@ -72,7 +76,7 @@ fn notice_of(alloc: Global, event: &ObjectId, change: &ShownChange) -> Result<No
     })
 }
 
-impl Tells<ShownChange> for Teller<'_> {
+impl Tells<ObjectId, ShownChange> for Teller<'_> {
     ghost told = { λ t id c. shown_entries t.subs id c };
 
     fn entries(
@@ -86,7 +90,7 @@ impl Tells<ShownChange> for Teller<'_> {
     }
 }
 
-impl Tells<RollupChange> for Teller<'_> {
+impl Tells<ObjectId, RollupChange> for Teller<'_> {
     ghost told = { λ t id c. rollup_entries t.client id c };
 
     fn entries(
@@ -97,5 +101,92 @@ impl Tells<RollupChange> for Teller<'_> {
     ) -> Result<Vec<Entry>, AllocError> {
         let entry = rollup_entry(alloc, self.client, change.operation, event, &change.rollup)?;
         Ok(vec![in alloc; entry]?)
+    }
+}
+
+// What is told of a program.
+fn program_notice(
+    alloc: Global,
+    id: &ObjectId,
+    name: &Name,
+    change: &ObjectChange,
+) -> Result<Notice, AllocError>
+    ensures { IfOk result (λ notice. notice ≡ program_notice (operation_kind change.now.operation) (record { id = id.now; name = name.now; stamps = change.now.stamps })) }
+{
+    let operation = operation_kind(change.operation);
+    let object = ProgramObject {
+        id: id.copy(alloc)?,
+        name: name.clone()?,
+        stamps: change.stamps,
+    };
+    let text = write_program_notice(alloc, operation, &object)?;
+    Ok(Notice {
+        kind: ObjectKind::Program,
+        operation,
+        program: id.copy(alloc)?,
+        ven: None,
+        names: None,
+        body: FreeText::new(alloc, text.as_str())?,
+    })
+}
+
+// What is told of a report, which is of the ven of the change.
+fn report_notice(
+    alloc: Global,
+    number: Number,
+    body: &ReportBody,
+    change: &ObjectChange,
+) -> Result<Notice, AllocError>
+    ensures { IfOk result (λ notice. Some notice ≡ noticed (object.Report number) (operation_kind change.now.operation) change.now.ven change.now.stamps (content.Report body.now)) }
+{
+    let operation = operation_kind(change.operation);
+    let object = ReportObject {
+        number,
+        body: body.clone()?,
+        stamps: change.stamps,
+    };
+    let text = write_report_notice(alloc, operation, &object)?;
+    Ok(Notice {
+        kind: ObjectKind::Report,
+        operation,
+        program: body.head.program.copy(alloc)?,
+        ven: change.ven,
+        names: None,
+        body: FreeText::new(alloc, text.as_str())?,
+    })
+}
+
+// What is told of a change of a program or of a report.
+fn object_notice(
+    alloc: Global,
+    key: &ObjectKey,
+    change: &ObjectChange,
+) -> Result<Option<Notice>, AllocError>
+    ensures { IfOk result (λ notice. notice ≡ noticed key.now (operation_kind change.now.operation) change.now.ven change.now.stamps change.now.content) }
+{
+    match (key, &change.content) {
+        (ObjectKey::Program(id), Content::Program(name)) => {
+            Ok(Some(program_notice(alloc, id, name, change)?))
+        }
+        (ObjectKey::Report(number), Content::Report(body)) => {
+            Ok(Some(report_notice(alloc, *number, body, change)?))
+        }
+        _ => Ok(None),
+    }
+}
+
+impl Tells<OldObject, ObjectChange> for Teller<'_> {
+    ghost told = { λ t old c. object_entries t.subs old c };
+
+    fn entries(
+        &self,
+        alloc: Global,
+        old: &OldObject,
+        change: &ObjectChange,
+    ) -> Result<Vec<Entry>, AllocError> {
+        match object_notice(alloc, &old.key, change)? {
+            Some(notice) => entries_of(alloc, self.subs, &notice),
+            None => Ok(Vec::new(alloc)),
+        }
     }
 }

@@ -10,8 +10,11 @@ use Rattle.adr_view.specs.declared.view.Content.{Content}
 use Rattle.adr_db.specs.Bases.{Beside, kept_beside, HoldsBeside}
 use Rattle.adr_kept_view.specs.declared.change.RollupChange.{RollupChange}
 use Rattle.adr_kept_view.specs.declared.found.Found.{Found}
+use Rattle.adr_kept_view.specs.declared.object.ObjectChange.{ObjectChange}
+use Rattle.adr_kept_view.specs.declared.object.OldObject.{OldObject}
 use Rattle.adr_kept_view.specs.Changes.{found_of}
 use Rattle.adr_kept_view.specs.KeptViews.{KeepsView, Owns}
+use Rattle.adr_kept_view.specs.Objects.{StoodIn, as_object}
 use Rattle.adr_kept_view.specs.Refreshed.{Part, IsRefreshed, as_rolled_up}
 use Rattle.adr_upkeep.specs.declared.sharers.Sharers.{Sharers}
 use Rattle.adr_upkeep.specs.Sharing.{AreThoseOf}
@@ -25,32 +28,39 @@ module _ {S : Type 0} (g : Ghosts S) (old new : Held S) where
       → IfOk result (λ found. (beside : Beside) (base : Base) → HoldsBeside beside base (state g old) → AreThoseOf (kept_beside beside base) before
       → (found ≡ found_of beside base id) × AreThoseOf (kept_beside beside base) after × HoldsBeside beside base (state g new))
 
-  -- after Ok, where the tables held a base and kept what was shown, they hold the base, beside what the refresh of that part
-  -- of the event leaves, and its changes are answered
-  abbrev pub RefreshesAlone : {C E : Type 0} → Part C → List ℕ → ℕ → Result (List C) E → Type 0
-  RefreshesAlone part id now result =
+  -- after Ok, where the tables held a base and kept what was shown, they hold the base, beside what the refresh of that item
+  -- leaves behind a change from any base of which it says right what was shown, and its changes are answered
+  abbrev pub RefreshesAlone : {I C E : Type 0} → Part I C → I → ℕ → Result (List C) E → Type 0
+  RefreshesAlone part item now result =
       HasCleanDisk (state g new)
-      → IfOk result (λ changes. (owner : ℕ → ℕ) (rows : List (ViewKey × Content)) (beside : Beside) (base : Base) → HoldsBeside beside base (state g old) → KeepsView owner rows beside → Owns owner base
-      → (after : Beside) × HoldsBeside after base (state g new) × IsRefreshed part owner rows beside base now id changes after)
+      → IfOk result (λ changes. (owner : ℕ → ℕ) (rows : List (ViewKey × Content)) (beside : Beside) (before base : Base) → HoldsBeside beside base (state g old) → KeepsView owner rows beside → Owns owner base → part.WasSo before item
+      → (later : Beside) × HoldsBeside later base (state g new) × IsRefreshed part owner rows beside before base now item changes later)
 
   -- the same where those who share were right, and they are right still
-  abbrev pub RefreshesSharing : {C E : Type 0} → Part C → List ℕ → ℕ → Sharers → Sharers → Result (List C) E → Type 0
-  RefreshesSharing part id now before after result =
+  abbrev pub RefreshesSharing : {I C E : Type 0} → Part I C → I → ℕ → Sharers → Sharers → Result (List C) E → Type 0
+  RefreshesSharing part item now first last result =
       HasCleanDisk (state g new)
-      → IfOk result (λ changes. (owner : ℕ → ℕ) (rows : List (ViewKey × Content)) (beside : Beside) (base : Base) → HoldsBeside beside base (state g old) → KeepsView owner rows beside → Owns owner base
-      → AreThoseOf (kept_beside beside base) before
-      → (later : Beside) × HoldsBeside later base (state g new) × AreThoseOf (kept_beside later base) after × IsRefreshed part owner rows beside base now id changes later)
+      → IfOk result (λ changes. (owner : ℕ → ℕ) (rows : List (ViewKey × Content)) (beside : Beside) (before base : Base) → HoldsBeside beside base (state g old) → KeepsView owner rows beside → Owns owner base → part.WasSo before item
+      → AreThoseOf (kept_beside beside base) first
+      → (later : Beside) × HoldsBeside later base (state g new) × AreThoseOf (kept_beside later base) last × IsRefreshed part owner rows beside before base now item changes later)
 
   -- the same of the roll-up of an event, whoever owns the resources
   abbrev pub RefreshesRollup : {E : Type 0} → List ℕ → ℕ → Result (Option RollupChange) E → Type 0
   RefreshesRollup id now result =
       HasCleanDisk (state g new)
-      → IfOk result (λ change. (owner : ℕ → ℕ) (rows : List (ViewKey × Content)) (beside : Beside) (base : Base) → HoldsBeside beside base (state g old) → KeepsView owner rows beside
-      → (after : Beside) × HoldsBeside after base (state g new) × IsRefreshed as_rolled_up owner rows beside base now id (option_to_list change) after)
+      → IfOk result (λ change. (owner : ℕ → ℕ) (rows : List (ViewKey × Content)) (beside : Beside) (before base : Base) → HoldsBeside beside base (state g old) → KeepsView owner rows beside
+      → (later : Beside) × HoldsBeside later base (state g new) × IsRefreshed as_rolled_up owner rows beside before base now id (option_to_list change) later)
 
   abbrev pub RefreshesRollupSharing : {E : Type 0} → List ℕ → ℕ → Sharers → Sharers → Result (Option RollupChange) E → Type 0
-  RefreshesRollupSharing id now before after result =
+  RefreshesRollupSharing id now first last result =
       HasCleanDisk (state g new)
-      → IfOk result (λ change. (owner : ℕ → ℕ) (rows : List (ViewKey × Content)) (beside : Beside) (base : Base) → HoldsBeside beside base (state g old) → KeepsView owner rows beside
-      → AreThoseOf (kept_beside beside base) before
-      → (later : Beside) × HoldsBeside later base (state g new) × AreThoseOf (kept_beside later base) after × IsRefreshed as_rolled_up owner rows beside base now id (option_to_list change) later)
+      → IfOk result (λ change. (owner : ℕ → ℕ) (rows : List (ViewKey × Content)) (beside : Beside) (before base : Base) → HoldsBeside beside base (state g old) → KeepsView owner rows beside
+      → AreThoseOf (kept_beside beside base) first
+      → (later : Beside) × HoldsBeside later base (state g new) × AreThoseOf (kept_beside later base) last × IsRefreshed as_rolled_up owner rows beside before base now id (option_to_list change) later)
+
+  -- the same of a program or a report, where what stood there is handed in
+  abbrev pub RefreshesObject : {E : Type 0} → OldObject → ℕ → Result (Option ObjectChange) E → Type 0
+  RefreshesObject it now result =
+      HasCleanDisk (state g new)
+      → IfOk result (λ change. (owner : ℕ → ℕ) (rows : List (ViewKey × Content)) (beside : Beside) (before base : Base) → HoldsBeside beside base (state g old) → KeepsView owner rows beside → StoodIn before it
+      → (later : Beside) × HoldsBeside later base (state g new) × IsRefreshed as_object owner rows beside before base now it (option_to_list change) later)

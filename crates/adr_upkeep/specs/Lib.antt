@@ -1,4 +1,5 @@
 pub mod Turned
 pub mod Rolled
 pub mod Sharing
+pub mod Turns
 pub mod Calls

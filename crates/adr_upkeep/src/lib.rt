@@ -5,6 +5,7 @@
 mod columns;
 mod events;
 mod found;
+mod objects;
 mod owner;
 mod rolled_up;
 mod rollups;
@@ -14,5 +15,6 @@ mod stamps;
 mod turn;
 
 pub use events::{refresh, refresh_sharing};
+pub use objects::refresh_object;
 pub use rollups::{refresh_rollup, refresh_rollup_sharing};
 pub use sharers::Sharers;

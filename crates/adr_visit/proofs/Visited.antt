@@ -1,5 +1,5 @@
 -- A visit goes on: an event is refreshed behind entries that came so far.
-use Rattle.std.proofs.Common.{◌≡◌, inl, inr, ℕ, List, [], ◌∷◌, ◌++◌, refl, ap, subst}
+use Rattle.std.proofs.Common.{inl, inr, ℕ, List, refl, subst}
 use Rattle.sqlite.specs.State.{State}
 use Rattle.adr_delivery.specs.declared.entry.Entry.{Entry}
 use Rattle.adr_delivery.specs.declared.outbox.Outbox.{Outbox}
@@ -21,19 +21,19 @@ use Rattle.adr_room.specs.declared.room.Room.{Room}
 use Rattle.adr_room.specs.Rooms.{AreAppended}
 use Rattle.adr_visit.specs.Visits.{IsAt}
 
-module _ {C : Type 0} (part : Part C) (limits : Limits) (first : Meta) (owner : ℕ → ℕ) (base : Base) (rows : List (ViewKey × Content)) (beside : Beside) (es : List Entry) (room : Room) (sharers after : Sharers) (numbers : Meta) (now : ℕ) (id : List ℕ) (changes : List C) (old new : State) where
+module _ {I C : Type 0} (part : Part I C) (limits : Limits) (first : Meta) (owner : ℕ → ℕ) (before base : Base) (rows : List (ViewKey × Content)) (beside : Beside) (es : List Entry) (room : Room) (sharers after : Sharers) (numbers : Meta) (now : ℕ) (item : I) (changes : List C) (old new : State) where
   abbrev books : Books
-  books = books_behind rows beside base now (part.source id)
+  books = books_behind rows beside before base now (part.source item)
 
   abbrev middle : Beside
   middle = with_books owner books beside
 
   -- what a refresh says that is begun there
   abbrev pub Refreshes : Type 0
-  Refreshes = (owner : ℕ → ℕ) (rows : List (ViewKey × Content)) (beside : Beside) (base : Base) → HoldsBeside beside base old → KeepsView owner rows beside → Owns owner base → AreThoseOf (kept_beside beside base) sharers
-      → (later : Beside) × HoldsBeside later base new × AreThoseOf (kept_beside later base) after × IsRefreshed part owner rows beside base now id changes later
+  Refreshes = (owner : ℕ → ℕ) (rows : List (ViewKey × Content)) (beside : Beside) (before base : Base) → HoldsBeside beside base old → KeepsView owner rows beside → Owns owner base → part.WasSo before item → AreThoseOf (kept_beside beside base) sharers
+      → (later : Beside) × HoldsBeside later base new × AreThoseOf (kept_beside later base) after × IsRefreshed part owner rows beside before base now item changes later
 
-  module _ (at : IsAt limits first owner base rows beside es room sharers numbers old) (refreshes : Refreshes) where
+  module _ (at : IsAt limits first owner base rows beside es room sharers numbers old) (so_was : part.WasSo before item) (refreshes : Refreshes) where
     -- beside the entries of an outbox
     abbrev beside_with : Outbox → Beside
     beside_with o = record beside { entries = o.entries; remotes = o.remotes }
@@ -50,7 +50,7 @@ module _ {C : Type 0} (part : Part C) (limits : Limits) (first : Meta) (owner : 
 
     carry : (o : Outbox) → Keeps (with_outbox o (kept_beside beside base)) old → Keeps (with_outbox o (kept_beside middle base)) new
     carry o held =
-        let so = refreshes owner rows (beside_with o) base held (keeps_with o) at.owns at.right in
+        let so = refreshes owner rows (beside_with o) before base held (keeps_with o) at.owns so_was at.right in
         subst (λ (b : Beside). Keeps (kept_beside b base) new) so.3.tables so.1
 
     carried : AreAppended limits first numbers (kept_beside beside base) es old → AreAppended limits first numbers (kept_beside middle base) es new
@@ -60,9 +60,9 @@ module _ {C : Type 0} (part : Part C) (limits : Limits) (first : Meta) (owner : 
     abbrev some : Outbox
     some = at.come.tables.0
 
-    refreshed : IsRefreshed part owner rows beside base now id changes middle
+    refreshed : IsRefreshed part owner rows beside before base now item changes middle
     refreshed =
-        let so = refreshes owner rows (beside_with some) base at.come.tables.1 (keeps_with some) at.owns at.right in
+        let so = refreshes owner rows (beside_with some) before base at.come.tables.1 (keeps_with some) at.owns so_was at.right in
         let keeps : KeepsView owner books.kept (with_books owner books (beside_with some)) = subst (λ (b : Beside). KeepsView owner books.kept b) so.3.tables so.3.keeps in
         record {
           tables = refl;
@@ -71,9 +71,9 @@ module _ {C : Type 0} (part : Part C) (limits : Limits) (first : Meta) (owner : 
           each = so.3.each;
         }
 
-    pub visited_now : (m : Beside) × IsRefreshed part owner rows beside base now id changes m × IsAt limits first owner base books.kept m es room after numbers new
+    pub visited_now : (m : Beside) × IsRefreshed part owner rows beside before base now item changes m × IsAt limits first owner base books.kept m es room after numbers new
     visited_now =
-        let so = refreshes owner rows (beside_with some) base at.come.tables.1 (keeps_with some) at.owns at.right in (
+        let so = refreshes owner rows (beside_with some) before base at.come.tables.1 (keeps_with some) at.owns so_was at.right in (
           middle,
           refreshed,
           record {
@@ -89,7 +89,3 @@ module _ {C : Type 0} (part : Part C) (limits : Limits) (first : Meta) (owner : 
             drawn = at.drawn;
           },
         )
-
-pub assoc : {A : Type 0} (xs ys zs : List A) → (xs ++ ys) ++ zs ≡ xs ++ (ys ++ zs)
-assoc [] ys zs = refl
-assoc (x ∷ xs) ys zs = ap (λ all. x ∷ all) (assoc xs ys zs)

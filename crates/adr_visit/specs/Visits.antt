@@ -1,5 +1,5 @@
 -- Events visited one after another, and where the visit is.
-use Rattle.std.specs.Prelude.{◌≡◌, ℕ, List, [], ◌∷◌, ◌++◌, length, Result, OnOk}
+use Rattle.std.specs.Prelude.{◌≡◌, ℕ, List, [], ◌∷◌, ◌++◌, length, Result, OnOk, All}
 use Rattle.std.specs.List.{flat_map}
 use Rattle.sqlite.specs.Store.{Ghosts}
 use Rattle.sqlite.specs.Held.{Held, state}
@@ -28,27 +28,29 @@ pub record IsAt (limits : Limits) (first : Meta) (owner : ℕ → ℕ) (base : B
   pub waits : first.pending ≡ length beside.entries
   pub drawn : AreDrawn first (kept_beside beside base)
 
-module _ {C : Type 0} (part : Part C) (told : List ℕ → C → List Entry) (owner : ℕ → ℕ) (base : Base) (now : ℕ) where
-  -- from what the tables keep of a view to what they keep once that part of these events was refreshed, one after another:
-  -- each leaves what its refresh leaves, and the entries are those by which their changes are told, in turn
-  abbrev pub IsTrail : List (ViewKey × Content) → Beside → List (List ℕ) → List (ViewKey × Content) → Beside → List Entry → Type 0
+module _ {I C : Type 0} (part : Part I C) (told : I → C → List Entry) (owner : ℕ → ℕ) (before base : Base) (now : ℕ) where
+  -- from what the tables keep of a view to what they keep once these items were refreshed, one after another, behind a change
+  -- from one base to another: each leaves what its refresh leaves, and the entries are those by which their changes are told,
+  -- in turn
+  abbrev pub IsTrail : List (ViewKey × Content) → Beside → List I → List (ViewKey × Content) → Beside → List Entry → Type 0
   IsTrail rows beside [] last later es = (rows ≡ last) × (beside ≡ later) × (es ≡ [])
-  IsTrail rows beside (id ∷ ids) last later es =
-      (changes : List C) × (middle : Beside) × (rest : List Entry) × IsRefreshed part owner rows beside base now id changes middle × (es ≡ flat_map (told id) changes ++ rest)
-      × IsTrail (books_behind rows beside base now (part.source id)).kept middle ids last later rest
+  IsTrail rows beside (i ∷ is) last later es =
+      (changes : List C) × (middle : Beside) × (rest : List Entry) × IsRefreshed part owner rows beside before base now i changes middle × (es ≡ flat_map (told i) changes ++ rest)
+      × IsTrail (books_behind rows beside before base now (part.source i)).kept middle is last later rest
 
 module _ {S : Type 0} (g : Ghosts S) (old new : Held S) where
-  -- after Ok that part of the event is refreshed, and its changes are told
-  abbrev pub VisitsOne : {C T E : Type 0} → Part C → (List ℕ → C → List Entry) → Limits → List ℕ → ℕ → Room → Room → Sharers → Sharers → Meta → Meta → Result T E → Type 0
-  VisitsOne part told limits id now before after sharers later numbers then result =
+  -- after Ok the item is refreshed, and its changes are told, behind a change from any base of which it says right what was
+  -- shown
+  abbrev pub VisitsOne : {I C T E : Type 0} → Part I C → (I → C → List Entry) → Limits → I → ℕ → Room → Room → Sharers → Sharers → Meta → Meta → Result T E → Type 0
+  VisitsOne part told limits item now room full sharers later numbers then result =
       HasCleanDisk (state g new)
-      → OnOk result ((first : Meta) (owner : ℕ → ℕ) (base : Base) (rows : List (ViewKey × Content)) (beside : Beside) (es : List Entry) → IsAt limits first owner base rows beside es before sharers numbers (state g old)
-      → (changes : List _) × (middle : Beside) × IsRefreshed part owner rows beside base now id changes middle
-      × IsAt limits first owner base (books_behind rows beside base now (part.source id)).kept middle (es ++ flat_map (told id) changes) after later then (state g new))
+      → OnOk result ((first : Meta) (owner : ℕ → ℕ) (before base : Base) (rows : List (ViewKey × Content)) (beside : Beside) (es : List Entry) → part.WasSo before item → IsAt limits first owner base rows beside es room sharers numbers (state g old)
+      → (changes : List _) × (middle : Beside) × IsRefreshed part owner rows beside before base now item changes middle
+      × IsAt limits first owner base (books_behind rows beside before base now (part.source item)).kept middle (es ++ flat_map (told item) changes) full later then (state g new))
 
-  -- so is that part of each of them, one after another
-  abbrev pub VisitsEach : {C T E : Type 0} → Part C → (List ℕ → C → List Entry) → Limits → List (List ℕ) → ℕ → Room → Room → Sharers → Sharers → Meta → Meta → Result T E → Type 0
-  VisitsEach part told limits ids now before after sharers later numbers then result =
+  -- so is each of them, one after another
+  abbrev pub VisitsEach : {I C T E : Type 0} → Part I C → (I → C → List Entry) → Limits → List I → ℕ → Room → Room → Sharers → Sharers → Meta → Meta → Result T E → Type 0
+  VisitsEach part told limits items now room full sharers later numbers then result =
       HasCleanDisk (state g new)
-      → OnOk result ((first : Meta) (owner : ℕ → ℕ) (base : Base) (rows : List (ViewKey × Content)) (beside : Beside) (es : List Entry) → IsAt limits first owner base rows beside es before sharers numbers (state g old)
-      → (last : List (ViewKey × Content)) × (end : Beside) × (further : List Entry) × IsTrail part told owner base now rows beside ids last end further × IsAt limits first owner base last end (es ++ further) after later then (state g new))
+      → OnOk result ((first : Meta) (owner : ℕ → ℕ) (before base : Base) (rows : List (ViewKey × Content)) (beside : Beside) (es : List Entry) → All (part.WasSo before) items → IsAt limits first owner base rows beside es room sharers numbers (state g old)
+      → (last : List (ViewKey × Content)) × (end : Beside) × (further : List Entry) × IsTrail part told owner before base now rows beside items last end further × IsAt limits first owner base last end (es ++ further) full later then (state g new))

@@ -1,5 +1,5 @@
-//! Upstream events visited one after another: what tables keep of each, or of its roll-up, is refreshed, and the changes are
-//! told and let go before the next one.
+//! What is shown visited item by item: what tables keep of an upstream event, of its roll-up, of a program or of a report is
+//! refreshed, and the changes are told and let go before the next one.
 #![tactic(auto)]
 
 mod kept_up;
@@ -7,4 +7,4 @@ mod tells;
 mod visit;
 
 pub use tells::Tells;
-pub use visit::{visit_events, visit_rollups};
+pub use visit::{visit_events, visit_objects, visit_rollups};

@@ -1,15 +1,15 @@
 //! What was told and what is kept, compared with what whole views give.
 use crate::held::Held;
+use crate::objects::{ObjectsTold, ven_of};
 use crate::refreshed::Told;
-use crate::touched::Touched;
 use adr_db::{RollupColumns, ShownColumns, ShownKey};
 use adr_db_shown::{read_rollup, read_shown_of};
-use adr_kept_view::{RollupChange, ShownChange};
+use adr_kept_view::{ObjectChange, RollupChange, ShownChange};
 use adr_objects::{Number, Rollup, ShownEvent, Stamps};
 use adr_shown::{write_rolled_up, write_shown};
 use adr_state::ViewKey;
 use adr_text::{ObjectId, Refusal, Table};
-use adr_view::{Change, Content, Operation, View, row_at};
+use adr_view::{Change, Content, Operation, View, changes_of, row_at};
 use sqlite::{Alter, Transaction};
 use std::alloc::{AllocError, Global};
 
@@ -29,13 +29,11 @@ fn is_same_change(change: &Change, other: &Change) -> bool {
     change.key == other.key && change.operation == other.operation
 }
 
-// Whether the changes that are told are the wanted ones at the keys of events and roll-ups, in their order.
+// Whether the changes that are told are the wanted ones, in their order.
 fn are_told(told: &[Change], wanted: &[Change]) -> bool {
-    let count = wanted.iter().filter(|change| is_kept(&change.key)).count();
-    told.len() == count
+    told.len() == wanted.len()
         && wanted
             .iter()
-            .filter(|change| is_kept(&change.key))
             .zip(told)
             .all(|(wanted, told)| is_same_change(wanted, told))
 }
@@ -113,8 +111,62 @@ fn is_right_rollup(
     Ok(text.as_str() == write_rolled_up(alloc, event, &change.rollup)?.as_str())
 }
 
+// A view with one row.
+fn view_at(alloc: Global, key: &ViewKey, content: &Content) -> Result<View, AllocError> {
+    let mut view = Table::new(alloc);
+    view.put(key.clone()?, content.clone()?)?;
+    Ok(view)
+}
+
+// Whether there is no change from one content to the other.
+fn is_same_content(
+    alloc: Global,
+    key: &ViewKey,
+    content: &Content,
+    other: Option<&Content>,
+) -> Result<bool, AllocError> {
+    let Some(other) = other else {
+        return Ok(false);
+    };
+    let one = view_at(alloc, key, content)?;
+    let two = view_at(alloc, key, other)?;
+    Ok(changes_of(alloc, &one, &two)?.is_empty())
+}
+
+fn is_right_object(
+    alloc: Global,
+    before: &Held,
+    after: &Held,
+    key: &ViewKey,
+    change: &ObjectChange,
+) -> Result<bool, AllocError> {
+    let side = side(before, after, change.operation);
+    let is_there = is_same_content(alloc, key, &change.content, row_at(&side.view, key))?;
+    let is_stamped = row_at(&side.stamps, key) == Some(&change.stamps);
+    Ok(is_there && is_stamped && ven_of(side, &change.content) == change.ven)
+}
+
+fn are_right_objects(
+    alloc: Global,
+    before: &Held,
+    after: &Held,
+    told: &ObjectsTold,
+) -> Result<bool, AllocError> {
+    for (key, change) in told {
+        if !is_right_object(alloc, before, after, key, change)? {
+            return Ok(false);
+        }
+    }
+    Ok(true)
+}
+
 // Whether what is told of each change is what the view and the stamps have there.
 fn are_right(alloc: Global, before: &Held, after: &Held, told: &Told) -> Result<bool, AllocError> {
+    if !are_right_objects(alloc, before, after, &told.programs)?
+        || !are_right_objects(alloc, before, after, &told.reports)?
+    {
+        return Ok(false);
+    }
     for (event, change) in &told.shown {
         if !is_right_shown(alloc, before, after, event, change)? {
             return Ok(false);
@@ -229,20 +281,11 @@ fn are_same_stamps(stamps: &Table<ViewKey, Stamps>, others: &Table<ViewKey, Stam
             .all(|(key, stamps)| row_at(others, key) == Some(stamps))
 }
 
-// Whether each report that changes is among those that are touched.
-fn are_touched(changes: &[Change], touched: &Touched) -> bool {
-    changes.iter().all(|change| match &change.key {
-        ViewKey::Report(number) => touched.reports.contains(number),
-        _ => true,
-    })
-}
-
-/// A step: what the tables held before it and hold behind it, what it touched, and what was told.
+/// A step: what the tables held before it and hold behind it, and what was told.
 #[derive(Clone, Copy)]
 pub struct Step<'s> {
     pub before: &'s Held,
     pub after: &'s Held,
-    pub touched: &'s Touched,
     pub told: &'s Told,
 }
 
@@ -258,9 +301,6 @@ pub fn differs_told(
     }
     if !are_right(alloc, step.before, step.after, step.told)? {
         return Ok(Some("what is told of a change"));
-    }
-    if !are_touched(&wanted.changes, step.touched) {
-        return Ok(Some("the reports that are touched"));
     }
     if !are_same_stamps(&step.after.stamps, &wanted.stamps) {
         return Ok(Some("the stamps"));

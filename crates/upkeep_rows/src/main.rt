@@ -13,6 +13,7 @@ mod dice;
 mod edit;
 mod held;
 mod made;
+mod objects;
 mod pages;
 mod play;
 mod refreshed;

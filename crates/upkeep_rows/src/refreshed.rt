@@ -1,4 +1,6 @@
 //! What is touched is refreshed, and what is told of it.
+use crate::held::Held;
+use crate::objects::{ObjectsTold, refresh_programs, refresh_reports};
 use crate::touched::Touched;
 use adr_kept_view::{RollupChange, ShownChange};
 use adr_state::ViewKey;
@@ -9,10 +11,13 @@ use sqlite::{Alter, Transaction};
 use std::alloc::{AllocError, Global};
 use std::collections::BTreeSet;
 
-/// What is told of upstream events and of roll-ups, each behind the id of the event.
+/// What is told of programs, of upstream events, of reports and of roll-ups, of events and roll-ups behind the id of the
+/// event.
 #[derive(Drop)]
 pub struct Told {
+    pub programs: ObjectsTold,
     pub shown: Vec<(ObjectId, ShownChange)>,
+    pub reports: ObjectsTold,
     pub rollups: Vec<(ObjectId, RollupChange)>,
 }
 
@@ -95,28 +100,49 @@ fn refresh_rollups<S: Alter>(
     Ok(told)
 }
 
-/// Refreshes what is kept of the events that are touched, and then their roll-ups.
+/// Refreshes the programs that are touched, what is kept of the events, the reports, and then the roll-ups of the events.
 pub fn refresh_touched<S: Alter>(
     alloc: Global,
     tx: &mut Transaction<'_, S>,
+    before: &Held,
     touched: &Touched,
     now: Moment,
 ) -> Result<Told, Refusal> {
+    let programs = refresh_programs(alloc, tx, before, &touched.programs, now)?;
     let shown = refresh_events(alloc, tx, &touched.events, now)?;
+    let reports = refresh_reports(alloc, tx, before, &touched.reports, now)?;
     let rollups = refresh_rollups(alloc, tx, &touched.events, now)?;
-    Ok(Told { shown, rollups })
+    Ok(Told {
+        programs,
+        shown,
+        reports,
+        rollups,
+    })
+}
+
+// The changes at keys of their own.
+fn add_objects(changes: &mut Vec<Change>, told: &ObjectsTold) -> Result<(), AllocError> {
+    for (key, change) in told {
+        changes.push(Change {
+            key: key.clone()?,
+            operation: change.operation,
+        })?;
+    }
+    Ok(())
 }
 
 impl Told {
     /// The changes that are told, as changes of the view.
     pub fn changes(&self, alloc: Global) -> Result<Vec<Change>, AllocError> {
         let mut changes = Vec::new(alloc);
+        add_objects(&mut changes, &self.programs)?;
         for (event, change) in &self.shown {
             changes.push(Change {
                 key: ViewKey::Event(event.copy(alloc)?, change.resource),
                 operation: change.operation,
             })?;
         }
+        add_objects(&mut changes, &self.reports)?;
         for (event, change) in &self.rollups {
             changes.push(Change {
                 key: ViewKey::Rollup(event.copy(alloc)?),

@@ -1,6 +1,6 @@
 //! One step: an edit, what is refreshed then, and what whole views give.
 use crate::choice::choose;
-use crate::compared::{Step, Wanted, differs_kept, differs_told, is_kept};
+use crate::compared::{Step, Wanted, differs_kept, differs_told};
 use crate::counts::Counts;
 use crate::dice::Dice;
 use crate::edit::Edit;
@@ -11,12 +11,11 @@ use crate::refreshed::{Told, refresh_touched};
 use crate::scene::Scene;
 use crate::touched::{Touched, add_touched};
 use adr_db::{Meta, put_meta, read_meta};
-use adr_db_state::{put_stamps, remove_stamps};
 use adr_events::view;
 use adr_objects::Kind;
 use adr_state::Limits;
 use adr_text::{Moment, ObjectId, Refusal};
-use adr_view::{Change, View, changes_of, restamped, row_at};
+use adr_view::{View, changes_of, restamped};
 use sqlite::{Alter, Transaction};
 use std::alloc::{AllocError, Global};
 
@@ -74,28 +73,6 @@ fn wanted(alloc: Global, before: &Held, after: &View, now: Moment) -> Result<Wan
     Ok(Wanted { changes, stamps })
 }
 
-// The stamps of a program or a report that changes.
-fn keep_stamps_of<S: Alter>(
-    tx: &mut Transaction<'_, S>,
-    wanted: &Wanted,
-    change: &Change,
-) -> Result<(), Refusal> {
-    match row_at(&wanted.stamps, &change.key) {
-        Some(stamps) => put_stamps(tx, &change.key, *stamps),
-        None => remove_stamps(tx, &change.key),
-    }
-}
-
-// The stamps of the programs and reports that change: their rows are kept in no table.
-fn keep_stamps<S: Alter>(tx: &mut Transaction<'_, S>, wanted: &Wanted) -> Result<(), Refusal> {
-    for change in &wanted.changes {
-        if !is_kept(&change.key) {
-            keep_stamps_of(tx, wanted, change)?;
-        }
-    }
-    Ok(())
-}
-
 // What whole views give, and what the tables hold then.
 fn settle<S: Alter>(
     alloc: Global,
@@ -105,7 +82,6 @@ fn settle<S: Alter>(
 ) -> Result<(Wanted, Held), Refusal> {
     let view = view(alloc, tx)?;
     let wanted = wanted(alloc, before, &view, now)?;
-    keep_stamps(tx, &wanted)?;
     let after = read_held_with(alloc, tx, view)?;
     Ok((wanted, after))
 }
@@ -188,13 +164,12 @@ fn follow<S: Alter>(
     touched: &Touched,
     now: Moment,
 ) -> Result<Ended, Refusal> {
-    let told = refresh_touched(alloc, tx, touched, now)?;
+    let told = refresh_touched(alloc, tx, before, touched, now)?;
     let (wanted, after) = settle(alloc, tx, before, now)?;
     world.note_told(before, &after, &told);
     let step = Step {
         before,
         after: &after,
-        touched,
         told: &told,
     };
     look(alloc, tx, &step, &wanted, world.events())

@@ -11,9 +11,10 @@ use sqlite::{Alter, Transaction};
 use std::alloc::{AllocError, Global};
 use std::collections::BTreeSet;
 
-/// Upstream events and reports, each once.
+/// Programs, upstream events and reports, each once.
 #[derive(Drop)]
 pub struct Touched {
+    pub programs: BTreeSet<ObjectId>,
     pub events: BTreeSet<ObjectId>,
     pub reports: BTreeSet<Number>,
 }
@@ -22,9 +23,15 @@ impl Touched {
     /// Nothing.
     pub fn new(alloc: Global) -> Touched {
         Touched {
+            programs: BTreeSet::new(alloc),
             events: BTreeSet::new(alloc),
             reports: BTreeSet::new(alloc),
         }
+    }
+
+    fn add_program(&mut self, program: ObjectId) -> Result<(), AllocError> {
+        self.programs.insert(program)?;
+        Ok(())
     }
 
     fn add_event(&mut self, event: ObjectId) -> Result<(), AllocError> {
@@ -37,11 +44,12 @@ impl Touched {
         Ok(())
     }
 
-    /// Adds the events of upstream keys.
+    /// Adds the programs and events of upstream keys.
     pub fn add_keys(&mut self, keys: &[MirrorKey]) -> Result<(), AllocError> {
         for key in keys {
-            if key.kind == Kind::Event {
-                self.add_event(key.id.clone()?)?;
+            match key.kind {
+                Kind::Program => self.add_program(key.id.clone()?)?,
+                Kind::Event => self.add_event(key.id.clone()?)?,
             }
         }
         Ok(())

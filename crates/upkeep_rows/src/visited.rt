@@ -38,7 +38,7 @@ fn entry_once(alloc: Global, event: &ObjectId) -> Result<Vec<Entry>, AllocError>
     Ok(vec![in alloc; entry]?)
 }
 
-impl Tells<ShownChange> for Once {
+impl Tells<ObjectId, ShownChange> for Once {
     ghost told = { told_once };
 
     fn entries(
@@ -51,7 +51,7 @@ impl Tells<ShownChange> for Once {
     }
 }
 
-impl Tells<RollupChange> for Once {
+impl Tells<ObjectId, RollupChange> for Once {
     ghost told = { told_once };
 
     fn entries(

@@ -18,15 +18,15 @@ returns-clause-refreshes g c clean =
     let id = c.args.event.now in
     let now = c.args.now in
     let early : HasCleanDisk (state g.S.Store c.find.new.tx.conn.now) = omega (arith, c.turn_each.ensures.lent.stays.crash.clean) in
-    ok_with c.turn_each.result (λ changes turns reads owner rows beside base was keeps owns right.
+    ok_with c.turn_each.result (λ changes turns reads owner rows beside before base was keeps owns so_was right.
     let it = c.in_ok-found.ensures.finds early beside base was right in
     let same : c.in_ok-found.found ≡ found_of beside base id = it.0 in
     let turned = turns (kept_beside beside base) it.2 in
     let all : All (ReadsFound (found_of beside base id)) (numbers_of (found_of beside base id)) = subst (λ (f : Found). All (ReadsFound f) (numbers_of f)) same reads in
-    let so = event_refreshed owner rows beside base now id keeps owns (held_in_order beside base _ was) all in (
+    let so = event_refreshed owner rows beside base now id keeps owns (held_in_order beside base _ was) all before in (
       with_found beside base now id (found_of beside base id),
       subst (λ (f : Found). Keeps (kept_beside (with_found beside base now id f) base) (state g.S.Store c.turn_each.new.tx.conn.now)) same turned.1,
       it.1,
-      subst (λ (cs : List ShownChange). IsRefreshed as_shown owner rows beside base now id cs (with_found beside base now id (found_of beside base id))) (sym (turned.0 ∙ ap (changes_found base.portfolio now) same)) so,
+      subst (λ (cs : List ShownChange). IsRefreshed as_shown owner rows beside before base now id cs (with_found beside base now id (found_of beside base id))) (sym (turned.0 ∙ ap (changes_found base.portfolio now) same)) so,
     ))
     (c.turn_each.ensures.turns clean) c.turn_each.ensures.reads

@@ -17,7 +17,7 @@ use Rattle.adr_upkeep.proofs.Common.{told_is}
 use Rattle.adr_upkeep.proofs.rollups.refresh_rollup_sharing.Goals as goal
 
 pub returns-clause-refreshes : goal.returns-clause-refreshes
-returns-clause-refreshes g c clean owner rows beside base was keeps right =
+returns-clause-refreshes g c clean owner rows beside before base was keeps right =
     let id = c.args.event.now in
     let now = c.args.now in
     let kept : Kept = kept_beside beside base in
@@ -32,11 +32,11 @@ returns-clause-refreshes g c clean owner rows beside base was keeps right =
     let stamps : option_copied c.as_ref-2.result ≡ at view_cmp (key.Rollup id) beside.stamps = c.as_ref-2.ensures.value ∙ two.0 ∙ ap (λ e. at view_cmp (key.Rollup e) beside.stamps) c.in_ok-copy.ensures in
     let new : option_copied c.as_ref-3.result ≡ rollup_at base.mirror base.portfolio id = c.as_ref-3.ensures.value ∙ three.0 in
     let reads : ReadsRolled id (rollup_at base.mirror base.portfolio id) = subst (ReadsRolled id) new c.in_ok-operation.ensures.reads in
-    let so = rollup_refreshed owner rows beside base now id keeps (held_in_order beside base _ was) reads in
+    let so = rollup_refreshed owner rows beside base now id keeps (held_in_order beside base _ was) reads before in
     let told : c.told.result ≡ change_of id (at id_cmp id beside.rollups) (rollup_at base.mirror base.portfolio id) =
     c.told.ensures ∙ ap₂ told_of (four.0 ∙ ap₂ (operation_of id) old new) three.0 ∙ told_is id (at id_cmp id beside.rollups) (rollup_at base.mirror base.portfolio id) in (
       with_rollup beside base now id,
       subst (λ (k : Kept). Keeps k (state g.S.Store c.turn_rollup.new.tx.conn.now)) (λ i. kept_with id now (old i) (stamps i) (new i) kept) four.1,
       three.1,
-      subst (λ (o : Option RollupChange). IsRefreshed as_rolled_up owner rows beside base now id (option_to_list o) (with_rollup beside base now id)) (sym told) so,
+      subst (λ (o : Option RollupChange). IsRefreshed as_rolled_up owner rows beside before base now id (option_to_list o) (with_rollup beside base now id)) (sym told) so,
     )

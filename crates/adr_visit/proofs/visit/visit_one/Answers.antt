@@ -10,13 +10,13 @@ use Rattle.adr_visit.proofs.visit.visit_one.Goals as goal
 
 pub returns-clause-visits : goal.returns-clause-visits
 returns-clause-visits g c clean =
-    let id = c.args.event.now in
+    let item = c.args.item.now in
     let told = g.T.Tells.told c.args.teller.now in
     let changes = c.in_ok-changes.changes in
     let early : HasCleanDisk (state g.S.Store c.refresh.new.tx.conn.now) = omega (arith, c.add.ensures.lent.stays.crash.clean) in
-    let entries : c.deref.result.now ≡ flat_map (told id) changes = c.deref.ensures.value ∙ c.in_ok-entries.ensures ∙ ap (flat_map (told id)) c.as_slice.ensures in
-    on_then c.add.result (λ adds first owner base rows beside es at.
-    let it = visited_now g.P.KeptUp.part c.args.limits.now first owner base rows beside es c.args.room.now c.args.sharers.now c.refresh.new.sharers c.args.meta.now c.args.now id changes (state g.S.Store c.args.tx.now.conn.now) (state g.S.Store c.refresh.new.tx.conn.now) at (c.in_ok-changes.ensures.refreshes early) in
+    let entries : c.deref.result.now ≡ flat_map (told item) changes = c.deref.ensures.value ∙ c.in_ok-entries.ensures ∙ ap (flat_map (told item)) c.as_slice.ensures in
+    on_then c.add.result (λ adds first owner before base rows beside es so_was at.
+    let it = visited_now g.P.KeptUp.part c.args.limits.now first owner before base rows beside es c.args.room.now c.args.sharers.now c.refresh.new.sharers c.args.meta.now c.args.now item changes (state g.S.Store c.args.tx.now.conn.now) (state g.S.Store c.refresh.new.tx.conn.now) at so_was (c.in_ok-changes.ensures.refreshes early) in
     let come = adds first (kept_beside it.0 base) es it.2.waits it.2.drawn it.2.come in (
       changes,
       it.0,
