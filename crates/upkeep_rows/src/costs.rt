@@ -172,12 +172,18 @@ fn drop_events<S: Alter>(
     Ok(())
 }
 
-// A report that says so much for the one interval of an event.
-fn report(alloc: Global, event: u64, place: u64, amount: i64) -> Result<Report, Refusal> {
+// A report that says so much for the one interval of an event. No two have one revision.
+fn report(
+    alloc: Global,
+    number: Number,
+    event: u64,
+    place: u64,
+    amount: u64,
+) -> Result<Report, Refusal> {
     let name = format!(in alloc; "resource {place}")?;
     let usage = UsageInterval {
         id: 0,
-        usage: Some(Setpoint::new(amount)?),
+        usage: Some(Setpoint::new(i64::try_from(amount).unwrap_or(0))?),
     };
     let body = ReportBody {
         head: ReportHead {
@@ -191,7 +197,7 @@ fn report(alloc: Global, event: u64, place: u64, amount: i64) -> Result<Report, 
         intervals: Rows::from_vec(vec![in alloc; usage]?),
     };
     Ok(Report {
-        revision: Number::new(1),
+        revision: Number::new(amount.wrapping_mul(10_000_000).wrapping_add(number.get())),
         body,
     })
 }
@@ -212,10 +218,11 @@ fn put_report_of<S: Alter>(
     size: Size,
     event: u64,
     place: u64,
-    amount: i64,
+    amount: u64,
 ) -> Result<(), Refusal> {
-    let report = report(alloc, event, place, amount)?;
-    put_report(tx, report_number(size, event, place), &report)
+    let number = report_number(size, event, place);
+    let report = report(alloc, number, event, place, amount)?;
+    put_report(tx, number, &report)
 }
 
 // A report of so many participants on each event, who say so much.
@@ -224,7 +231,7 @@ fn put_reports<S: Alter>(
     tx: &mut Transaction<'_, S>,
     size: Size,
     participants: u64,
-    amount: i64,
+    amount: u64,
 ) -> Result<(), Refusal> {
     for event in 0..size.events {
         for place in 0..participants {
