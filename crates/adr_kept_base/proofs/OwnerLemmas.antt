@@ -65,6 +65,7 @@ module _ (base : Base) (stands : StandsInOrder base) where
 pub as_it_changes : KeptAsItChanges
 as_it_changes beside before after stands stay keeps = (
   under_other before stands (owner_in before.portfolio) (owner_between before.portfolio after.portfolio) agree beside keeps.view,
+  λ n r is. sym (agree n r is) ∙ ap (λ o. option_map_or (λ r. r.ven) o 0) is,
   λ n r is. ap (λ o. option_map_or (λ r. r.ven) o (owner_in before.portfolio n)) is,
 )
   where

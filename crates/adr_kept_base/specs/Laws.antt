@@ -8,10 +8,11 @@ use Rattle.adr_db.specs.Bases.{Beside}
 use Rattle.adr_kept_view.specs.KeptViews.{KeepsView, Owns}
 use Rattle.adr_kept_base.specs.Bases.{KeepsShown, owner_between, VensStay}
 
--- what was shown of a base is kept under the owners between it and the one that follows, and these own what is there then
+-- what was shown of a base is kept under the owners between it and the one that follows, and these own what was there and
+-- what is there then
 abbrev pub KeptAsItChanges : Type 0
 KeptAsItChanges = (beside : Beside) (before after : Base) → StandsInOrder before → VensStay before.portfolio after.portfolio → KeepsShown beside before
-    → KeepsView (owner_between before.portfolio after.portfolio) (kept_view before) beside × Owns (owner_between before.portfolio after.portfolio) after
+    → KeepsView (owner_between before.portfolio after.portfolio) (kept_view before) beside × Owns (owner_between before.portfolio after.portfolio) before × Owns (owner_between before.portfolio after.portfolio) after
 
 -- what is shown of a base and kept under owners of what is there is kept as what is shown of it
 abbrev pub KeptOnceRefreshed : Type 0

@@ -2,7 +2,7 @@
 ghost use Rattle.adr_kept_base.specs.Laws.{KeptAsItChanges, KeptOnceRefreshed, KeptOfNothing};
 
 /// Where tables keep what is shown of a base, they keep it still once the base has changed, under owners that are those
-/// of the base then, where a resource that stays has the ven that it had: so that the refresh finds what goes.
+/// of the base before and then, where a resource that stays has the ven that it had: so that the refresh finds what goes.
 pub fn kept_as_it_changes()
     ensures { KeptAsItChanges }
 {}

@@ -1,6 +1,7 @@
 -- Visits one behind the other are one visit, and that of all sources that differ is what comparing whole views gives.
-use Rattle.std.proofs.Common.{◌≡◌, ℕ, true, cond, List, [], ◌∷◌, ◌++◌, None, Less, refl, sym, ap, ap₂, subst, ◌∙◌}
+use Rattle.std.proofs.Common.{◌≡◌, ◌+◌, ℕ, true, cond, List, [], ◌∷◌, ◌++◌, length, None, Less, refl, sym, ap, ap₂, subst, ◌∙◌}
 use Rattle.std.specs.List.{All}
+use Rattle.std.proofs.lemmas.List.{length-append}
 use Rattle.std.proofs.lemmas.List.Concat.{flat_map-append}
 use Rattle.std.proofs.lemmas.List.Elements.{All-head, All-tail}
 use Rattle.std.proofs.lemmas.List.Sums.{fold-append}
@@ -8,13 +9,16 @@ use Rattle.adr_objects.specs.declared.shown.Stamps.{Stamps}
 use Rattle.adr_state.specs.declared.base.Base.{Base}
 use Rattle.adr_state.specs.declared.keys.ViewKey.{ViewKey}
 use Rattle.adr_view.specs.declared.view.Content.{Content}
+use Rattle.adr_view.specs.Changes.{changes}
 use Rattle.adr_view.specs.Laws.{StandsInOrder}
 use Rattle.adr_view.specs.Views.{view}
 use Rattle.adr_refresh.specs.Refresh.{Books, AreStamped, is_kept, kept_view, refreshed, refreshed_each}
+use Rattle.adr_refresh.specs.Laws.{changes_in_turn}
 use Rattle.adr_refresh.specs.Sources.{Source, source_cmp, source_of, is_of, rows_of}
 use Rattle.adr_refresh.proofs.Common.{at, view_cmp, view_exact, view_total}
 use Rattle.adr_refresh.proofs.MapLemmas.{at-rows_at}
 use Rattle.adr_refresh.proofs.RefreshLemmas.{at-kept, at-stamps, refreshed_as_computed, stamps_given_back}
+use Rattle.adr_refresh.proofs.TurnLemmas.{changes_in_their_turn}
 use Rattle.adr_refresh.proofs.SourceLemmas.{its_source}
 use Rattle.adr_refresh.proofs.ViewLemmas.{view_of_sources}
 use Rattle.adr_kept_view.specs.KeptViews.{KeepsView}
@@ -26,11 +30,15 @@ use Rattle.adr_told.proofs.Trails.{apart, same_books}
 use Rattle.adr_told.proofs.Turns.{told_in_turn}
 
 pub joined : VisitsJoin
-joined client subs owner before stamps after now ss ts rows middle last beside between end es fs one two =
+joined client subs owner before stamps after now ss ts rows middle last beside between end es fs many others one two =
     let first : Books = record { kept = rows; told = []; stamps = beside.stamps } in
     let so = same_books before after now (record { kept = middle; told = []; stamps = between.stamps }) (refreshed_each before after now first ss) one.kept one.stamped ts in
     let all = fold-append (refreshed before after now) first ss ts in
     record {
+      counted =
+          ap₂ (λ (m n : ℕ). m + n) one.counted two.counted
+          ∙ sym (length-append (changes_in_turn before after ss) (changes_in_turn before after ts))
+          ∙ ap length (sym (flat_map-append (λ s. changes (rows_of before s) (rows_of after s)) ss ts));
       entries = ap₂ (λ (a b : List _). a ++ b) one.entries two.entries ∙ sym (flat_map-append (entries_of_source client subs before stamps after now) ss ts);
       kept = two.kept ∙ so.0 ∙ ap (λ (b : Books). b.kept) (sym all);
       stamped = two.stamped ∙ so.1 ∙ ap (λ (b : Books). b.stamps) (sym all);
@@ -54,7 +62,7 @@ module _ (before after : Base) (stands : StandsInOrder after) (now : ℕ) (t : S
       stamped_still ss (refreshed before after now books s) (All-tail (λ s. source_cmp s t ≡ Less) s ss less) ∙ at-stamps before after stands now k books s ∙ rw other refl
 
 pub others_untouched : OthersStayUntouched
-others_untouched client subs owner before stamps after now ss t rows last beside end es stands less untouched visited =
+others_untouched client subs owner before stamps after now ss t rows last beside end es many stands less untouched visited =
     let first : Books = record { kept = rows; told = []; stamps = beside.stamps } in
     record {
       kept = λ kept k is. ap (at view_cmp k) visited.kept ∙ kept_still before after stands now t k is ss first less ∙ untouched.kept kept k is;
@@ -75,14 +83,15 @@ none_touched before beside s stands = record {
 -- ---- in all
 
 pub as_computed : VisitedIsAsComputed
-as_computed client subs before after now ss last beside end es stands_before stands vens up stay keeps visited =
+as_computed client subs before after now ss last beside end es many stands_before stands vens up stay keeps visited =
     let owner = owner_between before.portfolio after.portfolio in
     let whole = refreshed_as_computed before after now beside.stamps ss stands_before stands stay keeps.stamped in
     let kept_is : last ≡ kept_view after = visited.kept ∙ ap (λ (b : Books). b.kept) whole in
     let stamps_are = visited.stamped ∙ ap (λ (b : Books). b.stamps) whole in
     record {
+      counted = visited.counted ∙ ap length (sym (changes_in_their_turn before after ss stands_before stands up stay));
       entries = visited.entries ∙ sym (told_in_turn client subs before beside.stamps after now ss stands_before stands up stay);
       stamps = stamps_are;
       alone = visited.alone;
-      keeps = once_refreshed owner end after stands (as_it_changes beside before after stands_before vens keeps).1 (subst (λ (rows : List (ViewKey × Content)). KeepsView owner rows end) kept_is visited.keeps) (subst (λ (stamps : List (ViewKey × Stamps)). AreStamped stamps after) (sym stamps_are) (stamps_given_back before after now beside.stamps));
+      keeps = once_refreshed owner end after stands (as_it_changes beside before after stands_before vens keeps).2 (subst (λ (rows : List (ViewKey × Content)). KeepsView owner rows end) kept_is visited.keeps) (subst (λ (stamps : List (ViewKey × Stamps)). AreStamped stamps after) (sym stamps_are) (stamps_given_back before after now beside.stamps));
     }

@@ -1,5 +1,5 @@
 -- What is told of a change of a program or of a report is what the machine tells of it.
-use Rattle.std.proofs.Common.{◌≡◌, ℕ, List, [], Option, Some, None, refl, sym, ap, ◌∙◌}
+use Rattle.std.proofs.Common.{◌≡◌, ℕ, List, [], Option, Some, None, refl, sym, ap, ◌∙◌, length}
 use Rattle.std.specs.Prelude.{option_and_then}
 use Rattle.std.specs.List.{flat_map}
 use Rattle.std.specs.Option.{option_map_or}
@@ -34,7 +34,7 @@ use Rattle.adr_kept_view.specs.declared.object.ObjectKey.TheVariants as object
 use Rattle.adr_kept_view.specs.declared.object.OldObject.{OldObject}
 use Rattle.adr_kept_view.specs.Objects.{view_key, shown_at, ven_of, StoodIn, IsObjectTold, object_told, as_object}
 use Rattle.adr_kept_view.specs.Refreshed.{books_behind, judged_in, Sides, IsRefreshed}
-use Rattle.adr_told.specs.Laws.{ObjectIsToldAsWhole, IsUntouched, side_before, side_after, entries_of_source}
+use Rattle.adr_told.specs.Laws.{ObjectIsToldAsWhole, IsUntouched, side_before, side_after, IsToldAsWhole}
 use Rattle.adr_told.specs.Told.{noticed, object_entries}
 use Rattle.adr_told.proofs.Whole.{was_shown, is_shown, stamped_there, told_as_whole}
 
@@ -103,7 +103,7 @@ module _ (client : List ℕ) (subs : List (ℕ × Sub)) (owner : ℕ → ℕ) (b
       let stamped : at view_cmp k (side c.operation).stamps ≡ Some c.stamps = stamped_there client subs before stamps after now s rows beside stands_before stands up untouched k (source_itself s) c.operation ∙ told.stamped in
       sym (ap (λ (o : Option Content). option_map_or (entries_at client subs (side c.operation) c.operation k) o []) shown ∙ at_key client subs c.operation c.stamps c.ven (side c.operation) old.key c.content stamped (owned_on c.operation c.content c.ven told.owned))
 
-  told_all : (later : Beside) (cs : List ObjectChange) → IsRefreshed as_object owner rows beside before after now old cs later → flat_map (object_entries subs old) cs ≡ entries_of_source client subs before stamps after now s
+  told_all : (later : Beside) (cs : List ObjectChange) → IsRefreshed as_object owner rows beside before after now old cs later → IsToldAsWhole client subs before stamps after now s (length cs) (flat_map (object_entries subs old) cs)
   told_all later cs refreshed =
       told_as_whole client subs before stamps after now s rows beside stands_before stands up untouched (object_told old) (object_entries subs old) cs refreshed.told
       (All-weaker (IsObjectTold sides books old) (λ c. object_entries subs old c ≡ one c) (λ c told. told_one c told) cs refreshed.each)

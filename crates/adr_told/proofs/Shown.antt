@@ -1,5 +1,5 @@
 -- What is told of a change of what a resource is shown is what the machine tells of it.
-use Rattle.std.proofs.Common.{◌≡◌, ℕ, List, [], Option, Some, refl, sym, ap, ◌∙◌}
+use Rattle.std.proofs.Common.{◌≡◌, ℕ, List, [], Option, Some, refl, sym, ap, ◌∙◌, length}
 use Rattle.std.specs.Prelude.{option_map, option_and_then}
 use Rattle.std.specs.List.{flat_map}
 use Rattle.std.specs.Option.{option_map_or}
@@ -36,7 +36,7 @@ use Rattle.adr_kept_view.specs.declared.change.ShownChange.{ShownChange}
 use Rattle.adr_kept_view.specs.KeptViews.{Owns}
 use Rattle.adr_kept_view.specs.Refreshed.{books_behind, IsTold, told_row, IsRefreshed, as_shown}
 use Rattle.adr_kept_view.proofs.OwnerLemmas.{resource_there}
-use Rattle.adr_told.specs.Laws.{EventIsToldAsWhole, IsUntouched, side_before, side_after, entries_of_source}
+use Rattle.adr_told.specs.Laws.{EventIsToldAsWhole, IsUntouched, side_before, side_after, IsToldAsWhole}
 use Rattle.adr_told.specs.Told.{shown_entries}
 use Rattle.adr_told.proofs.Whole.{shown_there, stamped_there, told_as_whole}
 
@@ -90,7 +90,7 @@ module _ (client : List ℕ) (subs : List (ℕ × Sub)) (owner : ℕ → ℕ) (b
       let stamped : at view_cmp q (side c.operation).stamps ≡ Some c.stamps = stamped_there client subs before stamps after now s rows beside stands_before stands up untouched q (source_itself s) c.operation ∙ told.stamps in
       sym (told_on client subs id c (side c.operation) shown stamped (its_owner c.operation c.resource (content.Event c.shown) shown ∙ ap (λ ven. Some ven) told.ven))
 
-  told_all : (later : Beside) (cs : List ShownChange) → IsRefreshed as_shown owner rows beside before after now id cs later → flat_map (shown_entries subs id) cs ≡ entries_of_source client subs before stamps after now s
+  told_all : (later : Beside) (cs : List ShownChange) → IsRefreshed as_shown owner rows beside before after now id cs later → IsToldAsWhole client subs before stamps after now s (length cs) (flat_map (shown_entries subs id) cs)
   told_all later cs refreshed =
       told_as_whole client subs before stamps after now s rows beside stands_before stands up untouched (told_row id) (shown_entries subs id) cs refreshed.told
       (All-weaker (IsTold owner rows beside.stamps books id) (λ c. shown_entries subs id c ≡ one c) (λ c told. told_one c told) cs refreshed.each)

@@ -1,6 +1,7 @@
 -- Where a source is refreshed that was not yet touched, what is told of what is answered is what the machine tells of it.
-use Rattle.std.proofs.Common.{◌≡◌, ℕ, Bool, true, false, cond, ⊎_elim, List, [], ◌∷◌, ◌++◌, map, refl, sym, ap, ap₂, ◌∙◌}
+use Rattle.std.proofs.Common.{◌≡◌, ℕ, Bool, true, false, cond, ⊎_elim, List, [], ◌∷◌, ◌++◌, map, length, refl, sym, ap, ap₂, ◌∙◌}
 use Rattle.std.specs.List.{All, flat_map}
+use Rattle.std.proofs.lemmas.List.{length-map}
 use Rattle.std.proofs.lemmas.List.Elements.{All-head, All-tail}
 use Rattle.adr_objects.specs.declared.shown.Stamps.{Stamps}
 use Rattle.adr_subscription.specs.declared.kept_sub.Sub.{Sub}
@@ -28,7 +29,7 @@ use Rattle.adr_refresh.proofs.TurnLemmas.{as_change, back}
 use Rattle.adr_refresh.proofs.ViewLemmas.{view_of_sources}
 use Rattle.adr_db.specs.Bases.{Beside}
 use Rattle.adr_kept_view.specs.Refreshed.{books_behind, judged_in}
-use Rattle.adr_told.specs.Laws.{IsUntouched, side_before, side_after, entries_of_source}
+use Rattle.adr_told.specs.Laws.{IsUntouched, IsToldAsWhole, side_before, side_after}
 
 same_each : {A B : Type 0} (f g : A → List B) (xs : List A) → All (λ x. f x ≡ g x) xs → flat_map f xs ≡ flat_map g xs
 same_each f g [] each = refl
@@ -111,13 +112,21 @@ module _ (client : List ℕ) (subs : List (ℕ × Sub)) (before : Base) (stamps 
 
   -- ---- in all
 
+  -- as many are told as there are changes of the source
+  counted : {C : Type 0} (row : C → ViewKey × Operation) (cs : List C) → map row cs ≡ books.told → length cs ≡ length (changes (rows_of before s) (rows_of after s))
+  counted row cs told = sym (length-map cs row) ∙ ap length (told ∙ told_is) ∙ length-map (changes (rows_of before s) (rows_of after s)) as_row
+
   pub told_as_whole : {C : Type 0} (row : C → ViewKey × Operation) (entries : C → List Entry) (cs : List C) → map row cs ≡ books.told
       → All (λ c. entries c ≡ entries_of_change client subs sides_before sides_after (as_change (row c))) cs
-      → flat_map entries cs ≡ entries_of_source client subs before stamps after now s
+      → IsToldAsWhole client subs before stamps after now s (length cs) (flat_map entries cs)
   told_as_whole row entries cs told each =
       let one : Change → List Entry = entries_of_change client subs sides_before sides_after in
-      same_each entries (λ c. one (as_change (row c))) cs each
-      ∙ sym (flat_of_map (λ r. one (as_change r)) row cs)
-      ∙ ap (flat_map (λ r. one (as_change r))) (told ∙ told_is)
-      ∙ sym (flat_of_map one as_change (map as_row (changes (rows_of before s) (rows_of after s))))
-      ∙ ap (flat_map one) (back (changes (rows_of before s) (rows_of after s)))
+      record {
+        counted = counted row cs told;
+        entries =
+            same_each entries (λ c. one (as_change (row c))) cs each
+            ∙ sym (flat_of_map (λ r. one (as_change r)) row cs)
+            ∙ ap (flat_map (λ r. one (as_change r))) (told ∙ told_is)
+            ∙ sym (flat_of_map one as_change (map as_row (changes (rows_of before s) (rows_of after s))))
+            ∙ ap (flat_map one) (back (changes (rows_of before s) (rows_of after s)));
+      }

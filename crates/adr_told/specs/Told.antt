@@ -55,8 +55,3 @@ noticed _ done ven stamps _ = None
 -- the entries of a change of it
 abbrev pub object_entries : List (ℕ × Sub) → OldObject → ObjectChange → List Entry
 object_entries subs old c = entries_noticed subs (noticed old.key (operation_kind c.operation) c.ven c.stamps c.content)
-
--- the node's name, and the subscriptions that there are: by these it is told
-pub record Telling : Type 0 where
-  pub client : List ℕ
-  pub subs : List (ℕ × Sub)

@@ -17,27 +17,26 @@ use adr_written::{write_event_notice, write_program_notice, write_report_notice}
 use std::alloc::{AllocError, Global};
 use std::marker::Model;
 
-/// The node's name, under which a roll-up is told to the utility, and the subscriptions that there are.
+/// The node's name, under which a roll-up is told to the utility.
 #[derive(Drop)]
 pub struct Teller<'t> {
     client: &'t Name,
-    subs: &'t Table<Number, Sub>,
 }
 
 impl<'t> Model for Teller<'t> {
-    ghost use Rattle.adr_told.specs.Told.{Telling};
+    ghost use Rattle.std.specs.Prelude.{ℕ, List};
 
-    ghost Value = { Telling };
+    ghost Value = { List ℕ };
 
-    ghost view = { λ t. record { client = t.client.now; subs = t.subs.now } };
+    ghost view = { λ t. t.client.now };
 }
 
 impl<'t> Teller<'t> {
-    /// Those two.
-    pub fn new(client: &'t Name, subs: &'t Table<Number, Sub>) -> Teller<'t>
-        ensures { result ≡ record { client = client.now; subs = subs.now } }
+    /// Who tells under that name.
+    pub fn new(client: &'t Name) -> Teller<'t>
+        ensures { result ≡ client.now }
     {
-        Teller { client, subs }
+        Teller { client }
     }
 }
 
@@ -77,25 +76,27 @@ fn notice_of(alloc: Global, event: &ObjectId, change: &ShownChange) -> Result<No
 }
 
 impl Tells<ObjectId, ShownChange> for Teller<'_> {
-    ghost told = { λ t id c. shown_entries t.subs id c };
+    ghost told = { λ client subs id c. shown_entries subs id c };
 
     fn entries(
         &self,
         alloc: Global,
+        subs: &Table<Number, Sub>,
         event: &ObjectId,
         change: &ShownChange,
     ) -> Result<Vec<Entry>, AllocError> {
         let notice = notice_of(alloc, event, change)?;
-        entries_of(alloc, self.subs, &notice)
+        entries_of(alloc, subs, &notice)
     }
 }
 
 impl Tells<ObjectId, RollupChange> for Teller<'_> {
-    ghost told = { λ t id c. rollup_entries t.client id c };
+    ghost told = { λ client subs id c. rollup_entries client id c };
 
     fn entries(
         &self,
         alloc: Global,
+        _subs: &Table<Number, Sub>,
         event: &ObjectId,
         change: &RollupChange,
     ) -> Result<Vec<Entry>, AllocError> {
@@ -176,16 +177,17 @@ fn object_notice(
 }
 
 impl Tells<OldObject, ObjectChange> for Teller<'_> {
-    ghost told = { λ t old c. object_entries t.subs old c };
+    ghost told = { λ client subs old c. object_entries subs old c };
 
     fn entries(
         &self,
         alloc: Global,
+        subs: &Table<Number, Sub>,
         old: &OldObject,
         change: &ObjectChange,
     ) -> Result<Vec<Entry>, AllocError> {
         match object_notice(alloc, &old.key, change)? {
-            Some(notice) => entries_of(alloc, self.subs, &notice),
+            Some(notice) => entries_of(alloc, subs, &notice),
             None => Ok(Vec::new(alloc)),
         }
     }

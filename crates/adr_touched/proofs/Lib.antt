@@ -5,3 +5,7 @@ pub mod Found
 pub mod Live
 pub mod Covered
 pub mod Evidence
+pub mod InOrder
+pub mod Stands
+pub mod Edits
+pub mod Marked

@@ -1,5 +1,5 @@
--- A visit goes on: an event is refreshed behind entries that came so far.
-use Rattle.std.proofs.Common.{inl, inr, ℕ, List, refl, subst}
+-- A visit goes on: an item is refreshed behind entries that came so far.
+use Rattle.std.proofs.Common.{◌≡◌, ◌==◌, eqb-true, inl, inr, ℕ, true, List, [], ◌∷◌, length, refl, subst, arith}
 use Rattle.sqlite.specs.State.{State}
 use Rattle.adr_delivery.specs.declared.entry.Entry.{Entry}
 use Rattle.adr_delivery.specs.declared.outbox.Outbox.{Outbox}
@@ -17,11 +17,16 @@ use Rattle.adr_kept_view.specs.KeptViews.{KeepsView, Owns}
 use Rattle.adr_kept_view.specs.Refreshed.{books_behind, with_books, Part, IsRefreshed}
 use Rattle.adr_upkeep.specs.declared.sharers.Sharers.{Sharers}
 use Rattle.adr_upkeep.specs.Sharing.{AreThoseOf}
-use Rattle.adr_room.specs.declared.room.Room.{Room}
 use Rattle.adr_room.specs.Rooms.{AreAppended}
+use Rattle.adr_visit.specs.declared.visit.Visit.{Visit}
 use Rattle.adr_visit.specs.Visits.{IsAt}
 
-module _ {I C : Type 0} (part : Part I C) (limits : Limits) (first : Meta) (owner : ℕ → ℕ) (before base : Base) (rows : List (ViewKey × Content)) (beside : Beside) (es : List Entry) (room : Room) (sharers after : Sharers) (numbers : Meta) (now : ℕ) (item : I) (changes : List C) (old new : State) where
+-- a list that has no item is empty
+pub none_of : {A : Type 0} (xs : List A) → (length xs == 0) ≡ true → xs ≡ []
+none_of [] is = refl
+none_of (x ∷ xs) is = absurd (let none : length (x ∷ xs) ≡ 0 = eqb-true (length (x ∷ xs)) 0 is in omega (arith, none))
+
+module _ {I C : Type 0} (part : Part I C) (limits : Limits) (first : Meta) (owner : ℕ → ℕ) (before base : Base) (rows : List (ViewKey × Content)) (beside : Beside) (es : List Entry) (visit : Visit) (after : Sharers) (numbers : Meta) (now : ℕ) (item : I) (changes : List C) (old new : State) where
   abbrev books : Books
   books = books_behind rows beside before base now (part.source item)
 
@@ -30,10 +35,10 @@ module _ {I C : Type 0} (part : Part I C) (limits : Limits) (first : Meta) (owne
 
   -- what a refresh says that is begun there
   abbrev pub Refreshes : Type 0
-  Refreshes = (owner : ℕ → ℕ) (rows : List (ViewKey × Content)) (beside : Beside) (before base : Base) → HoldsBeside beside base old → KeepsView owner rows beside → Owns owner base → part.WasSo before item → AreThoseOf (kept_beside beside base) sharers
+  Refreshes = (owner : ℕ → ℕ) (rows : List (ViewKey × Content)) (beside : Beside) (before base : Base) → HoldsBeside beside base old → KeepsView owner rows beside → Owns owner base → part.WasSo before item → AreThoseOf (kept_beside beside base) visit.sharers
       → (later : Beside) × HoldsBeside later base new × AreThoseOf (kept_beside later base) after × IsRefreshed part owner rows beside before base now item changes later
 
-  module _ (at : IsAt limits first owner base rows beside es room sharers numbers old) (so_was : part.WasSo before item) (refreshes : Refreshes) where
+  module _ (at : IsAt limits first owner base rows beside es visit numbers old) (so_was : part.WasSo before item) (refreshes : Refreshes) where
     -- beside the entries of an outbox
     abbrev beside_with : Outbox → Beside
     beside_with o = record beside { entries = o.entries; remotes = o.remotes }
@@ -50,7 +55,7 @@ module _ {I C : Type 0} (part : Part I C) (limits : Limits) (first : Meta) (owne
 
     carry : (o : Outbox) → Keeps (with_outbox o (kept_beside beside base)) old → Keeps (with_outbox o (kept_beside middle base)) new
     carry o held =
-        let so = refreshes owner rows (beside_with o) before base held (keeps_with o) at.owns so_was at.right in
+        let so = refreshes owner rows (beside_with o) before base held (keeps_with o) at.owns so_was at.sharing in
         subst (λ (b : Beside). Keeps (kept_beside b base) new) so.3.tables so.1
 
     carried : AreAppended limits first numbers (kept_beside beside base) es old → AreAppended limits first numbers (kept_beside middle base) es new
@@ -62,7 +67,7 @@ module _ {I C : Type 0} (part : Part I C) (limits : Limits) (first : Meta) (owne
 
     refreshed : IsRefreshed part owner rows beside before base now item changes middle
     refreshed =
-        let so = refreshes owner rows (beside_with some) before base at.come.tables.1 (keeps_with some) at.owns so_was at.right in
+        let so = refreshes owner rows (beside_with some) before base at.come.tables.1 (keeps_with some) at.owns so_was at.sharing in
         let keeps : KeepsView owner books.kept (with_books owner books (beside_with some)) = subst (λ (b : Beside). KeepsView owner books.kept b) so.3.tables so.3.keeps in
         record {
           tables = refl;
@@ -71,9 +76,9 @@ module _ {I C : Type 0} (part : Part I C) (limits : Limits) (first : Meta) (owne
           each = so.3.each;
         }
 
-    pub visited_now : (m : Beside) × IsRefreshed part owner rows beside before base now item changes m × IsAt limits first owner base books.kept m es room after numbers new
+    pub visited_now : (m : Beside) × IsRefreshed part owner rows beside before base now item changes m × IsAt limits first owner base books.kept m es (record visit { sharers = after }) numbers new
     visited_now =
-        let so = refreshes owner rows (beside_with some) before base at.come.tables.1 (keeps_with some) at.owns so_was at.right in (
+        let so = refreshes owner rows (beside_with some) before base at.come.tables.1 (keeps_with some) at.owns so_was at.sharing in (
           middle,
           refreshed,
           record {
@@ -84,7 +89,8 @@ module _ {I C : Type 0} (part : Part I C) (limits : Limits) (first : Meta) (owne
             };
             keeps = refreshed.keeps;
             owns = at.owns;
-            right = so.2;
+            sharing = so.2;
+            listening = at.listening;
             waits = at.waits;
             drawn = at.drawn;
           },

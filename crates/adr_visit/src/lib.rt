@@ -3,8 +3,11 @@
 #![tactic(auto)]
 
 mod kept_up;
+mod listeners;
 mod tells;
 mod visit;
+mod visits;
 
 pub use tells::Tells;
-pub use visit::{visit_events, visit_objects, visit_rollups};
+pub use visit::Visit;
+pub use visits::{visit_events, visit_objects, visit_rollups};

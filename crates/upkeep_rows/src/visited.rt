@@ -14,12 +14,11 @@ use adr_db_shown::{read_rollup, read_shown_of, remove_rollup, remove_shown};
 use adr_db_state::remove_stamps;
 use adr_delivery::{Addressee, Entry};
 use adr_kept_view::{RollupChange, ShownChange};
-use adr_room::Room;
+use adr_objects::Number;
 use adr_state::{Limits, ViewKey};
-use adr_subscription::{FreeText, OperationKind};
-use adr_text::{Moment, ObjectId, Refusal};
-use adr_upkeep::Sharers;
-use adr_visit::{Tells, visit_events, visit_rollups};
+use adr_subscription::{FreeText, OperationKind, Sub};
+use adr_text::{Moment, ObjectId, Refusal, Table};
+use adr_visit::{Tells, Visit, visit_events, visit_rollups};
 use sqlite::{Alter, Transaction};
 use std::alloc::{AllocError, Global};
 
@@ -44,6 +43,7 @@ impl Tells<ObjectId, ShownChange> for Once {
     fn entries(
         &self,
         alloc: Global,
+        _subs: &Table<Number, Sub>,
         event: &ObjectId,
         _change: &ShownChange,
     ) -> Result<Vec<Entry>, AllocError> {
@@ -57,6 +57,7 @@ impl Tells<ObjectId, RollupChange> for Once {
     fn entries(
         &self,
         alloc: Global,
+        _subs: &Table<Number, Sub>,
         event: &ObjectId,
         _change: &RollupChange,
     ) -> Result<Vec<Entry>, AllocError> {
@@ -126,31 +127,15 @@ pub fn visit_all<S: Alter>(
     }
     let mut meta = read_meta(tx)?;
     let before = meta.pending;
-    let mut room = Room::new(limits, &meta);
-    let mut sharers = Sharers::none(alloc);
+    let mut visit = Visit::new(alloc, limits, &meta);
     visit_events(
-        alloc,
-        tx,
-        &Once,
-        limits,
-        &mut meta,
-        &mut room,
-        &mut sharers,
-        &events,
-        now,
+        alloc, tx, &Once, limits, &mut meta, &mut visit, &events, now,
     )?;
     visit_rollups(
-        alloc,
-        tx,
-        &Once,
-        limits,
-        &mut meta,
-        &mut room,
-        &mut sharers,
-        &events,
-        now,
+        alloc, tx, &Once, limits, &mut meta, &mut visit, &events, now,
     )?;
-    room.close()?;
+    visit.close()?;
     let told = meta.pending.wrapping_sub(before);
-    Ok(told == kept_count(&held) && are_kept(alloc, tx, &held, &events)?)
+    let is_counted = told == visit.changes() && told == kept_count(&held);
+    Ok(is_counted && are_kept(alloc, tx, &held, &events)?)
 }

@@ -6,7 +6,7 @@ use Rattle.adr_told.proofs.Trails.{trail_as_whole}
 use Rattle.adr_told.proofs.laws.events_are_told_as_whole.Goals as goal
 
 pub returns : goal.returns
-returns c client subs owner before stamps after now ids rows beside last end es stands_before stands owned_before owned up keeps untouched trail =
+returns c client subs owner before stamps after now ids rows beside last end es many stands_before stands owned_before owned up keeps untouched trail =
     trail_as_whole as_shown (shown_entries subs) client subs owner before stamps after now stands
     (λ id rows beside later cs so keeps untouched refreshed. event_as_whole client subs owner before stamps after now id rows beside later cs stands_before stands owned_before owned keeps untouched refreshed)
-    ids rows beside last end es up (each_there (λ id. Unit {0}) ids (λ id there. tt)) keeps untouched trail
+    ids rows beside last end es many up (each_there (λ id. Unit {0}) ids (λ id there. tt)) keeps untouched trail

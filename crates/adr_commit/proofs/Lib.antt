@@ -1,0 +1,4 @@
+pub mod Sorted
+pub mod Visited
+pub mod Ended
+pub mod Quiet
