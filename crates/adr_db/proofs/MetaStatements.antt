@@ -11,7 +11,7 @@ use Rattle.adr_db.proofs.Tables.{meta, meta_keyed}
 puts : (m : Meta) → IsUpsertText schema 0 meta PUT.now (meta_numbers m) (meta_row m)
 unfolding understood everything
 puts m = record {
-  terms = lit Null ∷ lit (number 1) ∷ lit (number 0) ∷ col 0 0 ∷ col 0 1 ∷ col 0 2 ∷ col 0 3 ∷ col 0 4 ∷ col 0 5 ∷ col 0 6 ∷ col 0 7 ∷ lit (number 0) ∷ [];
+  terms = lit Null ∷ lit (number 1) ∷ lit (number 1) ∷ col 0 0 ∷ col 0 1 ∷ col 0 2 ∷ col 0 3 ∷ col 0 4 ∷ col 0 5 ∷ col 0 6 ∷ col 0 7 ∷ lit (number 0) ∷ [];
   met = 8;
   sets = col 0 10 ∷ col 0 11 ∷ col 0 12 ∷ col 0 13 ∷ col 0 14 ∷ col 0 15 ∷ col 0 16 ∷ col 0 17 ∷ col 0 18 ∷ col 0 19 ∷ col 0 20 ∷ [];
   command = refl;

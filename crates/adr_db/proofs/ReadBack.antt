@@ -1,17 +1,16 @@
--- A state that the tables hold is what they hold, read back.
+-- What the tables keep is what they hold, read back.
 use Rattle.std.proofs.Common.{◌≡◌, List, Option, None, Some, cond, refl, ap, ◌∙◌}
 use Rattle.std.specs.Prelude.{is_some}
 use Rattle.sqlite.specs.Effect.{Database}
 use Rattle.sqlite.specs.State as sql
 use Rattle.adr_db.proofs.Common.{map_back, Stamps, MirrorKey, ViewKey}
 use Rattle.adr_state.specs.declared.base.Base.{Base}
-use Rattle.adr_state.specs.declared.state.State.{State}
 use Rattle.adr_sql.proofs.Stored.{contents_again}
 use Rattle.adr_db.specs.declared.meta.Meta.{Meta}
 use Rattle.adr_db.specs.Tables.{schema}
 use Rattle.adr_db.specs.Rows.{key_row, ven_row, resource_row, share_row, stamp_row, remote_row, entry_row, shown_row, rollup_row}
-use Rattle.adr_db.specs.Kept.{Kept, Keeps, first_meta, contents_of}
-use Rattle.adr_db.specs.Bases.{keys_polled, with_base, counting, Beside, kept_beside, beside_of, kept_of, HoldsState}
+use Rattle.adr_db.specs.Kept.{Kept, Keeps, contents_of}
+use Rattle.adr_db.specs.Bases.{keys_polled, with_base, Beside, kept_beside}
 use Rattle.adr_db.specs.Images.{base_of, image_kept}
 use Rattle.adr_db.specs.ReadBack.{key_in, numbered_in, ven_in, resource_in, share_in, stamped_in, remote_in, waiting_in, shown_in, rollup_in, kept_from, kept_in, state_in}
 use Rattle.adr_db.proofs.Rows.{meta_again, key_again, view_key_again}
@@ -59,13 +58,6 @@ scan_again (Some keys) = refl
 -- a base that is kept beside anything, with numbers that are its own
 pub base_again : (numbers : Meta) (beside : Beside) (base : Base) → base_of (with_base numbers base) (kept_beside beside base) ≡ base
 base_again numbers beside base = ap (λ (scan : Option (List MirrorKey)). record base { scan = scan }) (scan_again base.scan)
-
-pub image_again : (held : State) → image_kept (kept_of held) ≡ held
-image_again held = ap (λ (base : Base). record held { base = base }) (base_again (counting held.outbox first_meta) (beside_of held) held.base)
-
-pub state_again : (held : State) (s : sql.State) → HoldsState held s → state_in s ≡ held
-unfolding state_in
-state_again held s was = ap image_kept (kept_again (kept_of held) s was) ∙ image_again held
 
 -- where nothing was written, nothing else is read back
 pub state_same : (a b : sql.State) → b.now ≡ a.now → state_in b ≡ state_in a

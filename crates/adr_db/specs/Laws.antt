@@ -1,10 +1,9 @@
--- What is true of what the tables hold.
+-- What is true of what the tables keep.
 use Rattle.std.specs.Prelude.{◌≡◌}
 use Rattle.sqlite.specs.State as sql
-use Rattle.adr_state.specs.declared.state.State.{State}
-use Rattle.adr_db.specs.Bases.{HoldsState}
-use Rattle.adr_db.specs.ReadBack.{state_in}
+use Rattle.adr_db.specs.Kept.{Kept, Keeps}
+use Rattle.adr_db.specs.ReadBack.{kept_in}
 
--- a state that the tables hold is what they hold, read back
-abbrev pub StateReadsBack : sql.State → Type 0
-StateReadsBack s = (held : State) → HoldsState held s → state_in s ≡ held
+-- what the tables keep is what they hold, read back
+abbrev pub KeptReadsBack : sql.State → Type 0
+KeptReadsBack s = (kept : Kept) → Keeps kept s → kept_in s.now.trees ≡ kept

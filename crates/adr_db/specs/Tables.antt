@@ -185,4 +185,4 @@ schema = schema_of tables
 
 -- the version of these tables: a file that was kept with another one is no file of this node
 abbrev pub version : ℕ
-version = 0
+version = 1

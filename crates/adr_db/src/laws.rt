@@ -1,11 +1,11 @@
-//! What is true of what the tables hold.
+//! What is true of what the tables keep.
 ghost use Rattle.sqlite.specs.Held.{state};
-ghost use Rattle.adr_db.specs.Laws.{StateReadsBack};
+ghost use Rattle.adr_db.specs.Laws.{KeptReadsBack};
 
 use sqlite::{Alter, Connection};
 
-/// A state that the tables hold is what they hold, read back: so they hold one at most, and it is a function of what the
+/// What the tables keep is what they hold, read back: so they keep one thing at most, and it is a function of what the
 /// store shows.
-pub fn what_is_held_reads_back<S: Alter>(conn: &Connection<S>)
-    ensures { StateReadsBack (state S.Store conn.now) }
+pub fn what_is_kept_reads_back<S: Alter>(conn: &Connection<S>)
+    ensures { KeptReadsBack (state S.Store conn.now) }
 {}

@@ -25,10 +25,10 @@ use sqlite::{Alter, Row, Transaction};
 use std::alloc::Global;
 
 /// The version of these tables. One that is put stands in `PUT`.
-pub(crate) const VERSION: u32 = 0;
+pub(crate) const VERSION: u32 = 1;
 
 const PUT: &str =
-    "INSERT INTO meta (k, version, serial, scan, made, sent, given_up, dropped, pending, keys, frozen) VALUES (1, 0, ?1, ?2, ?3, ?4, ?5, ?6, ?7, ?8, 0) ON CONFLICT (k) DO UPDATE SET k = excluded.k, version = excluded.version, serial = excluded.serial, scan = excluded.scan, made = excluded.made, sent = excluded.sent, given_up = excluded.given_up, dropped = excluded.dropped, pending = excluded.pending, keys = excluded.keys, frozen = excluded.frozen";
+    "INSERT INTO meta (k, version, serial, scan, made, sent, given_up, dropped, pending, keys, frozen) VALUES (1, 1, ?1, ?2, ?3, ?4, ?5, ?6, ?7, ?8, 0) ON CONFLICT (k) DO UPDATE SET k = excluded.k, version = excluded.version, serial = excluded.serial, scan = excluded.scan, made = excluded.made, sent = excluded.sent, given_up = excluded.given_up, dropped = excluded.dropped, pending = excluded.pending, keys = excluded.keys, frozen = excluded.frozen";
 
 const READ: &str =
     "SELECT k, version, serial, scan, made, sent, given_up, dropped, pending, keys FROM meta ORDER BY k";

@@ -11,16 +11,22 @@ use Rattle.adr_machine.specs.declared.outcome.Outcome.{Outcome}
 use Rattle.adr_machine.specs.Edits.{told_by, report_kept, report_gone}
 use Rattle.adr_machine.specs.Listed.{listed}
 use Rattle.adr_queries.specs.Shown.{object_at, told}
-use Rattle.adr_desk.specs.Decisions.{IsAnswered}
+use Rattle.adr_touched.specs.declared.touched.Touched.{Touched}
+use Rattle.adr_desk.specs.Decisions.{IsAnswered, with_touched}
 
 -- whatever comes of what went well
 pub all_answered : {A : Type 0} (c : Command) (comes : A → Outcome) → ((x : A) → IsAnswered c (comes x)) → (r : Result A Refusal) → IfOk (told_by comes r) (IsAnswered c)
 all_answered c comes each (Ok x) = each x
 all_answered c comes each (Err e) = tt
 
+-- along with what was touched
+pub along_answered : {A : Type 0} (c : Command) (comes : A → Outcome) → ((x : A) → IsAnswered c (comes x)) → (touched : Touched) (r : Result A Refusal) → IfOk (told_by (with_touched touched) (told_by comes r)) (λ r. IsAnswered c r.0)
+along_answered c comes each touched (Ok x) = each x
+along_answered c comes each touched (Err e) = tt
+
 -- a report that lacks stamps counts as not there
 module _ (c : Command) (missing : Contains (listed c) NotFound) where
-  told_so : (o : Option Object) → IfErr (told o) (Contains (listed c))
+  pub told_so : (o : Option Object) → IfErr (told o) (Contains (listed c))
   told_so None = missing
   told_so (Some o) = tt
 

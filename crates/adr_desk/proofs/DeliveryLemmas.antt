@@ -8,7 +8,8 @@ use Rattle.adr_state.specs.declared.state.State.{State}
 use Rattle.adr_state.specs.declared.limits.Settings.{Settings}
 use Rattle.adr_db.specs.declared.meta.Meta.{Meta}
 use Rattle.adr_db.specs.Kept.{Kept, Keeps}
-use Rattle.adr_db.specs.Bases.{meta_of, counting, kept_of}
+use Rattle.adr_db.specs.Bases.{meta_of, counting}
+use Rattle.adr_held.specs.Held.{kept_of}
 use Rattle.adr_db.specs.Images.{outbox_of}
 use Rattle.adr_queries.specs.declared.answer.Answer.{Answer}
 use Rattle.adr_machine.specs.declared.command.Command.{Command}
@@ -41,18 +42,19 @@ module _ {S : Type 0} (g : Ghosts S) (old new : Held S) (settings : Settings) (n
   pub delivery_commits : (before after : Meta) (r : Result Answer Refusal) → TurnsOutbox g old new decide before after r → CommitsTables (step_by settings now command) before after (state g old) (state g new) r
   delivery_commits before after (Err e) turns clean = tt
   delivery_commits before after (Ok x) turns clean = λ held was same.
-      let it : IsTurned decide before after (kept_of held) x (state g new) = turns clean (kept_of held) was (ap (λ (m : Meta). m.pending) same) in
+      let it : IsTurned decide before after (kept_of held) x (state g new) = turns clean (kept_of held) was.keeps (ap (λ (m : Meta). m.pending) same) in
       record {
         next = record held { outbox = it.outbox };
         stepped = step_is held ∙ ap (λ (r : Result (Answer × Outbox) Refusal). r >>= λ d. Ok (d.0, record held { outbox = d.1 })) (ap decide (sym (outbox_is held before same)) ∙ it.decided);
         holds = subst (λ (m : Meta). let kept : Kept = kept_of held in Keeps (record kept { meta = m; remotes = it.outbox.remotes; entries = it.outbox.entries }) (state g new)) (sym same) it.keeps;
+        reads = was.reads;
         counted = it.counted ∙ ap (counting it.outbox) same;
       }
 
   pub delivery_refused : (before : Meta) (r : Result Answer Refusal) → RefusesOutbox g old new decide before r → RefusesToCommit (step_by settings now command) before (state g old) (state g new) r
   delivery_refused before (Ok x) refuses clean = tt
   delivery_refused before (Err e) refuses clean = λ held was same.
-      subst (IsRefusalOf e) (sym (step_is held)) (then_refused e (decide held.outbox) _ (subst (λ (o : Outbox). IsRefusalOf e (decide o)) (outbox_is held before same) (refuses clean (kept_of held) was (ap (λ (m : Meta). m.pending) same))))
+      subst (IsRefusalOf e) (sym (step_is held)) (then_refused e (decide held.outbox) _ (subst (λ (o : Outbox). IsRefusalOf e (decide o)) (outbox_is held before same) (refuses clean (kept_of held) was.keeps (ap (λ (m : Meta). m.pending) same))))
 
 -- a command about anything else leaves all
 pub rest_done : (limits : Limits) (now : ℕ) (o : Outbox) (c : Command) → (c ≡ Lease → ⊥) → ((n lease : ℕ) (remote : Option (List ℕ)) → c ≡ Sent n lease remote → ⊥) → ((n lease : ℕ) (forget : Bool) → c ≡ Failed n lease forget → ⊥)

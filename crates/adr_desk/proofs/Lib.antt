@@ -6,10 +6,13 @@ pub mod Created
 pub mod DecisionLemmas
 pub mod ListedLemmas
 pub mod AnswerLemmas
-pub mod StampLemmas
+pub mod CoverLemmas
 pub mod StepLemmas
 pub mod ToldLemmas
+mod StayLemmas
+pub mod MadeLemmas
 pub mod DeliveryLemmas
+pub mod EvidenceLemmas
 pub mod ReplyLemmas
 pub mod Soundness
 pub mod Since

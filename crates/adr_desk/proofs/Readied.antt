@@ -8,9 +8,9 @@ use Rattle.adr_state.specs.declared.state.State.{State}
 use Rattle.adr_db.specs.Tables.{schema}
 use Rattle.adr_db.specs.Kept.{contents_of}
 use Rattle.adr_db.specs.Versions.{SayVersion}
-use Rattle.adr_db.specs.Bases.{kept_of, HoldsState, AreLeftWith}
+use Rattle.adr_held.specs.Held.{kept_of, HoldsState, AreLeftWith}
 use Rattle.adr_desk.specs.Transactions.{Ends}
-use Rattle.adr_desk.proofs.Transactions.{ends_whole}
+use Rattle.adr_desk.proofs.Transactions.{ends_whole, left_now}
 
 -- where a crash may leave something, it may leave what is more
 pub survives_as : (old new : sql.State) (P Q : Trees → Type 0) → ((trees : Trees) → P trees → Q trees) → Survives old new P → Survives old new Q
@@ -29,10 +29,10 @@ KnownIn old new = (all : Contents) → Holds schema all old → SayVersion (rows
 
 -- a state that they held is there still, and a crash leaves it
 pub held_still : (old new : sql.State) → KnownIn old new → (held : State) → HoldsState held old → HoldsState held new
-held_still old new known held was = record { rows = (known (contents_of (kept_of held)) was.rows).1; marks = was.marks; subs = was.subs }
+held_still old new known held was = record { keeps = record { rows = (known (contents_of (kept_of held)) was.keeps.rows).1; marks = was.keeps.marks; subs = was.keeps.subs }; reads = was.reads; right = was.right }
 
 pub left_still : (old new : sql.State) → KnownIn old new → (held : State) → HoldsState held old → AreLeftWith held new.now.trees
-left_still old new known held was = let it = (known (contents_of (kept_of held)) was.rows).1 in record { sound = it.sound; rows = it.each; marks = was.marks; subs = was.subs }
+left_still old new known held was = left_now held new (held_still old new known held was)
 
 module _ {S : Type 0} (g : Ghosts S) (old begun last end : Held S) (ended : Result Unit Refusal) where
   pub checked_whole : begun ≡ record old { in_transaction = true } → Stays g begun last {T = Unit {0}} {E = Refusal} (Ok tt) → (HasCleanDisk (state g last) → KnownIn (state g begun) (state g last)) → Ends g last end ended

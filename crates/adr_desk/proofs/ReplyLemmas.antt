@@ -9,8 +9,8 @@ use Rattle.adr_queries.specs.Reported.{rollup_told, rollup_reply}
 use Rattle.adr_queries.specs.Roles.{is_operator}
 use Rattle.adr_text.specs.Refusals.{◌>>=◌}
 use Rattle.adr_state.specs.declared.state.State.{State}
-use Rattle.adr_db.specs.Bases.{kept_of}
-use Rattle.adr_db.proofs.ReadBack.{image_again}
+use Rattle.adr_held.specs.Held.{kept_of}
+use Rattle.adr_held.proofs.HeldLemmas.{image_again}
 use Rattle.adr_queries.specs.declared.answer.Answer.TheVariants as answer
 use Rattle.adr_queries.specs.declared.query.Query.{Query}
 use Rattle.adr_queries.specs.declared.query.Query.TheVariants.{Programs, Program, Events, Event, Vens, Ven, Resources, Resource, Shares, Reports, Report, Rollup, Subs, Sub, Outbox, Probes}

@@ -5,9 +5,10 @@ use Rattle.adr_db.proofs.Common.{Trees, HasCleanDisk, Refusal}
 use Rattle.sqlite.specs.State.{Survives}
 use Rattle.sqlite.specs.State as sql
 use Rattle.adr_state.specs.declared.state.State.{State}
-use Rattle.adr_db.specs.Bases.{HoldsState, AreLeftWith}
+use Rattle.adr_held.specs.Held.{HoldsState, AreLeftWith}
 use Rattle.adr_queries.specs.declared.answer.Answer.{Answer}
 use Rattle.adr_desk.specs.Restarts.{IsStepOf}
+use Rattle.adr_desk.proofs.Transactions.{left_now}
 
 pub some_then : {T : Type 0} {P Q : T → Type 0} (o : Option T) → ((x : T) → P x → Q x) → IfSome o P → IfSome o Q
 some_then (Some x) f h = f x h
@@ -19,7 +20,7 @@ went_well P (Err e) is h = absurd cc
 
 -- what tables hold is left by trees that are theirs
 pub left_by : (held : State) (s : sql.State) (trees : Trees) → trees ≡ s.now.trees → HoldsState held s → AreLeftWith held trees
-left_by held s trees is h = subst (AreLeftWith held) (sym is) (record { sound = h.rows.sound; rows = h.rows.each; marks = h.marks; subs = h.subs })
+left_by held s trees is h = subst (AreLeftWith held) (sym is) (left_now held s h)
 
 -- a crash leaves what was held before, or what comes after
 pub before_or_after : (old new : sql.State) (IsAfter : State → Trees → Type 0) (held : State) → Survives old new (λ trees. (h : State) → HoldsState h old → IsAfter h trees) → HasCleanDisk new

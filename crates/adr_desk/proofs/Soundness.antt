@@ -10,10 +10,10 @@ use Rattle.adr_state.specs.contracts.state.State as state
 use Rattle.adr_queries.specs.contracts.answer.Answer as answer
 use Rattle.adr_state.specs.declared.state.State.{State}
 use Rattle.adr_db.specs.Kept.{Kept, Keeps}
-use Rattle.adr_db.specs.Bases.{HoldsState, kept_of}
+use Rattle.adr_held.specs.Held.{HoldsState, kept_of}
 use Rattle.adr_db.specs.Images.{image_kept}
 use Rattle.adr_db.specs.ReadBack.{state_in}
-use Rattle.adr_db.proofs.ReadBack.{image_again, state_again}
+use Rattle.adr_held.proofs.HeldLemmas.{held_again, image_again}
 use Rattle.adr_queries.specs.declared.answer.Answer.{Answer}
 use Rattle.adr_desk.specs.Since.{Stored, WasHeld, HoldsSince}
 use Rattle.adr_desk.specs.Steps.{IsStepped, HoldsStepped}
@@ -50,7 +50,7 @@ on_err_given P (Err e) h = h
 
 -- the tables hold what they read back as, where they hold a state
 pub holds_again : (held : State) (s : sql.State) → HoldsState held s → HoldsState (state_in s) s
-holds_again held s h = subst (λ (t : State). HoldsState t s) (sym (state_again held s h)) h
+holds_again held s h = subst (λ (t : State). HoldsState t s) (sym (held_again s held h)) h
 
 -- and still do, where all is as it was
 pub holds_still : (a b : sql.State) → b.now ≡ a.now → HoldsState (state_in a) a → HoldsState (state_in b) b
@@ -98,7 +98,7 @@ module _ {S : Type 0} (g : Ghosts S) (stored : Stored) (old new : Held S) where
 module _ {S : Type 0} (g : Ghosts S) (old new : Held S) where
   -- what is read is the state that is read back
   pub image_told : (image : State) → ((kept : Kept) → Keeps kept (shows g old) → image ≡ image_kept kept) → ∥ HoldsState (state_in (shows g old)) (shows g old) ∥₁ → image ≡ state_in (shows g old)
-  image_told image finds was = ∥∥₁_elim was (Coded-set state_coded _ _) (λ h. finds (kept_of (state_in (shows g old))) h ∙ image_again (state_in (shows g old)))
+  image_told image finds was = ∥∥₁_elim was (Coded-set state_coded _ _) (λ h. finds (kept_of (state_in (shows g old))) h.keeps ∙ image_again (state_in (shows g old)))
 
   -- what is answered is the machine's step, on the state that is read back
   pub step_taken : (step : State → Result (Answer × State) Refusal) (answer : Answer) → ((held : State) → HoldsState held (shows g old) → IsStepped step held answer (shows g new))
@@ -106,7 +106,7 @@ module _ {S : Type 0} (g : Ghosts S) (old new : Held S) where
   step_taken step answer makes was =
       ∥∥₁_elim was (Coded-set (result_coded (coded× answer_coded state_coded)) _ _) (λ h.
       let it = makes (state_in (shows g old)) h in
-      it.stepped ∙ ap (λ (t : State). Ok (answer, t)) (sym (state_again it.after (shows g new) it.holds)))
+      it.stepped ∙ ap (λ (t : State). Ok (answer, t)) (sym (held_again (shows g new) it.after it.holds)))
 
   -- a refusal is the machine's own
   pub refused_as : {A : Type 0} → Coded A → (taken : State → Result A Refusal) (refusal : Refusal) → ((held : State) → HoldsState held (shows g old) → IsRefusalOf refusal (taken held))

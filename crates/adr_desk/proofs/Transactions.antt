@@ -5,14 +5,26 @@ use Rattle.sqlite.specs.State as sql
 use Rattle.adr_state.specs.declared.state.State.{State}
 use Rattle.adr_sql.proofs.Commits.{committed}
 use Rattle.adr_db.specs.Tables.{schema}
-use Rattle.adr_db.specs.Kept.{contents_of}
-use Rattle.adr_db.specs.Bases.{kept_of, HoldsState}
+use Rattle.adr_db.specs.Kept.{Keeps, contents_of}
+use Rattle.adr_held.specs.Held.{kept_of, HoldsState, AreLeftWith}
 use Rattle.adr_machine.specs.Edits.{told_by}
 use Rattle.adr_desk.specs.Transactions.{Ends}
 
 -- what is held stays, where all is as it was
 pub held_now : (held : State) (a b : sql.State) → b.now ≡ a.now → HoldsState held a → HoldsState held b
-held_now held a b same was = record { rows = holds_now schema (contents_of (kept_of held)) a b same was.rows; marks = was.marks; subs = was.subs }
+held_now held a b same was = record {
+  keeps = record { rows = holds_now schema (contents_of (kept_of held)) a b same was.keeps.rows; marks = was.keeps.marks; subs = was.keeps.subs };
+  reads = was.reads;
+  right = was.right;
+}
+
+-- so does what is kept on
+pub kept_on : (held : State) (a b : sql.State) → Keeps (kept_of held) b → HoldsState held a → HoldsState held b
+kept_on held a b keeps was = record { keeps = keeps; reads = was.reads; right = was.right }
+
+-- what is held, its trees are left with
+pub left_now : (held : State) (s : sql.State) → HoldsState held s → AreLeftWith held s.now.trees
+left_now held s was = record { sound = was.keeps.rows.sound; rows = was.keeps.rows.each; marks = was.keeps.marks; subs = was.keeps.subs; reads = was.reads; right = was.right }
 
 module _ {S : Type 0} (g : Ghosts S) (old last end : Held S) where
   abbrev begun : Held S

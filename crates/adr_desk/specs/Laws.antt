@@ -5,7 +5,7 @@ use Rattle.sqlite.specs.Tree.{Trees}
 use Rattle.sqlite.specs.Store.{Ghosts}
 use Rattle.sqlite.specs.State as sql
 use Rattle.adr_state.specs.declared.state.State.{State}
-use Rattle.adr_db.specs.Bases.{HoldsState, AreLeftWith}
+use Rattle.adr_held.specs.Held.{HoldsState, AreLeftWith}
 use Rattle.sqlite.specs.Steps.{over_memory}
 use Rattle.adr_desk.specs.declared.desk.SqlDesk.{SqlDesk}
 use Rattle.adr_desk.specs.Desks.{shown, state_of, IsSound, Stands}

@@ -3,7 +3,7 @@ pub mod Steps
 pub mod Decisions
 pub mod Asks
 pub mod Sights
-pub mod Stamps
+pub mod Answered
 pub mod Told
 pub mod Since
 pub mod Desks

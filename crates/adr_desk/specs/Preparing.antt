@@ -5,7 +5,7 @@ use Rattle.adr_state.specs.declared.state.State.{State}
 use Rattle.adr_state.specs.States.{empty}
 use Rattle.adr_sql.specs.Contents.{Holds}
 use Rattle.adr_sql.specs.Schemas.{no_schema}
-use Rattle.adr_db.specs.Bases.{HoldsState}
+use Rattle.adr_held.specs.Held.{HoldsState}
 use Rattle.adr_desk.specs.declared.ready.Start.{Start}
 use Rattle.adr_desk.specs.declared.ready.Start.TheVariants.{New, Kept}
 

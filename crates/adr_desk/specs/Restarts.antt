@@ -4,7 +4,7 @@ use Rattle.sqlite.specs.Store.{Ghosts}
 use Rattle.sqlite.specs.Tree.{Trees}
 use Rattle.adr_text.specs.declared.refusal.Refusal.{Refusal}
 use Rattle.adr_state.specs.declared.state.State.{State}
-use Rattle.adr_db.specs.Bases.{AreLeftWith}
+use Rattle.adr_held.specs.Held.{AreLeftWith}
 use Rattle.adr_queries.specs.declared.answer.Answer.{Answer}
 use Rattle.adr_desk.specs.declared.desk.SqlDesk.{SqlDesk}
 use Rattle.adr_desk.specs.Desks.{state_of, IsSound}

@@ -1,5 +1,5 @@
 -- What the tables stored as a desk was made, and what they hold since.
-use Rattle.std.specs.Prelude.{◌≡◌, List, [], ◌∷◌, map, length, IsTrue}
+use Rattle.std.specs.Prelude.{◌≡◌, List, [], ◌∷◌, map, length, IsTrue, All}
 use Rattle.sqlite.specs.Order.{Row}
 use Rattle.sqlite.specs.Table.{Table}
 use Rattle.sqlite.specs.Schema.{Schema}
@@ -12,8 +12,11 @@ use Rattle.adr_sql.specs.Contents.{Contents, Stores}
 use Rattle.adr_sql.specs.Schemas.{no_schema}
 use Rattle.adr_db.specs.Tables.{schema}
 use Rattle.adr_db.specs.Kept.{contents_of, AreMarks, AreSubs}
-use Rattle.adr_db.specs.Bases.{kept_of, HoldsState}
+use Rattle.adr_held.specs.Held.{kept_of, HoldsState}
+use Rattle.adr_held.specs.Right.{IsRight}
 use Rattle.adr_db.specs.ReadBack.{state_in}
+use Rattle.adr_refresh.specs.Refresh.{kept_view}
+use Rattle.adr_kept_view.specs.KeptViews.{ReadsBack}
 
 -- a schema, and the rows that are stored in each of the node's tables, in their order
 abbrev pub Stored : Type 0
@@ -37,6 +40,8 @@ pub record WasHeld (held : State) (stored : Stored) : Type 0 where
   pub each : StoredEach schema.tables stored.1 (contents_of (kept_of held))
   pub marks : AreMarks held.base.mirror
   pub subs : AreSubs held.base.portfolio.subs
+  pub reads : All ReadsBack (kept_view held.base)
+  pub right : IsRight held
 
 -- where it was some state, the tables hold the one that they read back as, while the store is open and gave back what was written
 abbrev pub HoldsSince : {S : Type 0} → Ghosts S → Stored → Held S → Type 0

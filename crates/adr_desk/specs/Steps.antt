@@ -1,5 +1,5 @@
 -- What a command makes of the tables, what is answered to it, and what a query is told.
-use Rattle.std.specs.Prelude.{◌≡◌, ℕ, Result, Ok, IfOk, IfErr}
+use Rattle.std.specs.Prelude.{◌≡◌, ℕ, Result, Ok, IfOk, IfErr, All}
 use Rattle.sqlite.specs.Tree.{Trees}
 use Rattle.sqlite.specs.State.{HasCleanDisk}
 use Rattle.sqlite.specs.State as sql
@@ -8,9 +8,15 @@ use Rattle.adr_text.specs.declared.refusal.Refusal.{Refusal}
 use Rattle.adr_state.specs.declared.base.Base.{Base}
 use Rattle.adr_state.specs.declared.state.State.{State}
 use Rattle.adr_state.specs.declared.limits.Settings.{Settings}
+use Rattle.adr_refresh.specs.Laws.{HasAllThatDiffer}
+use Rattle.adr_refresh.specs.Refresh.{kept_view}
+use Rattle.adr_touched.specs.declared.touched.Touched.{Touched}
+use Rattle.adr_touched.specs.Touched.{sources_in, StandsTouched}
+use Rattle.adr_kept_view.specs.KeptViews.{ReadsBack}
 use Rattle.adr_db.specs.declared.meta.Meta.{Meta}
 use Rattle.adr_db.specs.Kept.{Keeps, with_meta}
-use Rattle.adr_db.specs.Bases.{Beside, with_base, meta_of, kept_of, HoldsBeside, HoldsState, AreLeftWith}
+use Rattle.adr_db.specs.Bases.{Beside, with_base, meta_of, HoldsBeside}
+use Rattle.adr_held.specs.Held.{kept_of, HoldsState, AreLeftWith}
 use Rattle.adr_queries.specs.declared.answer.Answer.{Answer}
 use Rattle.adr_machine.specs.declared.command.Command.{Command}
 use Rattle.adr_machine.specs.declared.outcome.Outcome.{Outcome}
@@ -19,17 +25,19 @@ use Rattle.adr_machine.specs.Steps.{committed, step}
 -- ---- an edit
 
 -- of the edit of a base comes this; the tables hold the base that it makes, beside what stood there, and the caller's numbers are those before with
--- those of that base
-pub record IsEdited (edit : Base → Result (Outcome × Base) Refusal) (beside : Beside) (base : Base) (before after : Meta) (said : Outcome) (s : sql.State) : Type 0 where
+-- those of that base; and among what it touched is each source that is not shown as before
+pub record IsEdited (edit : Base → Result (Outcome × Base) Refusal) (beside : Beside) (base : Base) (before after : Meta) (said : Outcome) (touched : Touched) (s : sql.State) : Type 0 where
   pub next : Base
   pub edited : edit base ≡ Ok (said, next)
   pub holds : HoldsBeside beside next s
   pub counted : after ≡ with_base before next
+  pub stands : StandsTouched base touched
+  pub all : HasAllThatDiffer base next (sources_in touched)
 
 -- after Ok, so it is of each base that the tables held, where those of the caller's numbers which a base has were those of the base
-abbrev pub EditsTables : (Base → Result (Outcome × Base) Refusal) → Meta → Meta → sql.State → sql.State → Result Outcome Refusal → Type 0
+abbrev pub EditsTables : (Base → Result (Outcome × Base) Refusal) → Meta → Meta → sql.State → sql.State → Result (Outcome × Touched) Refusal → Type 0
 EditsTables edit before after old new result =
-    HasCleanDisk new → IfOk result (λ said. (beside : Beside) (base : Base) → HoldsBeside beside base old → before ≡ with_base before base → IsEdited edit beside base before after said new)
+    HasCleanDisk new → IfOk result (λ r. (beside : Beside) (base : Base) → HoldsBeside beside base old → before ≡ with_base before base → IsEdited edit beside base before after r.0 r.1 new)
 
 -- ---- a step, whose numbers are not put yet
 
@@ -45,11 +53,13 @@ step_by settings now command held = step settings held now command
 abbrev pub HoldsBut : Meta → State → sql.State → Type 0
 HoldsBut numbers held s = Keeps (with_meta numbers (kept_of held)) s
 
--- the step of a state answers this; the tables hold the state that it makes, but for its numbers, and these the caller has
+-- the step of a state answers this; the tables hold the state that it makes, but for its numbers, and these the caller has;
+-- and the texts that they keep of what is shown then read back
 pub record IsCommitted (step : State → Result (Answer × State) Refusal) (held : State) (before after : Meta) (answer : Answer) (s : sql.State) : Type 0 where
   pub next : State
   pub stepped : step held ≡ Ok (answer, next)
   pub holds : HoldsBut before next s
+  pub reads : All ReadsBack (kept_view next.base)
   pub counted : after ≡ meta_of next
 
 -- after Ok, so it is of each state that the tables held, where the caller's numbers were its own

@@ -5,8 +5,7 @@ ghost use Rattle.adr_state.specs.States.{empty};
 ghost use Rattle.adr_sql.specs.Contents.{Holds};
 ghost use Rattle.adr_sql.specs.Schemas.{no_schema};
 ghost use Rattle.adr_sql.specs.Calls.{Commits};
-ghost use Rattle.adr_db.specs.Kept.{Keeps, nothing_kept};
-ghost use Rattle.adr_db.specs.Bases.{AreLeftWith};
+ghost use Rattle.adr_held.specs.Held.{HoldsState, AreLeftWith};
 ghost use Rattle.adr_db.specs.Calls.{IsOfStore};
 
 use crate::frame::{begin, commit};
@@ -18,7 +17,7 @@ use sqlite::{Alter, Connection};
 pub(crate) fn create_in<S: Alter>(conn: &mut Connection<S>) -> Result<(), Refusal>
     requires { conn.old.in_transaction ≡ false }
     ensures whole { Commits S.Store conn.old conn.new
-        (λ s. Holds no_schema [] (state S.Store conn.old) → Keeps nothing_kept s)
+        (λ s. Holds no_schema [] (state S.Store conn.old) → HoldsState empty s)
         (λ trees. Holds no_schema [] (state S.Store conn.old) → AreLeftWith empty trees)
         result }
     ensures refused { IfErr result IsOfStore }

@@ -6,22 +6,22 @@ ghost use Rattle.adr_queries.specs.Listed.{IsListed};
 ghost use Rattle.adr_machine.specs.Listed.{listed};
 ghost use Rattle.adr_desk.specs.Decisions.{CarriesOut, IsAnswered};
 
+use crate::evidence;
 use crate::reports::{report_delete, report_post, report_put};
+use crate::sites::{self, along};
 use crate::subs::{sub_delete, sub_post, sub_put};
 use adr_db::Meta;
-use adr_machine::told::{counted, done, of_resource, of_scan, of_share, of_ven};
+use adr_machine::told::{done, of_scan};
 use adr_machine::{Command, Outcome};
-use adr_mirror::{gone, put_evidence, scan_begin, scan_end};
+use adr_mirror::{scan_begin, scan_end};
 use adr_objects::Number;
-use adr_portfolio::{
-    resource_add, resource_put, resource_remove, share_set, ven_add, ven_put, ven_remove,
-};
 use adr_state::Limits;
 use adr_text::{Moment, Refusal};
+use adr_touched::Touched;
 use sqlite::{Alter, Transaction};
 use std::alloc::Global;
 
-/// What the command decides, where that is the next number, and what comes of it. The numbers of the node are handed in, and
+/// What the command decides, where that is the next number, what comes of it, and what it touched. The numbers of the node are handed in, and
 /// are left as they have to be put; a number that is drawn is not drawn yet.
 pub(crate) fn carry_out<S: Alter>(
     alloc: Global,
@@ -31,47 +31,43 @@ pub(crate) fn carry_out<S: Alter>(
     number: Number,
     meta: &mut Meta,
     command: &Command,
-) -> Result<Outcome, Refusal>
+) -> Result<(Outcome, Touched), Refusal>
     ensures lent { LeavesLent S.Store tx.old.conn tx.new.conn result }
     ensures carries { CarriesOut S.Store tx.old.conn.now tx.new.conn.now (λ base. decided limits.now now number base command.now) meta.old meta.new result }
-    ensures answered { IfOk result (IsAnswered command.now) }
+    ensures answered { IfOk result (λ r. IsAnswered command.now r.0) }
     ensures listed { IfErr result (IsListed (Unit {0}) (listed command.now)) }
 {
     match command {
-        Command::Evidence { found, polled } => counted(put_evidence(
+        Command::Evidence { found, polled } => evidence::found(
             alloc,
             tx,
             limits,
             meta,
             found.as_slice(),
             *polled,
-        )),
-        Command::Gone { kind, id } => counted(gone(alloc, tx, limits, meta, *kind, id)),
-        Command::ScanBegin => done(scan_begin(tx, meta)),
-        Command::ScanEnd => of_scan(scan_end(alloc, tx, meta)),
-        Command::VenAdd { ven, .. } => {
-            of_ven(ven_add(alloc, tx, limits, now, number, &ven.name))
-        }
-        Command::VenPut { id, ven, .. } => of_ven(ven_put(alloc, tx, now, id, &ven.name)),
-        Command::VenRemove { id, .. } => of_ven(ven_remove(alloc, tx, id)),
+        ),
+        Command::Gone { kind, id } => evidence::deleted(alloc, tx, limits, meta, *kind, id),
+        Command::ScanBegin => along(done(scan_begin(tx, meta)), Touched::none(alloc)),
+        Command::ScanEnd => along(of_scan(scan_end(alloc, tx, meta)), Touched::none(alloc)),
+        Command::VenAdd { ven, .. } => sites::ven_add(alloc, tx, limits, now, number, ven),
+        Command::VenPut { id, ven, .. } => sites::ven_put(alloc, tx, now, id, ven),
+        Command::VenRemove { id, .. } => sites::ven_remove(alloc, tx, id),
         Command::ResourceAdd { ven, resource, .. } => {
-            of_resource(resource_add(alloc, tx, limits, now, number, ven, &resource.name))
+            sites::resource_add(alloc, tx, limits, now, number, ven, resource)
         }
         Command::ResourcePut {
             ven,
             id,
             resource,
             ..
-        } => of_resource(resource_put(alloc, tx, now, ven, id, &resource.name)),
-        Command::ResourceRemove { ven, id, .. } => {
-            of_resource(resource_remove(alloc, tx, ven, id))
-        }
+        } => sites::resource_put(alloc, tx, now, ven, id, resource),
+        Command::ResourceRemove { ven, id, .. } => sites::resource_remove(alloc, tx, ven, id),
         Command::ShareSet {
             program,
             resource,
             share,
             ..
-        } => of_share(share_set(alloc, tx, limits, program, resource, share.share)),
+        } => sites::share_set(alloc, tx, limits, program, resource, share),
         Command::ReportPost { role, report } => {
             report_post(alloc, tx, limits, number, role, report)
         }
@@ -81,6 +77,8 @@ pub(crate) fn carry_out<S: Alter>(
         Command::SubPut { role, id, sub } => sub_put(alloc, tx, now, role, id, sub),
         Command::SubDelete { role, id } => sub_delete(alloc, tx, role, id),
         // what is about an entry leaves the base
-        Command::Lease | Command::Sent { .. } | Command::Failed { .. } => done(Ok(())),
+        Command::Lease | Command::Sent { .. } | Command::Failed { .. } => {
+            along(done(Ok(())), Touched::none(alloc))
+        }
     }
 }

@@ -11,7 +11,7 @@ ghost use Rattle.adr_state.specs.States.{empty};
 ghost use Rattle.adr_sql.specs.Contents.{Contents, Holds, rows_of_table};
 ghost use Rattle.adr_db.specs.Tables.{schema};
 ghost use Rattle.adr_db.specs.Versions.{SayVersion};
-ghost use Rattle.adr_db.specs.Bases.{HoldsState, AreLeftWith};
+ghost use Rattle.adr_held.specs.Held.{HoldsState, AreLeftWith};
 ghost use Rattle.adr_db.specs.Calls.{IsOfStore};
 ghost use Rattle.adr_queries.specs.Listed.{listed_for, IsListed};
 ghost use Rattle.adr_machine.specs.Listed.{listed};

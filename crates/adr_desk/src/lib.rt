@@ -1,11 +1,14 @@
 //! The desk over SQL: the machine's state in tables, one transaction a call.
 #![tactic(auto)]
 
+mod answered;
 mod ask;
+mod asked;
 mod create;
 mod decided;
 mod deliver;
 mod desk;
+mod evidence;
 mod frame;
 mod image;
 mod kept;
@@ -13,10 +16,9 @@ pub mod laws;
 pub mod ready;
 mod reports;
 pub mod restart;
-mod seen;
 pub mod sent;
 mod sight;
-mod stamps;
+mod sites;
 mod step;
 mod subs;
 mod told;

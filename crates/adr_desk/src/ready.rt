@@ -8,7 +8,7 @@ ghost use Rattle.adr_sql.specs.Contents.{Contents, Holds, rows_of_table};
 ghost use Rattle.adr_sql.specs.Calls.{Commits};
 ghost use Rattle.adr_db.specs.Tables.{schema};
 ghost use Rattle.adr_db.specs.Versions.{SayVersion};
-ghost use Rattle.adr_db.specs.Bases.{HoldsState, AreLeftWith};
+ghost use Rattle.adr_held.specs.Held.{HoldsState, AreLeftWith};
 ghost use Rattle.adr_db.specs.Calls.{IsOfStore, IsOneOf};
 ghost use Rattle.adr_desk.specs.Preparing.{Becomes};
 ghost use Rattle.adr_desk.specs.declared.ready.Start.TheVariants.{Kept};

@@ -5,7 +5,7 @@ ghost use Rattle.sqlite.specs.State.{HasCleanDisk};
 ghost use Rattle.adr_state.specs.declared.state.State.{State};
 ghost use Rattle.adr_sql.specs.Calls.{LeavesLent, Commits};
 ghost use Rattle.adr_db.specs.Kept.{Kept, Keeps, with_meta};
-ghost use Rattle.adr_db.specs.Bases.{HoldsState};
+ghost use Rattle.adr_held.specs.Held.{HoldsState};
 ghost use Rattle.adr_db.specs.BaseCalls.{RefusesOn};
 ghost use Rattle.adr_db.specs.Calls.{IsOfStore};
 ghost use Rattle.adr_machine.specs.Edits.{edit_of};
@@ -14,17 +14,17 @@ ghost use Rattle.adr_machine.specs.Listed.{listed};
 ghost use Rattle.adr_desk.specs.Decisions.{IsAnswered};
 ghost use Rattle.adr_desk.specs.Steps.{step_of, step_by, EditsTables, CommitsTables, RefusesToCommit, StepsTables, RefusesAs, HoldsStepped, LeftStepped};
 
+use crate::answered::{answered, stamps_of};
 use crate::decided::carry_out;
 use crate::deliver::delivered;
 use crate::frame::{begin, commit};
-use crate::seen::see;
-use crate::stamps::restamp;
 use crate::told::tell;
 use adr_db::{Meta, put_meta, read_meta};
 use adr_machine::told::after;
-use adr_machine::{Answer, Command, Outcome, Settings, answered_by};
+use adr_machine::{Answer, Command, Outcome, Settings};
 use adr_state::Limits;
 use adr_text::{Moment, Refusal};
+use adr_touched::Touched;
 use sqlite::{Alter, Connection, Transaction};
 use std::alloc::Global;
 
@@ -44,7 +44,7 @@ fn put_changed<S: Alter>(
     put_meta(tx, after)
 }
 
-/// What the command decides is carried out, and a number drawn where one is wanted. The numbers of the node are handed in,
+/// What the command decides is carried out, and a number drawn where one is wanted; with what it touched. The numbers of the node are handed in,
 /// and are left as they have to be put.
 fn numbered<S: Alter>(
     alloc: Global,
@@ -53,11 +53,11 @@ fn numbered<S: Alter>(
     now: Moment,
     meta: &mut Meta,
     command: &Command,
-) -> Result<Outcome, Refusal>
+) -> Result<(Outcome, Touched), Refusal>
     ensures lent { LeavesLent S.Store tx.old.conn tx.new.conn result }
     ensures makes { EditsTables (λ base. edit_of limits.now now base command.now) meta.old meta.new (state S.Store tx.old.conn.now) (state S.Store tx.new.conn.now) result }
     ensures refuses { RefusesOn S.Store tx.old.conn.now tx.new.conn.now (λ base. edit_of limits.now now base command.now) meta.old result }
-    ensures answered { IfOk result (IsAnswered command.now) }
+    ensures answered { IfOk result (λ r. IsAnswered command.now r.0) }
     ensures listed { IfErr result (IsListed (Unit {0}) (listed command.now)) }
 {
     let number = meta.serial.next();
@@ -66,9 +66,9 @@ fn numbered<S: Alter>(
     after(drawn, said)
 }
 
-/// The command of one who may give it: its edit, then the stamps of what is shown, and what is told of the changes. All
-/// that is shown is computed before and after it. The numbers of the node are handed in, and are left as they have to be
-/// put.
+/// The command of one who may give it: its edit, and then what it touched is visited, stamped and told; nothing else of what
+/// is shown is looked at. The numbers of the node are handed in, and are left as they
+/// have to be put.
 fn committed<S: Alter>(
     alloc: Global,
     tx: &mut Transaction<'_, S>,
@@ -82,12 +82,11 @@ fn committed<S: Alter>(
     ensures refuses { RefusesToCommit (step_of settings.now (λ base. edit_of settings.now.limits now base command.now) now) meta.old (state S.Store tx.old.conn.now) (state S.Store tx.new.conn.now) result }
     ensures listed { IfErr result (IsListed (Unit {0}) (listed command.now)) }
 {
-    let before = see(alloc, tx, meta)?;
-    let said = numbered(alloc, tx, &settings.limits, now, meta, command)?;
-    let after = see(alloc, tx, meta)?;
-    let turned = restamp(alloc, tx, now, &before.view, &after.view)?;
-    tell(alloc, tx, settings, meta, command, &before, &after, &turned)?;
-    answered_by(said, &turned.before, turned.changes.len(), &turned.after)
+    let (said, touched) = numbered(alloc, tx, &settings.limits, now, meta, command)?;
+    let before = stamps_of(tx, &said)?;
+    let many = tell(alloc, tx, settings, now, meta, command, &touched)?;
+    let after = stamps_of(tx, &said)?;
+    answered(said, before, many, after)
 }
 
 /// What the command makes of the tables, but for the numbers of the node, which are handed in.

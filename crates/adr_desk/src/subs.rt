@@ -9,6 +9,7 @@ ghost use Rattle.adr_machine.specs.Listed.{listed};
 ghost use Rattle.adr_desk.specs.Decisions.{CarriesOut, IsAnswered, sub_made, sub_put_again};
 
 use crate::sight::sight_in;
+use crate::sites::along;
 use adr_machine::told::of_sub;
 use adr_machine::{Outcome, Role, settled_copy};
 use adr_objects::Number;
@@ -16,6 +17,7 @@ use adr_state::Limits;
 use adr_subs::{delete, post, put};
 use adr_subscription::SubIn;
 use adr_text::{Moment, ObjectId, Refusal};
+use adr_touched::Touched;
 use adr_view::owner_in;
 use sqlite::{Alter, Transaction};
 use std::alloc::Global;
@@ -29,14 +31,17 @@ fn made<S: Alter>(
     number: Number,
     role: &Role,
     body: SubIn,
-) -> Result<Outcome, Refusal>
+) -> Result<(Outcome, Touched), Refusal>
     ensures lent { LeavesLent S.Store tx.old.conn tx.new.conn result }
     ensures carries { (meta : MetaOf) → CarriesOut S.Store tx.old.conn.now tx.new.conn.now (sub_made limits.now now number role.now body) meta meta result }
-    ensures answered { IfOk result (IsAnswered (command.SubPost role.now body)) }
+    ensures answered { IfOk result (λ r. IsAnswered (command.SubPost role.now body) r.0) }
     ensures listed { IfErr result (IsListed (Unit {0}) (listed (command.SubPost role.now body))) }
 {
     let sight = sight_in(alloc, tx, role)?;
-    of_sub(post(alloc, tx, limits, now, number, owner_in(sight), body))
+    along(
+        of_sub(post(alloc, tx, limits, now, number, owner_in(sight), body)),
+        Touched::none(alloc),
+    )
 }
 
 /// A new subscription of who has the role.
@@ -48,10 +53,10 @@ pub(crate) fn sub_post<S: Alter>(
     number: Number,
     role: &Role,
     sub: &SubIn,
-) -> Result<Outcome, Refusal>
+) -> Result<(Outcome, Touched), Refusal>
     ensures lent { LeavesLent S.Store tx.old.conn tx.new.conn result }
     ensures carries { (meta : MetaOf) → CarriesOut S.Store tx.old.conn.now tx.new.conn.now (λ base. sub_post_decided limits.now now number role.now sub.now base) meta meta result }
-    ensures answered { IfOk result (IsAnswered (command.SubPost role.now sub.now)) }
+    ensures answered { IfOk result (λ r. IsAnswered (command.SubPost role.now sub.now) r.0) }
     ensures listed { IfErr result (IsListed (Unit {0}) (listed (command.SubPost role.now sub.now))) }
 {
     let body = settled_copy(alloc, sub)?;
@@ -66,14 +71,17 @@ fn replaced<S: Alter>(
     role: &Role,
     id: &ObjectId,
     body: SubIn,
-) -> Result<Outcome, Refusal>
+) -> Result<(Outcome, Touched), Refusal>
     ensures lent { LeavesLent S.Store tx.old.conn tx.new.conn result }
     ensures carries { (meta : MetaOf) → CarriesOut S.Store tx.old.conn.now tx.new.conn.now (sub_put_again now role.now id.now body) meta meta result }
-    ensures answered { IfOk result (IsAnswered (command.SubPut role.now id.now body)) }
+    ensures answered { IfOk result (λ r. IsAnswered (command.SubPut role.now id.now body) r.0) }
     ensures listed { IfErr result (IsListed (Unit {0}) (listed (command.SubPut role.now id.now body))) }
 {
     let sight = sight_in(alloc, tx, role)?;
-    of_sub(put(alloc, tx, sight, now, id, body))
+    along(
+        of_sub(put(alloc, tx, sight, now, id, body)),
+        Touched::none(alloc),
+    )
 }
 
 /// The subscription of an id is replaced by who has the role.
@@ -84,10 +92,10 @@ pub(crate) fn sub_put<S: Alter>(
     role: &Role,
     id: &ObjectId,
     sub: &SubIn,
-) -> Result<Outcome, Refusal>
+) -> Result<(Outcome, Touched), Refusal>
     ensures lent { LeavesLent S.Store tx.old.conn tx.new.conn result }
     ensures carries { (meta : MetaOf) → CarriesOut S.Store tx.old.conn.now tx.new.conn.now (λ base. sub_put_decided now role.now id.now sub.now base) meta meta result }
-    ensures answered { IfOk result (IsAnswered (command.SubPut role.now id.now sub.now)) }
+    ensures answered { IfOk result (λ r. IsAnswered (command.SubPut role.now id.now sub.now) r.0) }
     ensures listed { IfErr result (IsListed (Unit {0}) (listed (command.SubPut role.now id.now sub.now))) }
 {
     let body = settled_copy(alloc, sub)?;
@@ -100,12 +108,12 @@ pub(crate) fn sub_delete<S: Alter>(
     tx: &mut Transaction<'_, S>,
     role: &Role,
     id: &ObjectId,
-) -> Result<Outcome, Refusal>
+) -> Result<(Outcome, Touched), Refusal>
     ensures lent { LeavesLent S.Store tx.old.conn tx.new.conn result }
     ensures carries { (meta : MetaOf) → CarriesOut S.Store tx.old.conn.now tx.new.conn.now (λ base. sub_delete_decided role.now id.now base) meta meta result }
-    ensures answered { IfOk result (IsAnswered (command.SubDelete role.now id.now)) }
+    ensures answered { IfOk result (λ r. IsAnswered (command.SubDelete role.now id.now) r.0) }
     ensures listed { IfErr result (IsListed (Unit {0}) (listed (command.SubDelete role.now id.now))) }
 {
     let sight = sight_in(alloc, tx, role)?;
-    of_sub(delete(alloc, tx, sight, id))
+    along(of_sub(delete(alloc, tx, sight, id)), Touched::none(alloc))
 }

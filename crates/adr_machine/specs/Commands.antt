@@ -7,18 +7,19 @@ use Rattle.adr_machine.specs.declared.command.Command.{Command}
 use Rattle.adr_machine.specs.declared.command.Command.TheVariants.{Evidence, Gone, ScanBegin, ScanEnd, VenAdd, VenPut, VenRemove, ResourceAdd, ResourcePut, ResourceRemove, ShareSet, ReportPost, ReportPut, ReportDelete, SubPost, SubPut, SubDelete, Lease, Sent, Failed}
 
 -- who gives it, where the operator alone may; whether the next number is drawn for it; whether it is about an entry of the
--- outbox, and leaves all else; whether it leaves all that is shown, whatever is decided; and its own refusals, in the order
--- in which each is first tested
+-- outbox, and leaves all else; whether it leaves all that is shown, whatever is decided; whether a subscription may go by it;
+-- and its own refusals, in the order in which each is first tested
 pub record Traits : Type 0 where
   pub giver : Option Role
   pub draws : Bool
   pub delivers : Bool
   pub quiet : Bool
+  pub unsubscribes : Bool
   pub own : List Refusal
 
 -- what may change what is shown
 abbrev pub shown : List Refusal → Traits
-shown own = record { giver = None; draws = false; delivers = false; quiet = false; own = own }
+shown own = record { giver = None; draws = false; delivers = false; quiet = false; unsubscribes = false; own = own }
 
 -- what leaves all that is shown
 abbrev pub unseen : List Refusal → Traits
@@ -36,6 +37,10 @@ given_by role t = record t { giver = Some role }
 abbrev pub numbered : Traits → Traits
 numbered t = record t { draws = true }
 
+-- what a subscription may go by
+abbrev pub unsubscribing : Traits → Traits
+unsubscribing t = record t { unsubscribes = true }
+
 -- the table
 abbrev pub traits_of : Command → Traits
 traits_of (Evidence founds polled) = shown (LimitReached ∷ [])
@@ -44,7 +49,7 @@ traits_of ScanBegin = unseen []
 traits_of ScanEnd = unseen (NoScan ∷ [])
 traits_of (VenAdd role ven) = given_by role (numbered (shown (Conflict ∷ LimitReached ∷ [])))
 traits_of (VenPut role id ven) = given_by role (shown (NotFound ∷ Conflict ∷ []))
-traits_of (VenRemove role id) = given_by role (shown (NotFound ∷ []))
+traits_of (VenRemove role id) = given_by role (unsubscribing (shown (NotFound ∷ [])))
 traits_of (ResourceAdd role ven resource) = given_by role (numbered (shown (NotFound ∷ Conflict ∷ LimitReached ∷ [])))
 traits_of (ResourcePut role ven id resource) = given_by role (shown (NotFound ∷ Conflict ∷ []))
 traits_of (ResourceRemove role ven id) = given_by role (shown (NotFound ∷ []))
@@ -54,7 +59,7 @@ traits_of (ReportPut role id report) = numbered (shown (Forbidden ∷ NotFound �
 traits_of (ReportDelete role id) = shown (Forbidden ∷ NotFound ∷ [])
 traits_of (SubPost role sub) = numbered (unseen (BadShape ∷ Forbidden ∷ LimitReached ∷ []))
 traits_of (SubPut role id sub) = unseen (BadShape ∷ Forbidden ∷ NotFound ∷ [])
-traits_of (SubDelete role id) = unseen (Forbidden ∷ NotFound ∷ [])
+traits_of (SubDelete role id) = unsubscribing (unseen (Forbidden ∷ NotFound ∷ []))
 traits_of Lease = delivery (Exhausted ∷ [])
 traits_of (Sent entry lease remote) = delivery (LeaseLost ∷ [])
 traits_of (Failed entry lease forget) = delivery (LeaseLost ∷ [])

@@ -61,6 +61,10 @@ is_delivery command = (traits_of command).delivers
 abbrev pub is_quiet : Command → Bool
 is_quiet command = (traits_of command).quiet
 
+-- whether a subscription may go by it: entries that wait for one that went are dropped
+abbrev pub unsubscribes : Command → Bool
+unsubscribes command = (traits_of command).unsubscribes
+
 -- what comes of it, and the change of the base
 pub record Decision : Type 0 where
   pub outcome : Outcome

@@ -207,6 +207,7 @@ struct Traits {
     draws_number: bool,
     is_delivery: bool,
     is_quiet: bool,
+    unsubscribes: bool,
 }
 
 /// Of what may change what is shown.
@@ -215,6 +216,7 @@ const SHOWN: Traits = Traits {
     draws_number: false,
     is_delivery: false,
     is_quiet: false,
+    unsubscribes: false,
 };
 
 /// Of what leaves all that is shown.
@@ -252,10 +254,20 @@ impl Traits {
             ..self
         }
     }
+
+    /// Of what a subscription may go by.
+    fn unsubscribing(self) -> Traits
+        ensures { result ≡ record self { unsubscribes = true } }
+    {
+        Traits {
+            unsubscribes: true,
+            ..self
+        }
+    }
 }
 
 impl Command {
-    ghost use Rattle.adr_machine.specs.Edits.{is_allowed, draws_number, is_delivery, is_quiet};
+    ghost use Rattle.adr_machine.specs.Edits.{is_allowed, draws_number, is_delivery, is_quiet, unsubscribes};
 
     /// The same command again.
     pub fn copy(&self) -> Result<Command, AllocError>
@@ -313,7 +325,7 @@ impl Command {
 
     /// The table of commands: what each is.
     fn traits(&self) -> Traits
-        ensures { result ≡ record { is_allowed = is_allowed self.now; draws_number = draws_number self.now; is_delivery = is_delivery self.now; is_quiet = is_quiet self.now } }
+        ensures { result ≡ record { is_allowed = is_allowed self.now; draws_number = draws_number self.now; is_delivery = is_delivery self.now; is_quiet = is_quiet self.now; unsubscribes = unsubscribes self.now } }
     {
         match self {
             Command::Evidence { .. } => SHOWN,
@@ -322,7 +334,7 @@ impl Command {
             Command::ScanEnd => UNSEEN,
             Command::VenAdd { role, .. } => SHOWN.numbered().given_by(role),
             Command::VenPut { role, .. } => SHOWN.given_by(role),
-            Command::VenRemove { role, .. } => SHOWN.given_by(role),
+            Command::VenRemove { role, .. } => SHOWN.unsubscribing().given_by(role),
             Command::ResourceAdd { role, .. } => SHOWN.numbered().given_by(role),
             Command::ResourcePut { role, .. } => SHOWN.given_by(role),
             Command::ResourceRemove { role, .. } => SHOWN.given_by(role),
@@ -332,7 +344,7 @@ impl Command {
             Command::ReportDelete { .. } => SHOWN,
             Command::SubPost { .. } => UNSEEN.numbered(),
             Command::SubPut { .. } => UNSEEN,
-            Command::SubDelete { .. } => UNSEEN,
+            Command::SubDelete { .. } => UNSEEN.unsubscribing(),
             Command::Lease => DELIVERY,
             Command::Sent { .. } => DELIVERY,
             Command::Failed { .. } => DELIVERY,
@@ -365,5 +377,11 @@ impl Command {
         ensures { result ≡ is_quiet self.now }
     {
         self.traits().is_quiet
+    }
+    /// Whether a subscription may go by it: entries that wait for one that went are dropped.
+    pub fn unsubscribes(&self) -> bool
+        ensures { result ≡ unsubscribes self.now }
+    {
+        self.traits().unsubscribes
     }
 }

@@ -1,6 +1,6 @@
 use Rattle.std.proofs.Common.{◌≡◌, true, Err, refl, sym, ap, subst, ◌∙◌, arith}
 use Rattle.adr_db.proofs.Common.{Forbidden}
-use Rattle.adr_db.specs.Bases.{kept_of}
+use Rattle.adr_held.specs.Held.{kept_of}
 use Rattle.adr_queries.specs.Listed.{listed_for}
 use Rattle.adr_queries.specs.declared.query.Query.TheVariants as query
 use Rattle.adr_queries.specs.Roles.{is_operator}
@@ -32,14 +32,14 @@ pub returns-clause-tells : goal.returns-clause-tells
 unfolding reply
 returns-clause-tells g c clean =
     let yes : is_operator c.args.role.now ≡ true = sym c.is_operator.ensures ∙ passed Forbidden _ _ (sym c.unless.ensures.gives ∙ c.in_ok-unless.was) in
-    found_so c.rollup_told.result (λ answer told held was. rollup_replied held.base c.args.role.now c.args.event.now c.in_ok-copy_of.field-0 c.in_ok-found.found yes c.in_ok-copy_of.ensures (c.in_ok-found.ensures.finds clean (kept_of held) was).0 ∙ sym c.rollup_told.ensures ∙ told)
+    found_so c.rollup_told.result (λ answer told held was. rollup_replied held.base c.args.role.now c.args.event.now c.in_ok-copy_of.field-0 c.in_ok-found.found yes c.in_ok-copy_of.ensures (c.in_ok-found.ensures.finds clean (kept_of held) was.keeps).0 ∙ sym c.rollup_told.ensures ∙ told)
 
 pub returns-clause-refuses : goal.returns-clause-refuses
 unfolding reply
 returns-clause-refuses g c clean =
     let yes : is_operator c.args.role.now ≡ true = sym c.is_operator.ensures ∙ passed Forbidden _ _ (sym c.unless.ensures.gives ∙ c.in_ok-unless.was) in
     refused_then c.rollup_told.result (λ e told held was.
-    refused_so e _ (rollup_replied held.base c.args.role.now c.args.event.now c.in_ok-copy_of.field-0 c.in_ok-found.found yes c.in_ok-copy_of.ensures (c.in_ok-found.ensures.finds clean (kept_of held) was).0 ∙ sym c.rollup_told.ensures ∙ told))
+    refused_so e _ (rollup_replied held.base c.args.role.now c.args.event.now c.in_ok-copy_of.field-0 c.in_ok-found.found yes c.in_ok-copy_of.ensures (c.in_ok-found.ensures.finds clean (kept_of held) was.keeps).0 ∙ sym c.rollup_told.ensures ∙ told))
 
 pub returns-clause-listed : goal.returns-clause-listed
 returns-clause-listed g c = rw c.rollup_told.ensures (contained_all (listed_for (query.Rollup c.args.role.now c.args.event.now)) (rollup_told c.in_ok-copy_of.field-0 c.in_ok-found.found) (rollup_listed c.in_ok-copy_of.field-0 c.in_ok-found.found))

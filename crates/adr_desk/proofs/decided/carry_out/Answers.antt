@@ -1,124 +1,115 @@
 use Rattle.std.proofs.Common.{refl, arith}
-use Rattle.adr_db.proofs.Common.{ven_add, ven_put, ven_remove, resource_add, resource_put, resource_remove, evidence, gone, LimitReached, NoScan}
-use Rattle.adr_state.specs.Shares.{share_set}
+use Rattle.adr_db.proofs.Common.{LimitReached, NoScan}
 use Rattle.adr_queries.specs.declared.answer.Answer.TheVariants as answer
 use Rattle.adr_machine.specs.declared.outcome.Outcome.TheVariants as outcome
-use Rattle.adr_machine.specs.Edits.{ven_outcome, resource_outcome, share_outcome}
 use Rattle.adr_machine.specs.Listed.{listed}
-use Rattle.adr_desk.proofs.DecisionLemmas.{portfolio_carries, counted_carries, begun_carries, ended_carries, delivery_carries}
-use Rattle.adr_desk.proofs.AnswerLemmas.{all_answered}
-use Rattle.adr_desk.proofs.ListedLemmas.{told_store, told_either, told_own}
+use Rattle.adr_desk.proofs.DecisionLemmas.{begun_carries, ended_carries, delivery_carries}
+use Rattle.adr_desk.proofs.AnswerLemmas.{along_answered}
+use Rattle.adr_desk.proofs.ListedLemmas.{along_either, along_store, either_refused, own_refused}
 use Rattle.adr_desk.proofs.decided.carry_out.Goals as goal
 
 pub returns-in-VenAdd-clause-carries : goal.returns-in-VenAdd-clause-carries
-returns-in-VenAdd-clause-carries g c =
-    rw (c.in-VenAdd.is, c.of_ven.ensures) (portfolio_carries g.S.Store c.args.tx.now.conn.now c.ven_add.new.tx.conn.now ven_outcome (ven_add c.args.limits.now c.args.now c.args.number c.in-VenAdd.ven.name) c.args.meta.now c.ven_add.result c.ven_add.ensures.carries c.ven_add.ensures.refuses)
+returns-in-VenAdd-clause-carries g c = rw c.in-VenAdd.is (c.ven_add.ensures.carries c.args.meta.now)
+
+pub returns-in-VenAdd-clause-answered : goal.returns-in-VenAdd-clause-answered
+returns-in-VenAdd-clause-answered g c = c.ven_add.ensures.answered c.args.command.now
 
 pub returns-in-VenAdd-clause-listed : goal.returns-in-VenAdd-clause-listed
-returns-in-VenAdd-clause-listed g c = rw c.of_ven.ensures (told_own c.args.command.now ven_outcome c.ven_add.result (rw c.in-VenAdd.is c.ven_add.ensures.refused))
+returns-in-VenAdd-clause-listed g c = own_refused c.args.command.now c.ven_add.result (rw c.in-VenAdd.is c.ven_add.ensures.refused)
 
 pub returns-in-VenPut-clause-carries : goal.returns-in-VenPut-clause-carries
-returns-in-VenPut-clause-carries g c =
-    rw (c.in-VenPut.is, c.of_ven-in-VenPut.ensures) (portfolio_carries g.S.Store c.args.tx.now.conn.now c.ven_put.new.tx.conn.now ven_outcome (ven_put c.args.now c.in-VenPut.id c.in-VenPut.ven.name) c.args.meta.now c.ven_put.result c.ven_put.ensures.carries c.ven_put.ensures.refuses)
+returns-in-VenPut-clause-carries g c = rw c.in-VenPut.is (c.ven_put.ensures.carries c.args.meta.now)
+
+pub returns-in-VenPut-clause-answered : goal.returns-in-VenPut-clause-answered
+returns-in-VenPut-clause-answered g c = c.ven_put.ensures.answered c.args.command.now
 
 pub returns-in-VenPut-clause-listed : goal.returns-in-VenPut-clause-listed
-returns-in-VenPut-clause-listed g c = rw c.of_ven-in-VenPut.ensures (told_own c.args.command.now ven_outcome c.ven_put.result (rw c.in-VenPut.is c.ven_put.ensures.refused))
+returns-in-VenPut-clause-listed g c = own_refused c.args.command.now c.ven_put.result (rw c.in-VenPut.is c.ven_put.ensures.refused)
 
 pub returns-in-VenRemove-clause-carries : goal.returns-in-VenRemove-clause-carries
-returns-in-VenRemove-clause-carries g c =
-    rw (c.in-VenRemove.is, c.of_ven-in-VenRemove.ensures) (portfolio_carries g.S.Store c.args.tx.now.conn.now c.ven_remove.new.tx.conn.now ven_outcome (ven_remove c.in-VenRemove.id) c.args.meta.now c.ven_remove.result c.ven_remove.ensures.carries c.ven_remove.ensures.refuses)
+returns-in-VenRemove-clause-carries g c = rw c.in-VenRemove.is (c.ven_remove.ensures.carries c.args.meta.now)
+
+pub returns-in-VenRemove-clause-answered : goal.returns-in-VenRemove-clause-answered
+returns-in-VenRemove-clause-answered g c = c.ven_remove.ensures.answered c.args.command.now
 
 pub returns-in-VenRemove-clause-listed : goal.returns-in-VenRemove-clause-listed
-returns-in-VenRemove-clause-listed g c = rw c.of_ven-in-VenRemove.ensures (told_own c.args.command.now ven_outcome c.ven_remove.result (rw c.in-VenRemove.is c.ven_remove.ensures.refused))
+returns-in-VenRemove-clause-listed g c = own_refused c.args.command.now c.ven_remove.result (rw c.in-VenRemove.is c.ven_remove.ensures.refused)
 
 pub returns-in-ResourceAdd-clause-carries : goal.returns-in-ResourceAdd-clause-carries
-returns-in-ResourceAdd-clause-carries g c =
-    rw (c.in-ResourceAdd.is, c.of_resource.ensures) (portfolio_carries g.S.Store c.args.tx.now.conn.now c.resource_add.new.tx.conn.now resource_outcome (resource_add c.args.limits.now c.args.now c.args.number c.in-ResourceAdd.ven c.in-ResourceAdd.resource.name) c.args.meta.now c.resource_add.result c.resource_add.ensures.carries c.resource_add.ensures.refuses)
+returns-in-ResourceAdd-clause-carries g c = rw c.in-ResourceAdd.is (c.resource_add.ensures.carries c.args.meta.now)
+
+pub returns-in-ResourceAdd-clause-answered : goal.returns-in-ResourceAdd-clause-answered
+returns-in-ResourceAdd-clause-answered g c = c.resource_add.ensures.answered c.args.command.now
 
 pub returns-in-ResourceAdd-clause-listed : goal.returns-in-ResourceAdd-clause-listed
-returns-in-ResourceAdd-clause-listed g c = rw c.of_resource.ensures (told_own c.args.command.now resource_outcome c.resource_add.result (rw c.in-ResourceAdd.is c.resource_add.ensures.refused))
+returns-in-ResourceAdd-clause-listed g c = own_refused c.args.command.now c.resource_add.result (rw c.in-ResourceAdd.is c.resource_add.ensures.refused)
 
 pub returns-in-ResourcePut-clause-carries : goal.returns-in-ResourcePut-clause-carries
-returns-in-ResourcePut-clause-carries g c =
-    rw (c.in-ResourcePut.is, c.of_resource-in-ResourcePut.ensures) (portfolio_carries g.S.Store c.args.tx.now.conn.now c.resource_put.new.tx.conn.now resource_outcome (resource_put c.args.now c.in-ResourcePut.ven c.in-ResourcePut.id c.in-ResourcePut.resource.name) c.args.meta.now c.resource_put.result c.resource_put.ensures.carries c.resource_put.ensures.refuses)
+returns-in-ResourcePut-clause-carries g c = rw c.in-ResourcePut.is (c.resource_put.ensures.carries c.args.meta.now)
+
+pub returns-in-ResourcePut-clause-answered : goal.returns-in-ResourcePut-clause-answered
+returns-in-ResourcePut-clause-answered g c = c.resource_put.ensures.answered c.args.command.now
 
 pub returns-in-ResourcePut-clause-listed : goal.returns-in-ResourcePut-clause-listed
-returns-in-ResourcePut-clause-listed g c = rw c.of_resource-in-ResourcePut.ensures (told_own c.args.command.now resource_outcome c.resource_put.result (rw c.in-ResourcePut.is c.resource_put.ensures.refused))
+returns-in-ResourcePut-clause-listed g c = own_refused c.args.command.now c.resource_put.result (rw c.in-ResourcePut.is c.resource_put.ensures.refused)
 
 pub returns-in-ResourceRemove-clause-carries : goal.returns-in-ResourceRemove-clause-carries
-returns-in-ResourceRemove-clause-carries g c =
-    rw (c.in-ResourceRemove.is, c.of_resource-in-ResourceRemove.ensures) (portfolio_carries g.S.Store c.args.tx.now.conn.now c.resource_remove.new.tx.conn.now resource_outcome (resource_remove c.in-ResourceRemove.ven c.in-ResourceRemove.id) c.args.meta.now c.resource_remove.result c.resource_remove.ensures.carries c.resource_remove.ensures.refuses)
+returns-in-ResourceRemove-clause-carries g c = rw c.in-ResourceRemove.is (c.resource_remove.ensures.carries c.args.meta.now)
+
+pub returns-in-ResourceRemove-clause-answered : goal.returns-in-ResourceRemove-clause-answered
+returns-in-ResourceRemove-clause-answered g c = c.resource_remove.ensures.answered c.args.command.now
 
 pub returns-in-ResourceRemove-clause-listed : goal.returns-in-ResourceRemove-clause-listed
-returns-in-ResourceRemove-clause-listed g c = rw c.of_resource-in-ResourceRemove.ensures (told_own c.args.command.now resource_outcome c.resource_remove.result (rw c.in-ResourceRemove.is c.resource_remove.ensures.refused))
+returns-in-ResourceRemove-clause-listed g c = own_refused c.args.command.now c.resource_remove.result (rw c.in-ResourceRemove.is c.resource_remove.ensures.refused)
 
 pub returns-in-ShareSet-clause-carries : goal.returns-in-ShareSet-clause-carries
-returns-in-ShareSet-clause-carries g c =
-    rw (c.in-ShareSet.is, c.of_share.ensures) (portfolio_carries g.S.Store c.args.tx.now.conn.now c.share_set.new.tx.conn.now share_outcome (share_set c.args.limits.now c.in-ShareSet.program c.in-ShareSet.resource c.in-ShareSet.share.share) c.args.meta.now c.share_set.result c.share_set.ensures.carries c.share_set.ensures.refuses)
+returns-in-ShareSet-clause-carries g c = rw c.in-ShareSet.is (c.share_set.ensures.carries c.args.meta.now)
+
+pub returns-in-ShareSet-clause-answered : goal.returns-in-ShareSet-clause-answered
+returns-in-ShareSet-clause-answered g c = c.share_set.ensures.answered c.args.command.now
 
 pub returns-in-ShareSet-clause-listed : goal.returns-in-ShareSet-clause-listed
-returns-in-ShareSet-clause-listed g c = rw c.of_share.ensures (told_own c.args.command.now share_outcome c.share_set.result (rw c.in-ShareSet.is c.share_set.ensures.refused))
+returns-in-ShareSet-clause-listed g c = own_refused c.args.command.now c.share_set.result (rw c.in-ShareSet.is c.share_set.ensures.refused)
 
 pub returns-in-Evidence-clause-carries : goal.returns-in-Evidence-clause-carries
-returns-in-Evidence-clause-carries g c =
-    rw (c.in-Evidence.is, c.counted.ensures) (counted_carries g.S.Store c.args.tx.now.conn.now c.put_evidence.new.tx.conn.now (evidence c.args.limits.now c.in-Evidence.found c.in-Evidence.polled) c.args.meta.now c.put_evidence.new.meta _ c.put_evidence.result (rw c.as_slice.ensures at c.put_evidence.ensures.makes) (rw c.as_slice.ensures at c.put_evidence.ensures.refuses))
+returns-in-Evidence-clause-carries g c = rw c.in-Evidence.is (rw c.as_slice.ensures at c.found.ensures.carries)
+
+pub returns-in-Evidence-clause-answered : goal.returns-in-Evidence-clause-answered
+returns-in-Evidence-clause-answered g c = c.found.ensures.answered c.args.command.now
 
 pub returns-in-Evidence-clause-listed : goal.returns-in-Evidence-clause-listed
-returns-in-Evidence-clause-listed g c = rw c.counted.ensures (told_either (listed c.args.command.now) (λ _. outcome.Counted) LimitReached (rw c.in-Evidence.is (0, omega arith, refl)) c.put_evidence.result c.put_evidence.ensures.refused)
+returns-in-Evidence-clause-listed g c = either_refused (listed c.args.command.now) LimitReached (rw c.in-Evidence.is (0, omega arith, refl)) c.found.result c.found.ensures.refused
 
 pub returns-in-Gone-clause-carries : goal.returns-in-Gone-clause-carries
-returns-in-Gone-clause-carries g c =
-    rw (c.in-Gone.is, c.counted-in-Gone.ensures) (counted_carries g.S.Store c.args.tx.now.conn.now c.gone.new.tx.conn.now (gone c.args.limits.now (record { kind = c.in-Gone.kind; id = c.in-Gone.id })) c.args.meta.now c.gone.new.meta _ c.gone.result c.gone.ensures.makes c.gone.ensures.refuses)
+returns-in-Gone-clause-carries g c = rw c.in-Gone.is (c.deleted.ensures.carries)
+
+pub returns-in-Gone-clause-answered : goal.returns-in-Gone-clause-answered
+returns-in-Gone-clause-answered g c = c.deleted.ensures.answered c.args.command.now
 
 pub returns-in-Gone-clause-listed : goal.returns-in-Gone-clause-listed
-returns-in-Gone-clause-listed g c = rw c.counted-in-Gone.ensures (told_either (listed c.args.command.now) (λ _. outcome.Counted) LimitReached (rw c.in-Gone.is (0, omega arith, refl)) c.gone.result c.gone.ensures.refused)
+returns-in-Gone-clause-listed g c = either_refused (listed c.args.command.now) LimitReached (rw c.in-Gone.is (0, omega arith, refl)) c.deleted.result c.deleted.ensures.refused
 
 pub returns-in-ScanBegin-clause-carries : goal.returns-in-ScanBegin-clause-carries
 returns-in-ScanBegin-clause-carries g c =
-    rw (c.in-ScanBegin.is, c.done.ensures) (begun_carries g.S.Store c.args.tx.now.conn.now c.scan_begin.new.tx.conn.now c.args.meta.now c.scan_begin.new.meta c.scan_begin.result c.scan_begin.ensures.makes c.scan_begin.ensures.refused)
+    rw (c.in-ScanBegin.is, c.along.ensures, c.done.ensures) (begun_carries g.S.Store c.args.tx.now.conn.now c.scan_begin.new.tx.conn.now c.none.result c.none.ensures.covers c.args.meta.now c.scan_begin.new.meta c.scan_begin.result c.scan_begin.ensures.makes c.scan_begin.ensures.refused)
+
+pub returns-in-ScanBegin-clause-answered : goal.returns-in-ScanBegin-clause-answered
+returns-in-ScanBegin-clause-answered g c = rw (c.along.ensures, c.done.ensures) (along_answered c.args.command.now (λ _. outcome.Told answer.Done) (λ x before after. tt) c.none.result c.scan_begin.result)
 
 pub returns-in-ScanBegin-clause-listed : goal.returns-in-ScanBegin-clause-listed
-returns-in-ScanBegin-clause-listed g c = rw c.done.ensures (told_store (listed c.args.command.now) (λ _. outcome.Told answer.Done) c.scan_begin.result c.scan_begin.ensures.refused)
+returns-in-ScanBegin-clause-listed g c = rw (c.along.ensures, c.done.ensures) (along_store (listed c.args.command.now) (λ _. outcome.Told answer.Done) c.none.result c.scan_begin.result c.scan_begin.ensures.refused)
 
 pub returns-in-ScanEnd-clause-carries : goal.returns-in-ScanEnd-clause-carries
 returns-in-ScanEnd-clause-carries g c =
-    rw (c.in-ScanEnd.is, c.of_scan.ensures) (ended_carries g.S.Store c.args.tx.now.conn.now c.scan_end.new.tx.conn.now c.args.meta.now c.scan_end.new.meta c.scan_end.result c.scan_end.ensures.makes c.scan_end.ensures.refuses)
-
-pub returns-in-ScanEnd-clause-listed : goal.returns-in-ScanEnd-clause-listed
-returns-in-ScanEnd-clause-listed g c = rw c.of_scan.ensures (told_either (listed c.args.command.now) (λ keys. outcome.Told (answer.Probes keys)) NoScan (rw c.in-ScanEnd.is (0, omega arith, refl)) c.scan_end.result c.scan_end.ensures.refused)
-
-pub returns-in-VenAdd-clause-answered : goal.returns-in-VenAdd-clause-answered
-returns-in-VenAdd-clause-answered g c = rw c.of_ven.ensures (all_answered c.args.command.now ven_outcome (λ x before after. tt) c.ven_add.result)
-
-pub returns-in-VenPut-clause-answered : goal.returns-in-VenPut-clause-answered
-returns-in-VenPut-clause-answered g c = rw c.of_ven-in-VenPut.ensures (all_answered c.args.command.now ven_outcome (λ x before after. tt) c.ven_put.result)
-
-pub returns-in-VenRemove-clause-answered : goal.returns-in-VenRemove-clause-answered
-returns-in-VenRemove-clause-answered g c = rw c.of_ven-in-VenRemove.ensures (all_answered c.args.command.now ven_outcome (λ x before after. tt) c.ven_remove.result)
-
-pub returns-in-ResourceAdd-clause-answered : goal.returns-in-ResourceAdd-clause-answered
-returns-in-ResourceAdd-clause-answered g c = rw c.of_resource.ensures (all_answered c.args.command.now resource_outcome (λ x before after. tt) c.resource_add.result)
-
-pub returns-in-ResourcePut-clause-answered : goal.returns-in-ResourcePut-clause-answered
-returns-in-ResourcePut-clause-answered g c = rw c.of_resource-in-ResourcePut.ensures (all_answered c.args.command.now resource_outcome (λ x before after. tt) c.resource_put.result)
-
-pub returns-in-ResourceRemove-clause-answered : goal.returns-in-ResourceRemove-clause-answered
-returns-in-ResourceRemove-clause-answered g c = rw c.of_resource-in-ResourceRemove.ensures (all_answered c.args.command.now resource_outcome (λ x before after. tt) c.resource_remove.result)
-
-pub returns-in-ShareSet-clause-answered : goal.returns-in-ShareSet-clause-answered
-returns-in-ShareSet-clause-answered g c = rw c.of_share.ensures (all_answered c.args.command.now share_outcome (λ x before after. tt) c.share_set.result)
-
-pub returns-in-Evidence-clause-answered : goal.returns-in-Evidence-clause-answered
-returns-in-Evidence-clause-answered g c = rw c.counted.ensures (all_answered c.args.command.now (λ _. outcome.Counted) (λ x before after. tt) c.put_evidence.result)
-
-pub returns-in-Gone-clause-answered : goal.returns-in-Gone-clause-answered
-returns-in-Gone-clause-answered g c = rw c.counted-in-Gone.ensures (all_answered c.args.command.now (λ _. outcome.Counted) (λ x before after. tt) c.gone.result)
-
-pub returns-in-ScanBegin-clause-answered : goal.returns-in-ScanBegin-clause-answered
-returns-in-ScanBegin-clause-answered g c = rw c.done.ensures (all_answered c.args.command.now (λ _. outcome.Told answer.Done) (λ x before after. tt) c.scan_begin.result)
+    rw (c.in-ScanEnd.is, c.along-in-ScanEnd.ensures, c.of_scan.ensures) (ended_carries g.S.Store c.args.tx.now.conn.now c.scan_end.new.tx.conn.now c.none-in-ScanEnd.result c.none-in-ScanEnd.ensures.covers c.args.meta.now c.scan_end.new.meta c.scan_end.result c.scan_end.ensures.makes c.scan_end.ensures.refuses)
 
 pub returns-in-ScanEnd-clause-answered : goal.returns-in-ScanEnd-clause-answered
-returns-in-ScanEnd-clause-answered g c = rw c.of_scan.ensures (all_answered c.args.command.now (λ keys. outcome.Told (answer.Probes keys)) (λ x before after. tt) c.scan_end.result)
+returns-in-ScanEnd-clause-answered g c = rw (c.along-in-ScanEnd.ensures, c.of_scan.ensures) (along_answered c.args.command.now (λ keys. outcome.Told (answer.Probes keys)) (λ x before after. tt) c.none-in-ScanEnd.result c.scan_end.result)
+
+pub returns-in-ScanEnd-clause-listed : goal.returns-in-ScanEnd-clause-listed
+returns-in-ScanEnd-clause-listed g c =
+    rw (c.along-in-ScanEnd.ensures, c.of_scan.ensures)
+    (along_either (listed c.args.command.now) (λ keys. outcome.Told (answer.Probes keys)) c.none-in-ScanEnd.result NoScan (rw c.in-ScanEnd.is (0, omega arith, refl)) c.scan_end.result c.scan_end.ensures.refused)
 
 pub returns-in-ReportPost-clause-carries : goal.returns-in-ReportPost-clause-carries
 returns-in-ReportPost-clause-carries g c = rw c.in-ReportPost.is (c.report_post.ensures.carries c.args.meta.now)
@@ -175,4 +166,5 @@ pub returns-in-SubDelete-clause-listed : goal.returns-in-SubDelete-clause-listed
 returns-in-SubDelete-clause-listed g c = rw c.in-SubDelete.is c.sub_delete.ensures.listed
 
 pub returns-in-Lease-clause-carries : goal.returns-in-Lease-clause-carries
-returns-in-Lease-clause-carries g c = rw c.done-in-Lease.ensures (delivery_carries g.S.Store c.args.tx.now.conn.now c.args.limits.now c.args.now c.args.number c.args.meta.now c.args.command.now c.in-Lease.is)
+returns-in-Lease-clause-carries g c =
+    rw (c.along-in-Lease.ensures, c.done-in-Lease.ensures) (delivery_carries g.S.Store c.args.tx.now.conn.now c.args.limits.now c.args.now c.args.number c.args.meta.now c.none-in-Lease.result c.none-in-Lease.ensures.covers c.args.command.now c.in-Lease.is)

@@ -8,4 +8,8 @@ pub returns : goal.returns
 returns g c is_open held left =
     let s = state g.S.Store c.args.conn.now in
     let live = (c.schema.ensures.live is_open).0 in
-    record { rows = record { has = lists_once _ s.now.schema schema live.lists left.sound.lists; sound = left.sound; each = left.rows }; marks = left.marks; subs = left.subs }
+    record {
+      keeps = record { rows = record { has = lists_once _ s.now.schema schema live.lists left.sound.lists; sound = left.sound; each = left.rows }; marks = left.marks; subs = left.subs };
+      reads = left.reads;
+      right = left.right;
+    }

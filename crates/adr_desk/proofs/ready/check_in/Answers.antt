@@ -2,7 +2,7 @@ use Rattle.std.proofs.Common.{rules, Err, ◌∙◌, ap, refl, arith}
 use Rattle.std.proofs.lemmas.Result.{err_from_is_err_and}
 use Rattle.adr_db.proofs.Common.{state, Commits, HasCleanDisk}
 use Rattle.adr_state.specs.declared.state.State.{State}
-use Rattle.adr_db.specs.Bases.{HoldsState, AreLeftWith}
+use Rattle.adr_held.specs.Held.{HoldsState, AreLeftWith}
 use Rattle.adr_desk.proofs.Applied.{moved}
 use Rattle.adr_desk.proofs.Readied.{KnownIn, checked_whole, IsOfUnknown, handed_on}
 use Rattle.adr_desk.proofs.ready.check_in.Goals as goal

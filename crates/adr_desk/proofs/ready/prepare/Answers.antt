@@ -4,7 +4,7 @@ use Rattle.adr_db.proofs.Common.{state, Holds, no_schema}
 use Rattle.adr_state.specs.declared.state.State.{State}
 use Rattle.adr_state.specs.States.{empty}
 use Rattle.adr_db.specs.Kept.{contents_of}
-use Rattle.adr_db.specs.Bases.{kept_of, AreLeftWith}
+use Rattle.adr_held.specs.Held.{kept_of, AreLeftWith}
 use Rattle.adr_db.proofs.Results.{on_then}
 use Rattle.adr_desk.specs.declared.ready.Start.{Start}
 use Rattle.adr_desk.specs.Preparing.{Becomes}
@@ -25,4 +25,4 @@ returns-in-Kept-clause-made g c clean =
 
 pub returns-in-Kept-clause-unknown : goal.returns-in-Kept-clause-unknown
 returns-in-Kept-clause-unknown g c clean =
-    IfErr-weaker c.check_in.result _ _ (λ refusal unknown is held was. unknown is (contents_of (kept_of held)) was.rows (state_said held)) (c.check_in.ensures.unknown clean)
+    IfErr-weaker c.check_in.result _ _ (λ refusal unknown is held was. unknown is (contents_of (kept_of held)) was.keeps.rows (state_said held)) (c.check_in.ensures.unknown clean)

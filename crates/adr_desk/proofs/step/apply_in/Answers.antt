@@ -1,7 +1,7 @@
 use Rattle.std.proofs.Common.{rules}
 use Rattle.adr_db.proofs.Common.{state, Commits}
 use Rattle.adr_state.specs.declared.state.State.{State}
-use Rattle.adr_db.specs.Bases.{HoldsState}
+use Rattle.adr_held.specs.Held.{HoldsState}
 use Rattle.adr_machine.specs.Listed.{listed}
 use Rattle.adr_desk.specs.Steps.{step_by, StepsTables, HoldsStepped, LeftStepped}
 use Rattle.adr_desk.proofs.Applied.{moved, applied_whole, applied_makes}

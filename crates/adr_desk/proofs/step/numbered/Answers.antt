@@ -20,13 +20,13 @@ pub returns-clause-makes : goal.returns-clause-makes
 returns-clause-makes g c clean =
     rw c.after.ensures (after_made c.in_ok-said.said _ c.draw-drawn.result (on_then c.draw-drawn.result (λ left beside base was same.
     let next = c.next-number.ensures ∙ ap (λ (m : Meta). m.serial + 1) same in
-    is_edited c.args.limits.now c.args.now c.args.command.now base c.next-number.result next beside c.args.meta.now c.carry_out.new.meta c.in_ok-said.said _ (c.in_ok-said.ensures.carries.decides clean beside base was same) c.draw-drawn.new.self (rw c.draws_number.ensures at left)) c.draw-drawn.ensures.ok))
+    is_edited c.args.limits.now c.args.now c.args.command.now base c.next-number.result next beside c.args.meta.now c.carry_out.new.meta c.in_ok-said.said.0 c.in_ok-said.said.1 _ (c.in_ok-said.ensures.carries.decides clean beside base was same) c.draw-drawn.new.self (rw c.draws_number.ensures at left)) c.draw-drawn.ensures.ok))
 
 pub returns-clause-refuses : goal.returns-clause-refuses
 returns-clause-refuses g c clean =
     rw c.after.ensures (after_refused c.in_ok-said.said _ c.draw-drawn.result (IfErr-weaker c.draw-drawn.result _ _ (λ e refused beside base was same.
     let next = c.next-number.ensures ∙ ap (λ (m : Meta). m.serial + 1) same in
-    draw_refused c.args.limits.now c.args.now c.args.command.now base c.next-number.result next beside c.args.meta.now c.carry_out.new.meta c.in_ok-said.said _ (c.in_ok-said.ensures.carries.decides clean beside base was same) e (rw c.draws_number.ensures at refused)) c.draw-drawn.ensures.err))
+    draw_refused c.args.limits.now c.args.now c.args.command.now base c.next-number.result next beside c.args.meta.now c.carry_out.new.meta c.in_ok-said.said.0 c.in_ok-said.said.1 _ (c.in_ok-said.ensures.carries.decides clean beside base was same) e (rw c.draws_number.ensures at refused)) c.draw-drawn.ensures.err))
 
 pub returns-clause-listed : goal.returns-clause-listed
 returns-clause-listed g c =

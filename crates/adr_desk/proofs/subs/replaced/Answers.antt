@@ -6,16 +6,17 @@ use Rattle.adr_view.specs.Subs.{sub_put}
 use Rattle.adr_machine.specs.declared.command.Command.TheVariants as command
 use Rattle.adr_machine.specs.Edits.{sub_outcome}
 use Rattle.adr_machine.specs.Listed.{listed}
-use Rattle.adr_desk.proofs.AnswerLemmas.{all_answered}
-use Rattle.adr_desk.proofs.DecisionLemmas.{sight_carries, unseen_carries}
-use Rattle.adr_desk.proofs.ListedLemmas.{Listed, one_of_listed, told_one_of}
+use Rattle.adr_desk.proofs.AnswerLemmas.{along_answered}
+use Rattle.adr_desk.proofs.CoverLemmas.{sub_put_covers}
+use Rattle.adr_desk.proofs.DecisionLemmas.{asks_nothing, sight_carries, unseen_carries}
+use Rattle.adr_desk.proofs.ListedLemmas.{Listed, one_of_listed, along_one_of}
 use Rattle.adr_desk.proofs.subs.replaced.Goals as goal
 
 -- who sees nothing is refused
 pub returns-in_err-sight-clause-carries : goal.returns-in_err-sight-clause-carries
 returns-in_err-sight-clause-carries g c meta =
     let mid = c.sight_in.new.tx.conn.now in
-    unseen_carries g.S.Store c.args.tx.now.conn.now mid mid sub_outcome (λ sight mirror p. sub_put sight c.args.now c.args.id.now c.args.body p) c.args.role.now meta c.in_err-sight.field-0.0 c.from_residual.result c.from_residual.ensures.1 c.in_err-sight.ensures.refuses
+    unseen_carries g.S.Store c.args.tx.now.conn.now c.args.tx.now.conn.now mid mid sub_outcome (λ sight mirror p. sub_put sight c.args.now c.args.id.now c.args.body p) c.args.role.now _ (asks_nothing g.S.Store c.args.tx.now.conn.now) (λ clean. omega (arith, clean, c.sight_in.ensures.lent.stays.crash.clean)) meta c.in_err-sight.field-0.0 c.from_residual.result c.from_residual.ensures.1 (λ clean. clean) c.in_err-sight.ensures.refuses
 
 pub returns-in_err-sight-clause-listed : goal.returns-in_err-sight-clause-listed
 returns-in_err-sight-clause-listed g c =
@@ -25,12 +26,12 @@ returns-in_err-sight-clause-listed g c =
 
 pub returns-clause-carries : goal.returns-clause-carries
 returns-clause-carries g c meta =
-    rw c.of_sub.ensures
-    (sight_carries g.S.Store c.args.tx.now.conn.now c.sight_in.new.tx.conn.now c.put.new.tx.conn.now sub_outcome (λ sight mirror p. sub_put sight c.args.now c.args.id.now c.args.body p) c.args.role.now c.in_ok-sight.sight meta c.put.result
-    (λ clean. omega (arith, clean, c.put.ensures.lent.stays.crash.clean)) c.in_ok-sight.ensures.finds c.put.ensures.carries c.put.ensures.refuses)
+    rw (c.along.ensures, c.of_sub.ensures)
+    (sight_carries g.S.Store c.args.tx.now.conn.now c.args.tx.now.conn.now c.sight_in.new.tx.conn.now c.put.new.tx.conn.now sub_outcome (λ sight mirror p. sub_put sight c.args.now c.args.id.now c.args.body p) c.args.role.now _ (asks_nothing g.S.Store c.args.tx.now.conn.now) (λ clean. omega (arith, clean, c.sight_in.ensures.lent.stays.crash.clean)) c.in_ok-sight.sight meta c.put.result
+    (λ clean. omega (arith, clean, c.put.ensures.lent.stays.crash.clean)) c.in_ok-sight.ensures.finds c.put.ensures.carries c.put.ensures.refuses c.none.result (λ base right x change said is. sub_put_covers c.none.result c.none.ensures.covers base change c.in_ok-sight.sight c.args.now c.args.id.now c.args.body base.portfolio x is))
 
 pub returns-clause-answered : goal.returns-clause-answered
-returns-clause-answered g c = rw c.of_sub.ensures (all_answered (command.SubPut c.args.role.now c.args.id.now c.args.body) sub_outcome (λ x before after. tt) c.put.result)
+returns-clause-answered g c = rw (c.along.ensures, c.of_sub.ensures) (along_answered (command.SubPut c.args.role.now c.args.id.now c.args.body) sub_outcome (λ x before after. tt) c.none.result c.put.result)
 
 pub returns-clause-listed : goal.returns-clause-listed
-returns-clause-listed g c = rw c.of_sub.ensures (told_one_of (listed (command.SubPut c.args.role.now c.args.id.now c.args.body)) sub_outcome (NotFound ∷ Forbidden ∷ []) ((2, omega arith, refl), ((1, omega arith, refl), tt)) c.put.result c.put.ensures.refused)
+returns-clause-listed g c = rw (c.along.ensures, c.of_sub.ensures) (along_one_of (listed (command.SubPut c.args.role.now c.args.id.now c.args.body)) sub_outcome c.none.result (NotFound ∷ Forbidden ∷ []) ((2, omega arith, refl), ((1, omega arith, refl), tt)) c.put.result c.put.ensures.refused)

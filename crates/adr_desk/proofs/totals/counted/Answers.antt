@@ -2,7 +2,7 @@ use Rattle.std.proofs.Common.{◌≡◌, true, Ok, Err, refl, sym, ap, subst, �
 use Rattle.adr_db.proofs.Common.{Forbidden}
 use Rattle.adr_db.proofs.Results.{handed_on, refused_so}
 use Rattle.adr_objects.specs.declared.counts.OutboxCounts.{OutboxCounts}
-use Rattle.adr_db.specs.Bases.{kept_of}
+use Rattle.adr_held.specs.Held.{kept_of}
 use Rattle.adr_queries.specs.Listed.{listed_for}
 use Rattle.adr_queries.specs.declared.query.Query.TheVariants as query
 use Rattle.adr_queries.specs.Roles.{is_operator}
@@ -31,4 +31,4 @@ pub returns-clause-tells : goal.returns-clause-tells
 unfolding reply
 returns-clause-tells g c clean held was =
     let yes : is_operator c.args.role.now ≡ true = sym c.is_operator.ensures ∙ passed Forbidden _ _ (sym c.unless.ensures.gives ∙ c.in_ok-unless.was) in
-    rw yes (ap (λ (n : OutboxCounts). Ok (answer.Counts n)) (sym ((c.in_ok-counts.ensures.finds clean (kept_of held) was).0 refl)))
+    rw yes (ap (λ (n : OutboxCounts). Ok (answer.Counts n)) (sym ((c.in_ok-counts.ensures.finds clean (kept_of held) was.keeps).0 refl)))
