@@ -48,7 +48,7 @@ use Rattle.adr_told.proofs.Trails.{trail_as_whole}
 use Rattle.adr_commit.proofs.Visited.{AsWhole, Goes, IsVisited, nothing_visited, owner, subs, then_visited}
 
 -- none more are as many
-plus_none : (n : ℕ) → n ≤ most_tally → plus n 0 ≡ n
+pub plus_none : (n : ℕ) → n ≤ most_tally → plus n 0 ≡ n
 plus_none n within = by (nat_lt most_tally (n + 0)) refl
   where
     by : (past : Bool) → nat_lt most_tally (n + 0) ≡ past → cond past most_tally (n + 0) ≡ n

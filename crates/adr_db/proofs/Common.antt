@@ -33,7 +33,6 @@ pub use Rattle.adr_state.specs.declared.participants.Participant.{Participant}
 pub use Rattle.adr_state.specs.declared.portfolio.Report.{Report}
 pub use Rattle.adr_state.specs.declared.portfolio.Resource.{Resource}
 pub use Rattle.adr_state.specs.declared.portfolio.Ven.{Ven}
-pub use Rattle.adr_sql.proofs.Counts.{IsCountText}
 pub use Rattle.adr_sql.proofs.Joins.{IsSelectText, join_runs, named_is, order_from}
 pub use Rattle.adr_sql.proofs.Keys.{and_true, are_full, equal_is, same_bool, then_eq, ties}
 pub use Rattle.adr_sql.proofs.Maps.{entry_found, fold_keys, insert_key_is, is_text, keys_alone, keys_back, number_key, number_text_key, number_text_number_key, text_key, text_number_key, text_passes, text_same, then_none}

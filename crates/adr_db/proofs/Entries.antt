@@ -1,8 +1,9 @@
 -- What holds of the value of each entry of a map; and entries by numbers.
-use Rattle.std.proofs.Common.{◌≡◌, inl, inr, ℕ, suc, Bool, true, false, cond, List, [], ◌∷◌, length, map, Some, refl, sym, ap, ap₂, ◌∙◌, Ordering, Less, Equal, Greater, is_eq}
+use Rattle.std.proofs.Common.{◌≡◌, inl, inr, ℕ, suc, Bool, true, false, cond, List, [], ◌∷◌, length, map, None, Some, refl, sym, ap, ap₂, ◌∙◌, Ordering, Less, Equal, Greater, is_eq}
+use Rattle.std.specs.Cmp.{IsTotalOrder}
 use Rattle.std.specs.Prelude.{IfSome, is_some}
 use Rattle.std.specs.Map.{remove_entry}
-use Rattle.adr_db.proofs.Common.{AllByRecursion, match_ordering, insert_entry, is_at, at, nat_cmp, nat_cmp_total, ordering_reverse, tied_itself, IsAscending, Has, all_weaker, Row}
+use Rattle.adr_db.proofs.Common.{AllByRecursion, match_ordering, insert_entry, is_at, at, nat_cmp, nat_cmp_total, ordering_reverse, tied_itself, IsAscending, Has, Row}
 use Rattle.sqlite_rules.proofs.ListLemmas.{all_has}
 
 -- entries whose rows read back, where their values are so
@@ -54,32 +55,46 @@ module _ {V : Type 0} where
       let below = all_has (λ (y : ℕ × V). nat_cmp x.0 y.0 ≡ Less) es e up.0 has in
       ap (λ o. cond (is_eq o) (Some x.1) (at nat_cmp e.0 es)) (nat_cmp_total.antisymm e.0 x.0 ∙ ap ordering_reverse below) ∙ found_of es up.1 e has
 
+-- ---- how many there are
+
+one_more : (there : Bool) (n : ℕ) → suc (cond there n (suc n)) ≡ cond there (suc n) (suc (suc n))
+one_more true n = refl
+one_more false n = refl
+
+module _ {K V : Type 0} {R : K → K → Ordering} (order : IsTotalOrder R) where
+  -- a key below every key is none of them
+  absent : (k : K) (e : K × V) (es : List (K × V)) → R k e.0 ≡ Less → AllByRecursion (λ x. R e.0 x.0 ≡ Less) es → at R k es ≡ None
+  absent k e [] less up = refl
+  absent k e (x ∷ xs) less up = rw (order.trans k e.0 x.0 less up.0) (absent k e xs less up.1)
+
   -- one that is put where one stands takes its place, and else there is one more
-  pub length_put : (n : ℕ) (v : V) (es : List (ℕ × V)) → NumbersRise es → length (insert_entry nat_cmp es n v) ≡ cond (is_some (at nat_cmp n es)) (length es) (suc (length es))
-  length_put n v [] up = refl
-  length_put n v (e ∷ es) up = by (nat_cmp n e.0) refl (length_put n v es up.1)
+  pub length_put : (k : K) (v : V) (es : List (K × V)) → IsAscending (λ a b. R a.0 b.0 ≡ Less) es → length (insert_entry R es k v) ≡ cond (is_some (at R k es)) (length es) (suc (length es))
+  length_put k v [] up = refl
+  length_put k v (e ∷ es) up = by (R k e.0) refl (length_put k v es up.1) (λ less. absent k e es less up.0)
     where
-      none_there : (es : List (ℕ × V)) → AllByRecursion (λ (y : ℕ × V). nat_cmp n y.0 ≡ Less) es → is_some (at nat_cmp n es) ≡ false
-      none_there [] below = refl
-      none_there (x ∷ es) below = ap (λ o. is_some (cond (is_eq o) (Some x.1) (at nat_cmp n es))) below.0 ∙ none_there es below.1
+      by : (o : Ordering) → R k e.0 ≡ o → length (insert_entry R es k v) ≡ cond (is_some (at R k es)) (length es) (suc (length es)) → (R k e.0 ≡ Less → at R k es ≡ None)
+          → length (match_ordering o ((k, v) ∷ e ∷ es) ((e.0, v) ∷ es) (e ∷ insert_entry R es k v)) ≡ cond (is_some (cond (is_eq o) (Some e.1) (at R k es))) (suc (length es)) (suc (suc (length es)))
+      by Less is more none = rw (none is) refl
+      by Equal is more none = refl
+      by Greater is more none = ap suc more ∙ one_more (is_some (at R k es)) (length es)
 
-      by : (o : Ordering) → nat_cmp n e.0 ≡ o → length (insert_entry nat_cmp es n v) ≡ cond (is_some (at nat_cmp n es)) (length es) (suc (length es))
-          → length (match_ordering o ((n, v) ∷ e ∷ es) ((e.0, v) ∷ es) (e ∷ insert_entry nat_cmp es n v)) ≡ cond (is_some (cond (is_eq o) (Some e.1) (at nat_cmp n es))) (suc (length es)) (suc (suc (length es)))
-      by Less is more =
-          ap (λ (there : Bool). cond there (suc (length es)) (suc (suc (length es)))) (sym (none_there es (all_weaker (λ (y : ℕ × V). nat_cmp e.0 y.0 ≡ Less) (λ (y : ℕ × V). nat_cmp n y.0 ≡ Less) (λ y below. nat_cmp_total.trans n e.0 y.0 is below) es up.0)))
-      by Equal is more = refl
-      by Greater is more = ap suc more ∙ one_more (is_some (at nat_cmp n es))
-        where
-          one_more : (there : Bool) → suc (cond there (length es) (suc (length es))) ≡ cond there (suc (length es)) (suc (suc (length es)))
-          one_more true = refl
-          one_more false = refl
-
+module _ {K V : Type 0} (R : K → K → Ordering) where
   -- one that is there and goes leaves one less
-  pub length_left : (n : ℕ) (es : List (ℕ × V)) → is_some (at nat_cmp n es) ≡ true → suc (length (remove_entry (is_at (nat_cmp n)) es)) ≡ length es
-  length_left n [] there = absurd cc
-  length_left n (e ∷ es) there = by (is_eq (nat_cmp n e.0)) (length_left n es) there
+  pub length_left : (k : K) (es : List (K × V)) → is_some (at R k es) ≡ true → suc (length (remove_entry (is_at (R k)) es)) ≡ length es
+  length_left k [] there = absurd cc
+  length_left k (e ∷ es) there = by (is_eq (R k e.0)) (length_left k es) there
     where
-      by : (b : Bool) → (is_some (at nat_cmp n es) ≡ true → suc (length (remove_entry (is_at (nat_cmp n)) es)) ≡ length es) → is_some (cond b (Some e.1) (at nat_cmp n es)) ≡ true
-          → suc (length (cond b es (e ∷ remove_entry (is_at (nat_cmp n)) es))) ≡ suc (length es)
+      by : (b : Bool) → (is_some (at R k es) ≡ true → suc (length (remove_entry (is_at (R k)) es)) ≡ length es) → is_some (cond b (Some e.1) (at R k es)) ≡ true
+          → suc (length (cond b es (e ∷ remove_entry (is_at (R k)) es))) ≡ suc (length es)
       by true more there = refl
       by false more there = ap suc (more there)
+
+  -- and where none is there none goes
+  pub length_stays : (k : K) (es : List (K × V)) → is_some (at R k es) ≡ false → length (remove_entry (is_at (R k)) es) ≡ length es
+  length_stays k [] none = refl
+  length_stays k (e ∷ es) none = by (is_eq (R k e.0)) (length_stays k es) none
+    where
+      by : (b : Bool) → (is_some (at R k es) ≡ false → length (remove_entry (is_at (R k)) es) ≡ length es) → is_some (cond b (Some e.1) (at R k es)) ≡ false
+          → length (cond b es (e ∷ remove_entry (is_at (R k)) es)) ≡ suc (length es)
+      by true more none = absurd cc
+      by false more none = ap suc (more none)

@@ -1,18 +1,23 @@
 -- A table that is one of the maps that are kept, and what the calls on it leave and find.
-use Rattle.std.proofs.Common.{◌≡◌, inl, inr, ℕ, true, List, [], ◌∷◌, map, take, length, Option, None, Some, Ok, Err, Result, IfOk, refl, ap, ap₂, subst, ◌∙◌, Less}
+use Rattle.std.proofs.Common.{◌≡◌, inl, inr, ℕ, true, List, [], ◌∷◌, map, take, Option, None, Some, Ok, Err, Result, IfOk, refl, ap, ap₂, subst, ◌∙◌, Less}
 use Rattle.std.specs.Prelude.{option_to_list}
-use Rattle.adr_db.proofs.Common.{AllZip, is_at, insert_entry, Row, IsAscending, Has, end, Ghosts, Held, state, State, at, map_of, rows_of_table, with_table, Holds, Runs, are_full, AreValues, IsUpsertText, IsRemoveText, IsCountText, IsSelectText, whole_rows, equalities}
+use Rattle.adr_db.proofs.Common.{AllZip, is_at, insert_entry, Row, IsAscending, Has, end, Ghosts, Held, state, State, at, map_of, rows_of_table, with_table, Holds, Runs, are_full, AreValues, IsUpsertText, IsRemoveText, IsSelectText, whole_rows, equalities}
 use Rattle.std.specs.Map.{remove_entry}
-use Rattle.sqlite_sql.specs.Aggregate.{count}
 use Rattle.adr_sql.specs.Codecs.{entry_at}
 use Rattle.adr_sql.proofs.References.{is_childless}
-use Rattle.adr_sql.proofs.KeyedMaps.{KeyedMap, key_width, entries_rise, entries_again, upsert_entry_runs, clear_runs, remove_entry_runs, read_entry_runs, read_all_runs, count_all_runs}
+use Rattle.adr_sql.proofs.KeyedMaps.{KeyedMap, key_width, entries_rise, entries_again, upsert_entry_runs, clear_runs, remove_entry_runs, read_entry_runs, read_all_runs}
 use Rattle.adr_db.specs.Tables.{schema}
 use Rattle.adr_db.specs.Kept.{Kept, Keeps, AreMarks, AreSubs, contents_of}
 use Rattle.adr_db.specs.Calls.{LeavesKept, Finds, Shows}
 use Rattle.adr_db.proofs.Calls.{run_leaves, shown_finds}
 
--- the rows of its table, the entries that they stand for, and what is kept where it has other entries
+-- the rows of its table, and the entries that they stand for
+pub record StoredMap (K V : Type 0) : Type 0 where
+  pub rows : KeyedMap schema K V
+  pub entries : Kept → List (K × V)
+  pub stored : (kept : Kept) → rows_of_table (contents_of kept) rows.at ≡ map rows.row_of (entries kept)
+
+-- so of a table on which no other follows, with what is kept where it has other entries
 pub record KeptMap (K V : Type 0) : Type 0 where
   pub rows : KeyedMap schema K V
   pub entries : Kept → List (K × V)
@@ -24,13 +29,16 @@ pub record KeptMap (K V : Type 0) : Type 0 where
 abbrev pub AreTexts : Kept → Type 0
 AreTexts kept = AreMarks kept.mirror × AreSubs kept.portfolio.subs
 
--- what `refl` finds of the texts on such a table that put, remove and read an entry and read all of them, and of its values
-pub record HasTexts {K V : Type 0} (m : KeptMap K V) (put remove one all : List ℕ) : Type 0 where
-  pub puts : (e : K × V) → IsUpsertText schema m.rows.at m.rows.table put (m.rows.row_of e) (m.rows.row_of e)
-  pub fit : (e : K × V) → AreValues m.rows.table (m.rows.row_of e)
-  pub removes : IsRemoveText schema m.rows.at m.rows.table end (equalities 0 (key_width m.rows)) remove
-  pub reads_one : IsSelectText schema m.rows.table (whole_rows (key_width m.rows) m.rows.table) end one
-  pub reads_all : IsSelectText schema m.rows.table (whole_rows 0 m.rows.table) end all
+-- what `refl` finds of the texts on a table that put, remove and read an entry and read all of them, and of its values
+pub record HasTextsOn {K V : Type 0} (m : KeyedMap schema K V) (put remove one all : List ℕ) : Type 0 where
+  pub puts : (e : K × V) → IsUpsertText schema m.at m.table put (m.row_of e) (m.row_of e)
+  pub fit : (e : K × V) → AreValues m.table (m.row_of e)
+  pub removes : IsRemoveText schema m.at m.table end (equalities 0 (key_width m)) remove
+  pub reads_one : IsSelectText schema m.table (whole_rows (key_width m) m.table) end one
+  pub reads_all : IsSelectText schema m.table (whole_rows 0 m.table) end all
+
+abbrev pub HasTexts : {K V : Type 0} → KeptMap K V → List ℕ → List ℕ → List ℕ → List ℕ → Type 0
+HasTexts m = HasTextsOn m.rows
 
 -- rows are read as what they stand for, where each is
 pub read_back : {X : Type 0} (Reads : Row → X → Type 0) (row_of : X → Row) (xs ys : List X) → ((x y : X) → Has ys y → Reads (row_of y) x → x ≡ y) → AllZip Reads (map row_of ys) xs → xs ≡ ys
@@ -39,7 +47,56 @@ read_back Reads row_of [] (y ∷ ys) back h = absurd h
 read_back Reads row_of (x ∷ xs) [] back h = absurd h
 read_back Reads row_of (x ∷ xs) (y ∷ ys) back h = ap₂ ◌∷◌ (back x y (inl refl) h.0) (read_back Reads row_of xs ys (λ x y has. back x y (inr has)) h.1)
 
+-- ---- what is read
+
+module _ {K V : Type 0} (m : StoredMap K V) where
+  module _ (kept : Kept) (s : State) (was : Keeps kept s) where
+    pub stored_rises : IsAscending (λ a b. m.rows.cmp a.0 b.0 ≡ Less) (m.entries kept)
+    stored_rises = entries_rise m.rows (contents_of kept) (m.entries kept) (m.stored kept) s was.rows
+
+    -- read whole, it is the map that it makes
+    pub stored_again : map_of m.rows.cmp (m.entries kept) ≡ m.entries kept
+    stored_again = entries_again m.rows (contents_of kept) (m.entries kept) (m.stored kept) s was.rows
+
+  module _ {S E : Type 0} (g : Ghosts S) (old new : Held S) (sql : List ℕ) where
+    -- all rows are read
+    pub stored_all_find : {T : Type 0} (Reads : Row → T → Type 0) (IsRight : Kept → List T → Type 0) (r : Result (List T) E) → IsSelectText schema m.rows.table (whole_rows 0 m.rows.table) end sql
+        → ((ts : List T) (kept : Kept) → AreTexts kept → AllZip Reads (map m.rows.row_of (m.entries kept)) ts → IsRight kept ts) → Shows g old new sql [] (AllZip Reads) r → Finds g old new IsRight r
+    stored_all_find Reads IsRight r text right =
+        shown_finds g old new sql [] (AllZip Reads) IsRight r text.alone (λ ts rows kept shown was read.
+        right ts kept (was.marks, was.subs) (subst (λ rows. AllZip Reads rows ts) (read_all_runs m.rows (contents_of kept) (m.entries kept) (m.stored kept) sql [] (state g old) (state g new) text rows shown was.rows) read))
+
+    -- the row of a key is read, where there is one
+    pub stored_one_finds : {T : Type 0} (Reads : Row → T → Type 0) (IsRight : Option T → Option V → Type 0) (k : K) (r : Result (Option T) E) → are_full 0 (key_width m.rows) (m.rows.key_of k) ≡ true
+        → IsSelectText schema m.rows.table (whole_rows (key_width m.rows) m.rows.table) end sql → IsRight None None → ((t : T) (v : V) → Reads (m.rows.row_of (k, v)) t → IsRight (Some t) (Some v))
+        → Shows g old new sql (m.rows.key_of k) (λ rows found. AllZip Reads (take 1 rows) (option_to_list found)) r → Finds g old new (λ kept found. IsRight found (at m.rows.cmp k (m.entries kept))) r
+    stored_one_finds {T = T} Reads IsRight k r full text none some =
+        shown_finds g old new sql (m.rows.key_of k) (λ rows found. AllZip Reads (take 1 rows) (option_to_list found)) (λ kept found. IsRight found (at m.rows.cmp k (m.entries kept))) r text.alone (λ found rows kept shown was read.
+        by (at m.rows.cmp k (m.entries kept)) found
+        (subst (λ rows. AllZip Reads (take 1 rows) (option_to_list found)) (read_entry_runs m.rows (contents_of kept) (m.entries kept) (m.stored kept) sql (state g old) (state g new) k full text rows shown was.rows) read))
+      where
+        by : (there : Option V) (found : Option T) → AllZip Reads (take 1 (map m.rows.row_of (entry_at k there))) (option_to_list found) → IsRight found there
+        by None None read = none
+        by None (Some t) read = absurd read
+        by (Some v) None read = absurd read
+        by (Some v) (Some t) read = some t v read.0
+
+    -- entries that are read back make the map again
+    pub stored_map_finds : (Reads : Row → K × V → Type 0) (es : List (K × V)) (r : Result (List (K × V)) E) → IsSelectText schema m.rows.table (whole_rows 0 m.rows.table) end sql
+        → ((kept : Kept) → AreTexts kept → (d e : K × V) → Has (m.entries kept) e → Reads (m.rows.row_of e) d → d ≡ e) → Shows g old new {E = E} sql [] (AllZip Reads) (Ok es) → IfOk r (λ table. table ≡ map_of m.rows.cmp es)
+        → Finds g old new (λ kept table. table ≡ m.entries kept) r
+    stored_map_finds Reads es r text back shows = by r (stored_all_find Reads (λ kept es. es ≡ m.entries kept) (Ok es) text (λ es kept are. read_back Reads m.rows.row_of es (m.entries kept) (back kept are)) shows)
+      where
+        by : (r : Result (List (K × V)) E) → Finds g old new {E = E} (λ kept es. es ≡ m.entries kept) (Ok es) → IfOk r (λ table. table ≡ map_of m.rows.cmp es) → Finds g old new (λ kept table. table ≡ m.entries kept) r
+        by (Ok table) found is clean = λ kept was. let both = found clean kept was in (is ∙ ap (map_of m.rows.cmp) both.0 ∙ stored_again kept (state g old) was, both.1)
+        by (Err e) found is clean = tt
+
+-- ---- so of a table on which no other follows, and what is written there
+
 module _ {K V : Type 0} (m : KeptMap K V) where
+  abbrev stored_map : StoredMap K V
+  stored_map = record { rows = m.rows; entries = m.entries; stored = m.stored }
+
   abbrev pub with_put : K → V → Kept → Kept
   with_put k v kept = m.with_entries (insert_entry m.rows.cmp (m.entries kept) k v) kept
 
@@ -50,13 +107,11 @@ module _ {K V : Type 0} (m : KeptMap K V) where
   abbrev pub KeepsTexts : (Kept → Kept) → Type 0
   KeepsTexts change = (kept : Kept) → AreTexts kept → AreTexts (change kept)
 
-  module _ (kept : Kept) (s : State) (was : Keeps kept s) where
-    pub rises : IsAscending (λ a b. m.rows.cmp a.0 b.0 ≡ Less) (m.entries kept)
-    rises = entries_rise m.rows (contents_of kept) (m.entries kept) (m.stored kept) s was.rows
+  pub rises : (kept : Kept) (s : State) → Keeps kept s → IsAscending (λ a b. m.rows.cmp a.0 b.0 ≡ Less) (m.entries kept)
+  rises = stored_rises stored_map
 
-    -- read whole, it is the map that it makes
-    pub again : map_of m.rows.cmp (m.entries kept) ≡ m.entries kept
-    again = entries_again m.rows (contents_of kept) (m.entries kept) (m.stored kept) s was.rows
+  pub again : (kept : Kept) (s : State) → Keeps kept s → map_of m.rows.cmp (m.entries kept) ≡ m.entries kept
+  again = stored_again stored_map
 
   abbrev keeps : (es : List (K × V)) (kept : Kept) (s : State) → AreTexts (m.with_entries es kept) → Holds schema (with_table (contents_of kept) m.rows.at (map m.rows.row_of es)) s → Keeps (m.with_entries es kept) s
   keeps es kept s are h = record { rows = subst (λ all. Holds schema all s) (m.changed es kept) h; marks = are.0; subs = are.1 }
@@ -79,40 +134,16 @@ module _ {K V : Type 0} (m : KeptMap K V) where
         run_leaves g old new sql [] (m.with_entries []) r (λ count h kept was.
         keeps [] kept (state g new) (texts kept (was.marks, was.subs)) (clear_runs m.rows (contents_of kept) (m.entries kept) (m.stored kept) sql [] (state g old) (state g new) childless text count h was.rows))
 
-    -- how many there are
-    pub count_finds : (r : Result ℕ E) → IsCountText schema 0 m.rows.table sql → Shows g old new sql [] (λ rows n. (c : ℕ) → rows ≡ (count c ∷ []) ∷ [] → n ≡ c) r → Finds g old new (λ kept n. n ≡ length (m.entries kept)) r
-    count_finds r text =
-        shown_finds g old new sql [] (λ rows n. (c : ℕ) → rows ≡ (count c ∷ []) ∷ [] → n ≡ c) (λ kept n. n ≡ length (m.entries kept)) r text.alone (λ n rows kept shown was is.
-        is (length (m.entries kept)) (count_all_runs m.rows (contents_of kept) (m.entries kept) (m.stored kept) sql [] (state g old) (state g new) text rows shown was.rows))
-
-    -- all rows are read
     pub all_find : {T : Type 0} (Reads : Row → T → Type 0) (IsRight : Kept → List T → Type 0) (r : Result (List T) E) → IsSelectText schema m.rows.table (whole_rows 0 m.rows.table) end sql
         → ((ts : List T) (kept : Kept) → AreTexts kept → AllZip Reads (map m.rows.row_of (m.entries kept)) ts → IsRight kept ts) → Shows g old new sql [] (AllZip Reads) r → Finds g old new IsRight r
-    all_find Reads IsRight r text right =
-        shown_finds g old new sql [] (AllZip Reads) IsRight r text.alone (λ ts rows kept shown was read.
-        right ts kept (was.marks, was.subs) (subst (λ rows. AllZip Reads rows ts) (read_all_runs m.rows (contents_of kept) (m.entries kept) (m.stored kept) sql [] (state g old) (state g new) text rows shown was.rows) read))
+    all_find = stored_all_find stored_map g old new sql
 
-    -- the row of a key is read, where there is one
     pub one_finds : {T : Type 0} (Reads : Row → T → Type 0) (IsRight : Option T → Option V → Type 0) (k : K) (r : Result (Option T) E) → are_full 0 (key_width m.rows) (m.rows.key_of k) ≡ true
         → IsSelectText schema m.rows.table (whole_rows (key_width m.rows) m.rows.table) end sql → IsRight None None → ((t : T) (v : V) → Reads (m.rows.row_of (k, v)) t → IsRight (Some t) (Some v))
         → Shows g old new sql (m.rows.key_of k) (λ rows found. AllZip Reads (take 1 rows) (option_to_list found)) r → Finds g old new (λ kept found. IsRight found (at m.rows.cmp k (m.entries kept))) r
-    one_finds {T = T} Reads IsRight k r full text none some =
-        shown_finds g old new sql (m.rows.key_of k) (λ rows found. AllZip Reads (take 1 rows) (option_to_list found)) (λ kept found. IsRight found (at m.rows.cmp k (m.entries kept))) r text.alone (λ found rows kept shown was read.
-        by (at m.rows.cmp k (m.entries kept)) found
-        (subst (λ rows. AllZip Reads (take 1 rows) (option_to_list found)) (read_entry_runs m.rows (contents_of kept) (m.entries kept) (m.stored kept) sql (state g old) (state g new) k full text rows shown was.rows) read))
-      where
-        by : (there : Option V) (found : Option T) → AllZip Reads (take 1 (map m.rows.row_of (entry_at k there))) (option_to_list found) → IsRight found there
-        by None None read = none
-        by None (Some t) read = absurd read
-        by (Some v) None read = absurd read
-        by (Some v) (Some t) read = some t v read.0
+    one_finds = stored_one_finds stored_map g old new sql
 
-    -- entries that are read back make the map again
     pub map_finds : (Reads : Row → K × V → Type 0) (es : List (K × V)) (r : Result (List (K × V)) E) → IsSelectText schema m.rows.table (whole_rows 0 m.rows.table) end sql
         → ((kept : Kept) → AreTexts kept → (d e : K × V) → Has (m.entries kept) e → Reads (m.rows.row_of e) d → d ≡ e) → Shows g old new {E = E} sql [] (AllZip Reads) (Ok es) → IfOk r (λ table. table ≡ map_of m.rows.cmp es)
         → Finds g old new (λ kept table. table ≡ m.entries kept) r
-    map_finds Reads es r text back shows = by r (all_find Reads (λ kept es. es ≡ m.entries kept) (Ok es) text (λ es kept are. read_back Reads m.rows.row_of es (m.entries kept) (back kept are)) shows)
-      where
-        by : (r : Result (List (K × V)) E) → Finds g old new {E = E} (λ kept es. es ≡ m.entries kept) (Ok es) → IfOk r (λ table. table ≡ map_of m.rows.cmp es) → Finds g old new (λ kept table. table ≡ m.entries kept) r
-        by (Ok table) found is clean = λ kept was. let both = found clean kept was in (is ∙ ap (map_of m.rows.cmp) both.0 ∙ again kept (state g old) was, both.1)
-        by (Err e) found is clean = tt
+    map_finds = stored_map_finds stored_map g old new sql

@@ -17,3 +17,4 @@ pub mod Results
 pub mod Unread
 pub mod VersionStatement
 pub mod Understood
+pub mod Ranges

@@ -6,13 +6,13 @@ use Rattle.adr_db.specs.declared.shown.RollupColumns.{RollupColumns}
 use Rattle.adr_db.specs.declared.shown.ShownColumns.{ShownColumns}
 use Rattle.adr_db.specs.declared.shown.ShownKey.{ShownKey}
 use Rattle.adr_db.specs.ShownKeys.{shown_cmp}
-use Rattle.adr_db.specs.Rows.{mark_row, key_row, number_row, ven_row, ven_columns, resource_row, resource_columns, share_row, share_key_row, stamp_row, view_key_row, report_row, report_columns, sub_row, sub_columns, event_key_row, remote_row, entry_row, entry_columns, shown_row, shown_key_row, rollup_row, rollup_columns}
+use Rattle.adr_db.specs.Rows.{mark_row, key_row, number_row, ven_row, ven_columns, resource_row, resource_columns, share_row, share_key_row, stamp_row, view_key_row, report_row, report_columns, sub_row, sub_columns, event_key_row, remote_row, entry_row, entry_columns, head_row, shown_row, shown_key_row, rollup_row, rollup_columns}
 use Rattle.adr_db.specs.Kept.{contents_of}
 use Rattle.adr_db.proofs.Rows.{mirror_codec, polled_codec, number_codec, share_codec, stamp_codec, remote_codec, shown_codec, text_codec}
 use Rattle.adr_sql.proofs.KeyedMaps.{KeyedMap}
 use Rattle.adr_db.specs.Tables.{schema}
-use Rattle.adr_db.proofs.Tables.{mirror, mirror_keyed, polled, polled_keyed, ven, ven_keyed, resource, resource_keyed, share, share_keyed, stamp, stamp_keyed, report, report_keyed, sub, sub_keyed, remote, remote_keyed, outbox, outbox_keyed, shown, shown_keyed, rollup, rollup_keyed}
-use Rattle.adr_db.proofs.KeptMaps.{KeptMap}
+use Rattle.adr_db.proofs.Tables.{mirror, mirror_keyed, polled, polled_keyed, ven, ven_keyed, resource, resource_keyed, share, share_keyed, stamp, stamp_keyed, report, report_keyed, sub, sub_keyed, remote, remote_keyed, outbox, outbox_keyed, shown, shown_keyed, rollup, rollup_keyed, head, head_keyed}
+use Rattle.adr_db.proofs.KeptMaps.{KeptMap, StoredMap}
 
 abbrev pub mirror_map : KeptMap MirrorKey Mark
 mirror_map = record {
@@ -87,14 +87,17 @@ remote_map = record {
   changed = λ es kept. refl;
 }
 
-abbrev pub outbox_map : KeptMap ℕ Entry
+-- to put or to remove an entry changes the rows of `head` as well
+abbrev pub outbox_map : StoredMap ℕ Entry
 outbox_map = record {
   rows = record { at = 11; table = outbox; keyed = outbox_keyed; cmp = nat_cmp; row_of = entry_row; key_of = number_row; codec = number_codec entry_columns };
   entries = λ kept. kept.entries;
-  with_entries = λ es kept. record kept { entries = es };
   stored = λ kept. refl;
-  changed = λ es kept. refl;
 }
+
+-- which entry is the first of each destination: no call puts or removes rows of this table alone
+abbrev pub head_rows : KeyedMap schema ℕ ℕ
+head_rows = record { at = 14; table = head; keyed = head_keyed; cmp = nat_cmp; row_of = head_row; key_of = number_row; codec = number_codec number_row }
 
 abbrev pub shown_map : KeptMap ShownKey ShownColumns
 shown_map = record {

@@ -11,9 +11,9 @@ use Rattle.adr_db.proofs.Tables.{meta, meta_keyed}
 puts : (m : Meta) → IsUpsertText schema 0 meta PUT.now (meta_numbers m) (meta_row m)
 unfolding understood everything
 puts m = record {
-  terms = lit Null ∷ lit (number 1) ∷ lit (number 1) ∷ col 0 0 ∷ col 0 1 ∷ col 0 2 ∷ col 0 3 ∷ col 0 4 ∷ col 0 5 ∷ col 0 6 ∷ col 0 7 ∷ lit (number 0) ∷ [];
-  met = 8;
-  sets = col 0 10 ∷ col 0 11 ∷ col 0 12 ∷ col 0 13 ∷ col 0 14 ∷ col 0 15 ∷ col 0 16 ∷ col 0 17 ∷ col 0 18 ∷ col 0 19 ∷ col 0 20 ∷ [];
+  terms = lit Null ∷ lit (number 1) ∷ lit (number 1) ∷ col 0 0 ∷ col 0 1 ∷ col 0 2 ∷ col 0 3 ∷ col 0 4 ∷ col 0 5 ∷ col 0 6 ∷ col 0 7 ∷ col 0 8 ∷ col 0 9 ∷ col 0 10 ∷ col 0 11 ∷ col 0 12 ∷ lit (number 0) ∷ [];
+  met = 13;
+  sets = col 0 15 ∷ col 0 16 ∷ col 0 17 ∷ col 0 18 ∷ col 0 19 ∷ col 0 20 ∷ col 0 21 ∷ col 0 22 ∷ col 0 23 ∷ col 0 24 ∷ col 0 25 ∷ col 0 26 ∷ col 0 27 ∷ col 0 28 ∷ col 0 29 ∷ col 0 30 ∷ [];
   command = refl;
   alone = (refl, refl);
   given = refl;
@@ -34,10 +34,10 @@ one_row m n = ap (λ (o : Ordering). match_ordering o (meta_row n ∷ with_row 1
 pub keeps_meta : (m : Meta) (kept : Kept) (old new : State) → Keeps kept old → Holds schema (with_table (contents_of kept) 0 (with_row 1 (meta_row m) (rows_of_table (contents_of kept) 0))) new → Keeps (with_meta m kept) new
 keeps_meta m kept old new was h = record { rows = subst (λ rows. Holds schema (with_table (contents_of kept) 0 rows) new) (one_row m kept.meta) h; marks = was.marks; subs = was.subs }
 
-pub reads : IsSelectText schema meta (first_columns 10 [] meta) end READ.now
+pub reads : IsSelectText schema meta (first_columns 15 [] meta) end READ.now
 unfolding understood everything
 reads = record {
-  names = codes "k" ∷ codes "version" ∷ codes "serial" ∷ codes "scan" ∷ codes "made" ∷ codes "sent" ∷ codes "given_up" ∷ codes "dropped" ∷ codes "pending" ∷ codes "keys" ∷ [];
+  names = codes "k" ∷ codes "version" ∷ codes "serial" ∷ codes "scan" ∷ codes "made" ∷ codes "sent" ∷ codes "given_up" ∷ codes "dropped" ∷ codes "pending" ∷ codes "keys" ∷ codes "vens" ∷ codes "resources" ∷ codes "shares" ∷ codes "reports" ∷ codes "subs" ∷ [];
   command = refl;
   alone = (refl, refl);
   unlisted = refl;
@@ -51,4 +51,4 @@ reads = record {
 }
 
 pub meta_read : (old new : State) (rows : List Row) (kept : Kept) → Shown READ.now [] old new rows → Keeps kept old → rows ≡ meta_columns kept.meta ∷ []
-meta_read old new rows kept h was = first_runs schema 0 10 [] meta meta_keyed.place READ.now [] reads old new rows (contents_of kept) h was.rows
+meta_read old new rows kept h was = first_runs schema 0 15 [] meta meta_keyed.place READ.now [] reads old new rows (contents_of kept) h was.rows

@@ -3,8 +3,8 @@ use Rattle.std.proofs.Common.{◌≡◌, refl, Less}
 use Rattle.adr_db.proofs.Common.{nat_cmp, IsAscending, State, mirror_cmp, share_cmp}
 use Rattle.adr_sql.proofs.KeyedMaps.{entries_rise}
 use Rattle.adr_db.specs.Kept.{Kept, Keeps, contents_of}
-use Rattle.adr_db.proofs.KeptMaps.{rises}
-use Rattle.adr_db.proofs.Maps.{mirror_map, ven_map, resource_map, share_map, report_rows, outbox_map}
+use Rattle.adr_db.proofs.KeptMaps.{rises, stored_rises}
+use Rattle.adr_db.proofs.Maps.{mirror_map, ven_map, resource_map, share_map, report_rows, sub_map, outbox_map}
 
 module _ (kept : Kept) (s : State) (was : Keeps kept s) where
   pub mirror_rises : IsAscending (λ a b. mirror_cmp a.0 b.0 ≡ Less) kept.mirror
@@ -22,5 +22,8 @@ module _ (kept : Kept) (s : State) (was : Keeps kept s) where
   pub reports_rise : IsAscending (λ a b. nat_cmp a.0 b.0 ≡ Less) kept.portfolio.reports
   reports_rise = entries_rise report_rows (contents_of kept) kept.portfolio.reports refl s was.rows
 
+  pub subs_rise : IsAscending (λ a b. nat_cmp a.0 b.0 ≡ Less) kept.portfolio.subs
+  subs_rise = rises sub_map kept s was
+
   pub waiting_rises : IsAscending (λ a b. nat_cmp a.0 b.0 ≡ Less) kept.entries
-  waiting_rises = rises outbox_map kept s was
+  waiting_rises = stored_rises outbox_map kept s was

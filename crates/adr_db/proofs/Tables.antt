@@ -6,7 +6,7 @@ use Rattle.sqlite_value.specs.Keys.{joined}
 use Rattle.sqlite_catalog.specs.Listing.{automatic}
 use Rattle.adr_sql.proofs.References.{is_childless}
 use Rattle.adr_sql.proofs.Upserts.{IsKeyed}
-use Rattle.adr_db.specs.Tables.{schema, meta_table, mirror_table, polled_table, ven_table, resource_table, share_table, stamp_table, report_table, report_value_table, sub_table, remote_table, outbox_table, shown_table, rollup_table}
+use Rattle.adr_db.specs.Tables.{schema, meta_table, mirror_table, polled_table, ven_table, resource_table, share_table, stamp_table, report_table, report_value_table, sub_table, remote_table, outbox_table, shown_table, rollup_table, head_table}
 
 -- each table with its tree
 abbrev pub meta : Table
@@ -50,6 +50,9 @@ shown = record shown_table { tree = 34 }
 
 abbrev pub rollup : Table
 rollup = record rollup_table { tree = 38 }
+
+abbrev pub head : Table
+head = record head_table { tree = 40 }
 
 -- each is written over by its key, also those to which references point
 pub meta_keyed : IsKeyed schema 0 meta
@@ -108,6 +111,10 @@ pub rollup_keyed : IsKeyed schema 13 rollup
 unfolding same_name joined
 rollup_keyed = record { place = record { found = refl; alone = refl }; unfollowed = refl; uncounted = refl; unnumbered = refl; index = automatic rollup 0 rollup.primary 39; aimed = refl; order = refl; places = refl }
 
+pub head_keyed : IsKeyed schema 14 head
+unfolding same_name joined
+head_keyed = record { place = record { found = refl; alone = refl }; unfollowed = refl; uncounted = refl; unnumbered = refl; index = automatic head 0 head.primary 41; aimed = refl; order = refl; places = refl }
+
 -- no reference points to these
 pub polled_childless : is_childless schema polled.tree ≡ true
 unfolding same_name joined
@@ -144,3 +151,7 @@ shown_childless = refl
 pub rollup_childless : is_childless schema rollup.tree ≡ true
 unfolding same_name joined
 rollup_childless = refl
+
+pub head_childless : is_childless schema head.tree ≡ true
+unfolding same_name joined
+head_childless = refl

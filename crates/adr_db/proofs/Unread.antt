@@ -1,8 +1,7 @@
 -- What does not read, from a row to the rows.
-use Rattle.std.proofs.Common.{◌≡◌, ◌⊎◌, ◌<◌, ◌≤◌, refl, inl, inr, ℕ, zero, suc, pos, List, [], ◌∷◌, slice_index_or, slice_get, Some, length, sym, ap, subst, ◌∙◌, arith}
-use Rattle.adr_db.proofs.Common.{AllByRecursion, AllZip, Null, Int, Row, column, Refusal, OutOfMemory, Store}
-use Rattle.sqlite_sql.specs.Aggregate.{count}
-use Rattle.adr_db.specs.Refusals.{last_number, IsMisread, CannotRead}
+use Rattle.std.proofs.Common.{◌≡◌, ◌⊎◌, ◌<◌, ◌≤◌, refl, inl, inr, ℕ, zero, suc, List, [], ◌∷◌, slice_index_or, length, sym, ap, subst, ◌∙◌, arith}
+use Rattle.adr_db.proofs.Common.{AllByRecursion, AllZip, Row, Refusal, OutOfMemory, Store}
+use Rattle.adr_db.specs.Refusals.{CannotRead}
 
 module _ {X : Type 0} (Admits : X → Type 0) (Reads : Row → X → Type 0) where
   -- where one row reads as nothing, the rows read as nothing
@@ -15,19 +14,6 @@ module _ {X : Type 0} (Admits : X → Type 0) (Reads : Row → X → Type 0) whe
   pub rows_unread : (rows : List Row) (at : ℕ) (row : Row) (e : Refusal) → at < length rows → row ≡ slice_index_or rows at row → CannotRead Admits Reads row e → CannotRead (AllByRecursion Admits) (AllZip Reads) rows e
   rows_unread rows at row e within is (inl memory) = inl memory
   rows_unread rows at row e within is (inr none) = inr (none.0, not_all rows at row within is none.1)
-
--- where the first row is no count, nothing was counted
-pub count_unread : (rows : List Row) (row : Row) (e : Refusal) → Some row ≡ slice_get rows 0 → IsMisread (λ value. (n : ℕ) × (value ≡ Int (pos n))) (column row 0) e
-    → CannotRead (λ m. m < last_number) (λ rows m. rows ≡ (count m ∷ []) ∷ []) rows e
-count_unread rows row e first (inl memory) = inl memory
-count_unread rows row e first (inr (is, why)) = inr (is, λ m small same. let found : count m ∷ [] ≡ row = the_row m same in none m (ap (λ r. column r 0) (sym found)) why)
-  where
-    the_row : (m : ℕ) → rows ≡ (count m ∷ []) ∷ [] → count m ∷ [] ≡ row
-    the_row m same = let it : Some (count m ∷ []) ≡ Some row = ap (λ rows. slice_get rows 0) (sym same) ∙ sym first in cc
-
-    none : (m : ℕ) → column row 0 ≡ count m → ¬ ((column row 0 ≡ Null) ⊎ (¬ ((n : ℕ) × (column row 0 ≡ Int (pos n)))))
-    none m is (inl null) = let both : count m ≡ Null = sym is ∙ null in absurd cc
-    none m is (inr unreadable) = unreadable (_, is)
 
 -- what more of values there cannot be read of
 pub unread_weaker : {R X : Type 0} (Admits More : X → Type 0) (Reads : R → X → Type 0) (from : R) (e : Refusal) → ((x : X) → More x → Admits x) → CannotRead Admits Reads from e → CannotRead More Reads from e

@@ -207,9 +207,9 @@ AreRollupColumns c = IsIdText c.program × IsUtf8 c.body
 abbrev pub ReadsNumber : Row → ℕ → Type 0
 ReadsNumber row n = number n ≡ column row 0
 
--- the row is that of these numbers of the node: 10 columns from the first on
+-- the row is that of these numbers of the node: 15 columns from the first on
 abbrev pub ReadsMeta : Row → Meta → Type 0
-ReadsMeta row meta = meta_columns meta ≡ cells 0 10 row
+ReadsMeta row meta = meta_columns meta ≡ cells 0 15 row
 
 -- the first two columns are the kind and the id of this upstream key
 abbrev pub ReadsKey : Row → MirrorKey → Type 0

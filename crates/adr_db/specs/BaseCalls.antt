@@ -1,5 +1,5 @@
 -- What a call makes of the base that the tables hold, or of its portfolio alone.
-use Rattle.std.specs.Prelude.{◌≡◌, Result, Ok, IfOk, IfErr}
+use Rattle.std.specs.Prelude.{◌≡◌, Result, Ok, IfOk, IfErr, OnOk}
 use Rattle.sqlite.specs.Store.{Ghosts}
 use Rattle.sqlite.specs.Held.{Held, state}
 use Rattle.sqlite.specs.State.{State, HasCleanDisk}
@@ -7,17 +7,22 @@ use Rattle.adr_text.specs.declared.refusal.Refusal.{Refusal}
 use Rattle.adr_text.specs.Refusals.{IsRefusalOf}
 use Rattle.adr_state.specs.declared.base.Base.{Base}
 use Rattle.adr_state.specs.declared.portfolio.Portfolio.{Portfolio}
-use Rattle.adr_state.specs.BaseChanges.{BaseChange, changed}
-use Rattle.adr_state.specs.Portfolios.{PortfolioChange, portfolio_after}
+use Rattle.adr_state.specs.BaseChanges.{BaseChange, ChangePortfolio, changed}
+use Rattle.adr_state.specs.Portfolios.{PortfolioChange}
 use Rattle.adr_db.specs.declared.meta.Meta.{Meta}
-use Rattle.adr_db.specs.Kept.{Kept, Keeps, with_portfolio}
+use Rattle.adr_db.specs.Kept.{Kept, Keeps}
 use Rattle.adr_db.specs.Bases.{Beside, with_base, HoldsBeside}
 
--- what is decided of the portfolio that is kept is an answer and a change, and the tables keep what the change makes of it
-pub record IsCarriedOut {A : Type 0} (decide : Portfolio → Result (A × PortfolioChange) Refusal) (kept : Kept) (x : A) (s : State) : Type 0 where
+-- a change of the portfolio is made of a base: the tables hold the base after it, and the numbers after it are those before with those of that
+pub record IsCounted (change : PortfolioChange) (beside : Beside) (base : Base) (before after : Meta) (s : State) : Type 0 where
+  pub holds : HoldsBeside beside (changed (ChangePortfolio change) base) s
+  pub counted : after ≡ with_base before (changed (ChangePortfolio change) base)
+
+-- what is decided of a base is an answer and a change of its portfolio, which is made of it
+pub record IsCarriedOut {A : Type 0} (decide : Base → Result (A × PortfolioChange) Refusal) (beside : Beside) (base : Base) (before after : Meta) (x : A) (s : State) : Type 0 where
   pub change : PortfolioChange
-  pub decided : decide kept.portfolio ≡ Ok (x, change)
-  pub keeps : Keeps (with_portfolio (portfolio_after change) kept) s
+  pub decided : decide base ≡ Ok (x, change)
+  pub left : IsCounted change beside base before after s
 
 -- what is decided of a base is a change; the tables hold what it makes of the base, and the numbers after it are those before with those of
 -- that; the answer is right for the base before and after
@@ -29,9 +34,18 @@ pub record IsMade {T : Type 0} (decide : Base → Result BaseChange Refusal) (Is
   pub right : IsRight base (changed change base) x
 
 module _ {S : Type 0} (g : Ghosts S) (old new : Held S) where
-  -- after Ok, what is decided of the portfolio that the tables kept is carried out, and answered
-  abbrev pub Carries : {A E : Type 0} → (Portfolio → Result (A × PortfolioChange) Refusal) → Result A E → Type 0
-  Carries decide result = HasCleanDisk (state g new) → IfOk result (λ x. (kept : Kept) → Keeps kept (state g old) → IsCarriedOut decide kept x (state g new))
+  -- after Ok, a change is made of the portfolio of the base that the tables held beside any numbers and stamps, where this was so of the portfolio
+  -- and the caller's numbers were those of the base; these are then those of the base after
+  abbrev pub Counts : {T E : Type 0} → PortfolioChange → (Portfolio → Type 0) → Meta → Meta → Result T E → Type 0
+  Counts change IsSo before after result =
+      HasCleanDisk (state g new)
+      → OnOk result ((beside : Beside) (base : Base) → HoldsBeside beside base (state g old) → before ≡ with_base before base → IsSo base.portfolio → IsCounted change beside base before after (state g new))
+
+  -- after Ok, what is decided of the base that the tables held beside any numbers and stamps is carried out on its portfolio, and answered, where the
+  -- caller's numbers were those of the base; these are then those of the base after
+  abbrev pub Carries : {A E : Type 0} → (Base → Result (A × PortfolioChange) Refusal) → Meta → Meta → Result A E → Type 0
+  Carries decide before after result =
+      HasCleanDisk (state g new) → IfOk result (λ x. (beside : Beside) (base : Base) → HoldsBeside beside base (state g old) → before ≡ with_base before base → IsCarriedOut decide beside base before after x (state g new))
 
   -- after Ok, what is decided of the base that the tables held beside any numbers and stamps is made of it, where the caller's numbers were
   -- those of the base; these are then those of the base after
@@ -39,6 +53,12 @@ module _ {S : Type 0} (g : Ghosts S) (old new : Held S) where
   Makes decide before after IsRight result =
       HasCleanDisk (state g new)
       → IfOk result (λ x. (beside : Beside) (base : Base) → HoldsBeside beside base (state g old) → before ≡ with_base before base → IsMade decide IsRight beside base before after x (state g new))
+
+  -- so it is of each base of whose portfolio this was so
+  abbrev pub CarriesWhere : {A E : Type 0} → (Portfolio → Type 0) → (Base → Result (A × PortfolioChange) Refusal) → Meta → Meta → Result A E → Type 0
+  CarriesWhere IsSo decide before after result =
+      HasCleanDisk (state g new)
+      → IfOk result (λ x. (beside : Beside) (base : Base) → HoldsBeside beside base (state g old) → before ≡ with_base before base → IsSo base.portfolio → IsCarriedOut decide beside base before after x (state g new))
 
   -- a refusal is that of the test of what was kept, or want of memory or the store's in its place
   abbrev pub Refuses : {A T : Type 0} → (Kept → Result A Refusal) → Result T Refusal → Type 0

@@ -5,6 +5,7 @@ use Rattle.adr_objects.specs.declared.shown.Stamps.{Stamps}
 use Rattle.adr_delivery.specs.declared.entry.Entry.{Entry}
 use Rattle.adr_delivery.specs.declared.outbox.Outbox.{Outbox}
 use Rattle.adr_state.specs.declared.base.Base.{Base}
+use Rattle.adr_state.specs.declared.portfolio.Portfolio.{Portfolio}
 use Rattle.adr_state.specs.declared.state.State.{State}
 use Rattle.adr_state.specs.declared.keys.MirrorKey.{MirrorKey}
 use Rattle.adr_state.specs.declared.keys.ViewKey.{ViewKey}
@@ -19,9 +20,13 @@ abbrev pub keys_polled : Option (List MirrorKey) → List MirrorKey
 keys_polled None = []
 keys_polled (Some keys) = keys
 
--- numbers of the node, with those of a base: they say how many keys the mirror has
+-- numbers of the node, with those of a portfolio: they say how many vens, resources, shares, reports and subscriptions there are
+abbrev pub with_sizes : Meta → Portfolio → Meta
+with_sizes numbers p = record numbers { vens = length p.vens; resources = length p.resources; shares = length p.shares; reports = length p.reports; subs = length p.subs }
+
+-- numbers of the node, with those of a base: they say how many keys the mirror has, and the numbers of its portfolio
 abbrev pub with_base : Meta → Base → Meta
-with_base numbers base = record numbers { serial = base.serial; scan = is_some base.scan; keys = length base.mirror }
+with_base numbers base = record (with_sizes numbers base.portfolio) { serial = base.serial; scan = is_some base.scan; keys = length base.mirror }
 
 -- and with the counts of an outbox: they say how many of its entries wait
 abbrev pub counting : Outbox → Meta → Meta

@@ -11,7 +11,7 @@ use Rattle.adr_text.specs.declared.refusal.Refusal.{Refusal}
 use Rattle.adr_text.specs.declared.refusal.Refusal.TheVariants.{OutOfMemory, Store}
 use Rattle.adr_sql.specs.Contents.{Holds}
 use Rattle.adr_db.specs.Tables.{schema}
-use Rattle.adr_db.specs.Kept.{Kept, Keeps, contents_with}
+use Rattle.adr_db.specs.Kept.{Kept, Keeps, contents_with, contents_with_heads}
 
 module _ {S : Type 0} (g : Ghosts S) (old new : Held S) where
   -- after Ok, tables that held a state hold what it is changed to
@@ -34,6 +34,18 @@ module _ {S : Type 0} (g : Ghosts S) (old new : Held S) where
   abbrev pub ChangesValues : {T E : Type 0} → (List Row → List Row) → Result T E → Type 0
   ChangesValues change result =
       HasCleanDisk (state g new) → OnOk result ((kept : Kept) (reports values : List Row) → Holds schema (contents_with reports values kept) (state g old) → Holds schema (contents_with reports (change values) kept) (state g new))
+
+  -- after Ok, what is kept and what `head` names, right or not, are changed: to the one, and to the other as it follows from what was kept
+  abbrev pub ChangesHeads : {T E : Type 0} → (Kept → Kept) → (Kept → List (ℕ × ℕ) → List (ℕ × ℕ)) → Result T E → Type 0
+  ChangesHeads change point result =
+      HasCleanDisk (state g new)
+      → OnOk result ((kept : Kept) (heads : List (ℕ × ℕ)) → Holds schema (contents_with_heads heads kept) (state g old) → Holds schema (contents_with_heads (point kept heads) (change kept)) (state g new))
+
+  -- after Ok, the answer is right for what is kept, whatever `head` names, and the tables hold the same still
+  abbrev pub FindsBesideHeads : {T E : Type 0} → (Kept → T → Type 0) → Result T E → Type 0
+  FindsBesideHeads IsRight result =
+      HasCleanDisk (state g new)
+      → IfOk result (λ x. (kept : Kept) (heads : List (ℕ × ℕ)) → Holds schema (contents_with_heads heads kept) (state g old) → IsRight kept x × Holds schema (contents_with_heads heads kept) (state g new))
 
 -- an error of the store as a refusal: want of memory where it is that, else the store's
 abbrev pub refusal_of : Error → Refusal

@@ -15,6 +15,7 @@ use Rattle.adr_subscription.specs.declared.kept_sub.Sub.{Sub}
 use Rattle.adr_subscription.specs.Types.{IsSub}
 use Rattle.adr_delivery.specs.declared.entry.Entry.{Entry}
 use Rattle.adr_delivery.specs.Counts.{no_counts}
+use Rattle.adr_delivery.specs.Entries.{destination}
 use Rattle.adr_delivery.specs.Outboxes.{has_addressee}
 use Rattle.adr_state.specs.declared.base.Mark.{Mark}
 use Rattle.adr_state.specs.declared.base.Mark.TheVariants.{Live, Dead}
@@ -33,7 +34,7 @@ use Rattle.adr_db.specs.declared.shown.RollupColumns.{RollupColumns}
 use Rattle.adr_db.specs.declared.shown.ShownColumns.{ShownColumns}
 use Rattle.adr_db.specs.declared.shown.ShownKey.{ShownKey}
 use Rattle.adr_db.specs.ShownKeys.{shown_cmp}
-use Rattle.adr_db.specs.Rows.{meta_row, mark_row, key_row, ven_row, resource_row, share_row, stamp_row, report_row, value_rows, sub_row, remote_row, entry_row, shown_row, rollup_row}
+use Rattle.adr_db.specs.Rows.{meta_row, mark_row, key_row, ven_row, resource_row, share_row, stamp_row, report_row, value_rows, sub_row, remote_row, entry_row, head_row, shown_row, rollup_row}
 
 -- what is kept: the numbers of the node, the mirror in the order of its keys, the polled keys in that order, the portfolio, the stamps of
 -- what is shown, the utility's ids of reports, the entries that wait, and what is kept of shown events and of roll-ups
@@ -48,10 +49,15 @@ pub record Kept : Type 0 where
   pub shown : List (ShownKey × ShownColumns)
   pub rollups : List (List ℕ × RollupColumns)
 
--- the rows of each table, in the order of the tables, with these in `report` and these in `report_value`: while a report is put, they are of no
--- state
-abbrev pub contents_with : List Row → List Row → Kept → Contents
-contents_with reports values kept =
+-- the destinations of these entries, in their order, each with the number of the first entry that goes there: one that stands before others takes their
+-- place
+abbrev pub heads_of : List (ℕ × Entry) → List (ℕ × ℕ)
+heads_of [] = []
+heads_of (e ∷ es) = insert_entry nat_cmp (heads_of es) (destination e.1.addressee) e.0
+
+-- the rows of each table, in the order of the tables, with these in `report`, these in `report_value` and these in `head`
+abbrev pub contents_among : List Row → List Row → List Row → Kept → Contents
+contents_among reports values heads kept =
     (meta_row kept.meta ∷ [])
     ∷ map mark_row kept.mirror
     ∷ map key_row kept.polled
@@ -66,7 +72,16 @@ contents_with reports values kept =
     ∷ map entry_row kept.entries
     ∷ map shown_row kept.shown
     ∷ map rollup_row kept.rollups
+    ∷ heads
     ∷ []
+
+-- so with these in `report` and these in `report_value`: while a report is put, they are of no state
+abbrev pub contents_with : List Row → List Row → Kept → Contents
+contents_with reports values kept = contents_among reports values (map head_row (heads_of kept.entries)) kept
+
+-- so with these destinations and numbers in `head`: while an entry is put or removed, they are of no state
+abbrev pub contents_with_heads : List (ℕ × ℕ) → Kept → Contents
+contents_with_heads heads kept = contents_among (map report_row kept.portfolio.reports) (flat_map value_rows kept.portfolio.reports) (map head_row heads) kept
 
 -- the rows of each table: of `report` those of the reports, and of `report_value` those of the intervals of each
 abbrev pub contents_of : Kept → Contents
@@ -94,9 +109,10 @@ pub record Keeps (kept : Kept) (s : State) : Type 0 where
 
 -- ---- what is kept of a new node, and the changes of it
 
--- the numbers of a new node: the serial 0, no scan open, each count 0, no entry that waits, no key of the mirror
+-- the numbers of a new node: the serial 0, no scan open, each count 0, no entry that waits, no key of the mirror, and no ven, resource, share, report
+-- or subscription
 abbrev pub first_meta : Meta
-first_meta = record { serial = 0; scan = false; counts = no_counts; pending = 0; keys = 0 }
+first_meta = record { serial = 0; scan = false; counts = no_counts; pending = 0; keys = 0; vens = 0; resources = 0; shares = 0; reports = 0; subs = 0 }
 
 -- what is kept of a new node: its numbers, and nothing else
 abbrev pub nothing_kept : Kept

@@ -85,6 +85,11 @@ meta_in row = record {
   counts = record { made = number_of (column row 4); sent = number_of (column row 5); given_up = number_of (column row 6); dropped = number_of (column row 7) };
   pending = number_of (column row 8);
   keys = number_of (column row 9);
+  vens = number_of (column row 10);
+  resources = number_of (column row 11);
+  shares = number_of (column row 12);
+  reports = number_of (column row 13);
+  subs = number_of (column row 14);
 }
 
 -- a key of the mirror

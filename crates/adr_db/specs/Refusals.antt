@@ -1,7 +1,6 @@
 -- Why a call on the tables is refused, and which of the two refusals it is then.
 use Rattle.std.specs.Prelude.{◌≡◌, ◌⊎◌, ◌<◌, ℕ, pos, List, [], ◌∷◌, take, Result, Err, IfErr, IsTrue}
 use Rattle.std.specs.List.{AllByRecursion, AllZip}
-use Rattle.sqlite_sql.specs.Aggregate.{count}
 use Rattle.sqlite.specs.Order.{Row}
 use Rattle.sqlite.specs.Store.{Ghosts}
 use Rattle.sqlite.specs.Held.{Held, state}
@@ -51,10 +50,6 @@ CannotReadAll Admits Reads = CannotRead (AllByRecursion Admits) (AllZip Reads)
 -- memory ran out while the first row was read, or there is one and nothing that the types admit reads as it
 abbrev pub CannotReadFirst : {X : Type 0} → (X → Type 0) → (Row → X → Type 0) → List Row → Refusal → Type 0
 CannotReadFirst Admits Reads = CannotRead (AllByRecursion Admits) (λ rows. AllZip Reads (take 1 rows))
-
--- memory ran out while a count was read, or the rows are not one row of one count below the last number
-abbrev pub CannotCount : List Row → Refusal → Type 0
-CannotCount = CannotRead (λ m. m < last_number) (λ rows m. rows ≡ (count m ∷ []) ∷ [])
 
 module _ {S : Type 0} (g : Ghosts S) (old new : Held S) where
   -- an error of a statement that writes, as its own, and of a query

@@ -58,7 +58,8 @@ abbrev pub counts_row : EntryCounts → Row
 counts_row c = number c.made ∷ number c.sent ∷ number c.given_up ∷ number c.dropped ∷ []
 
 -- the numbers of the node, behind the key 1 and the version of the tables: the serial, whether a scan is open, the
--- counts made, sent, given up and dropped, how many entries wait, and how many keys the mirror has
+-- counts made, sent, given up and dropped, how many entries wait, how many keys the mirror has, and how many vens,
+-- resources, shares, reports and subscriptions there are
 abbrev pub meta_columns : Meta → Row
 meta_columns m =
     number 1
@@ -71,6 +72,11 @@ meta_columns m =
     ∷ number m.counts.dropped
     ∷ number m.pending
     ∷ number m.keys
+    ∷ number m.vens
+    ∷ number m.resources
+    ∷ number m.shares
+    ∷ number m.reports
+    ∷ number m.subs
     ∷ []
 
 -- the row of the numbers of the node: behind them 0, since no share is frozen
@@ -88,6 +94,11 @@ meta_numbers m =
     ∷ number m.counts.dropped
     ∷ number m.pending
     ∷ number m.keys
+    ∷ number m.vens
+    ∷ number m.resources
+    ∷ number m.shares
+    ∷ number m.reports
+    ∷ number m.subs
     ∷ []
 
 -- 1 a program, 2 an event
@@ -253,6 +264,10 @@ entry_columns e =
 -- an entry behind its number
 abbrev pub entry_row : ℕ × Entry → Row
 entry_row e = number e.0 ∷ entry_columns e.1
+
+-- a destination with the number of its first entry
+abbrev pub head_row : ℕ × ℕ → Row
+head_row e = number e.0 ∷ number e.1 ∷ []
 
 -- ---- the stamps of what is shown
 

@@ -23,6 +23,11 @@ meta_table =
     ∷ column (codes "dropped") Integer
     ∷ column (codes "pending") Integer
     ∷ column (codes "keys") Integer
+    ∷ column (codes "vens") Integer
+    ∷ column (codes "resources") Integer
+    ∷ column (codes "shares") Integer
+    ∷ column (codes "reports") Integer
+    ∷ column (codes "subs") Integer
     ∷ column (codes "frozen") Integer
     ∷ []) ((1 ∷ []) ∷ []) (1 ∷ []) []
 
@@ -159,8 +164,12 @@ rollup_table =
     ∷ column (codes "body") Text
     ∷ []) ((1 ∷ []) ∷ []) (1 ∷ []) []
 
+-- the first entry of each destination, by its number: it follows from `outbox`, and is there to find what leaves next without a look at all that waits
+abbrev pub head_table : Table
+head_table = table (codes "head") (column (codes "dest") Integer ∷ column (codes "entry") Integer ∷ []) ((1 ∷ []) ∷ []) (1 ∷ []) []
+
 -- `meta`, `mirror`, `polled`, `ven`, `resource`, `share`, `stamp`, `report`, `report_value`, `sub`, `remote`, `outbox`,
--- `shown` and `rollup`, in this order
+-- `shown`, `rollup` and `head`, in this order
 abbrev pub tables : List Table
 tables =
     meta_table
@@ -177,6 +186,7 @@ tables =
     ∷ outbox_table
     ∷ shown_table
     ∷ rollup_table
+    ∷ head_table
     ∷ []
 
 -- the schema after these tables were made, one after another, from an empty database

@@ -164,13 +164,21 @@ pub(crate) fn stamps_in(row: &Row, at: usize) -> Result<Stamps, Refusal>
     })
 }
 
+/// The number in the first column.
+pub(crate) fn number_in(row: &Row) -> Result<Number, Refusal>
+    ensures reads { IfOk result (ReadsNumber row.now) }
+    ensures refused { IfErr result (CannotRead IsNumber ReadsNumber row.now) }
+{
+    Ok(Number::new(column(row, 0)?))
+}
+
 impl FromRow for Number {
     ghost reads = { ReadsNumber };
 
     ghost admits = { IsNumber };
 
     fn from_row(_: Global, row: &Row) -> Result<Number, Refusal> {
-        Ok(Number::new(column(row, 0)?))
+        number_in(row)
     }
 }
 

@@ -1,13 +1,15 @@
 //! The table `meta`: the numbers of the node, in one row.
 ghost use Rattle.std.specs.Prelude.{◌≡◌, ◌≤◌, pos, [], ◌∷◌, take, IfOk, IfErr};
 ghost use Rattle.sqlite.specs.Order.{column};
+ghost use Rattle.sqlite.specs.Values.{bound};
 ghost use Rattle.sqlite.specs.declared.types.Value.TheVariants.{Int};
 ghost use Rattle.adr_sql.specs.Keys.{cells, with_row};
 ghost use Rattle.adr_sql.specs.Contents.{rows_of_table, with_table};
 ghost use Rattle.adr_sql.specs.Calls.{LeavesLent, Changes};
 ghost use Rattle.adr_db.specs.Tables.{schema};
 ghost use Rattle.adr_db.specs.Rows.{meta_row, meta_numbers, counts_row, number};
-ghost use Rattle.adr_db.specs.Refusals.{RefusesToPut, RefusesToShow, IsMisread, CannotRead};
+ghost use Rattle.adr_text.specs.declared.refusal.Refusal.TheVariants.{Store};
+ghost use Rattle.adr_db.specs.Refusals.{HasBeyond, RefusesToPut, RefusesToShow, IsMisread, CannotRead};
 ghost use Rattle.adr_delivery.specs.Tallies.{most_tally};
 ghost use Rattle.adr_db.specs.Admitted.{AreCounts, AreNumbers, ReadsMeta};
 ghost use Rattle.std.specs.List.{AllZip};
@@ -20,7 +22,7 @@ use crate::statement::{rows_of, run};
 use adr_delivery::{EntryCounts, Tally};
 use adr_state::Serial;
 use adr_text::Refusal;
-use sqlite::types::ToSql;
+use sqlite::types::{ToSql, ValueRef};
 use sqlite::{Alter, Row, Transaction};
 use std::alloc::Global;
 
@@ -28,10 +30,10 @@ use std::alloc::Global;
 pub(crate) const VERSION: u32 = 1;
 
 const PUT: &str =
-    "INSERT INTO meta (k, version, serial, scan, made, sent, given_up, dropped, pending, keys, frozen) VALUES (1, 1, ?1, ?2, ?3, ?4, ?5, ?6, ?7, ?8, 0) ON CONFLICT (k) DO UPDATE SET k = excluded.k, version = excluded.version, serial = excluded.serial, scan = excluded.scan, made = excluded.made, sent = excluded.sent, given_up = excluded.given_up, dropped = excluded.dropped, pending = excluded.pending, keys = excluded.keys, frozen = excluded.frozen";
+    "INSERT INTO meta (k, version, serial, scan, made, sent, given_up, dropped, pending, keys, vens, resources, shares, reports, subs, frozen) VALUES (1, 1, ?1, ?2, ?3, ?4, ?5, ?6, ?7, ?8, ?9, ?10, ?11, ?12, ?13, 0) ON CONFLICT (k) DO UPDATE SET k = excluded.k, version = excluded.version, serial = excluded.serial, scan = excluded.scan, made = excluded.made, sent = excluded.sent, given_up = excluded.given_up, dropped = excluded.dropped, pending = excluded.pending, keys = excluded.keys, vens = excluded.vens, resources = excluded.resources, shares = excluded.shares, reports = excluded.reports, subs = excluded.subs, frozen = excluded.frozen";
 
 const READ: &str =
-    "SELECT k, version, serial, scan, made, sent, given_up, dropped, pending, keys FROM meta ORDER BY k";
+    "SELECT k, version, serial, scan, made, sent, given_up, dropped, pending, keys, vens, resources, shares, reports, subs FROM meta ORDER BY k";
 
 /// The numbers of the node. None that is kept is above 9,223,372,036,854,775,807.
 #[derive(Clone, Copy, PartialEq, Eq)]
@@ -46,6 +48,16 @@ pub struct Meta {
     pub pending: u64,
     /// How many keys the mirror has. To count its rows is to go through all of them.
     pub keys: u64,
+    /// How many vens there are. To count their rows is to go through all of them, as it is of those below.
+    pub vens: u64,
+    /// How many resources there are.
+    pub resources: u64,
+    /// How many shares there are.
+    pub shares: u64,
+    /// How many reports there are.
+    pub reports: u64,
+    /// How many subscriptions there are.
+    pub subs: u64,
 }
 
 impl Meta {
@@ -59,8 +71,38 @@ impl Meta {
             counts: EntryCounts::none(),
             pending: 0,
             keys: 0,
+            vens: 0,
+            resources: 0,
+            shares: 0,
+            reports: 0,
+            subs: 0,
         }
     }
+}
+
+// What is put into the row: the parameters of `PUT`.
+struct Cells([ValueRef<'static>; 13]);
+
+// The cells of numbers of the node, of which none is above what SQL counts.
+fn cells_of(meta: &Meta) -> Result<Cells, Refusal>
+    ensures cells { IfOk result (λ cells. bound cells.0 ≡ meta_numbers meta.now) }
+    ensures refused { IfErr result (λ refusal. (refusal ≡ Store) × HasBeyond (meta_numbers meta.now)) }
+{
+    Ok(Cells([
+        number(meta.serial.get())?,
+        meta.scan.to_sql(),
+        number(meta.counts.made.get())?,
+        number(meta.counts.sent.get())?,
+        number(meta.counts.given_up.get())?,
+        number(meta.counts.dropped.get())?,
+        number(meta.pending)?,
+        number(meta.keys)?,
+        number(meta.vens)?,
+        number(meta.resources)?,
+        number(meta.shares)?,
+        number(meta.reports)?,
+        number(meta.subs)?,
+    ]))
 }
 
 /// Writes the one row.
@@ -70,20 +112,8 @@ pub(crate) fn write_meta<S: Alter>(tx: &mut Transaction<'_, S>, meta: &Meta) -> 
     ensures refused { IfErr result IsOfStore }
     ensures fails { RefusesToPut S.Store tx.old.conn.now tx.new.conn.now PUT.now (meta_numbers meta.now) result }
 {
-    run(
-        tx,
-        PUT,
-        &[
-            number(meta.serial.get())?,
-            meta.scan.to_sql(),
-            number(meta.counts.made.get())?,
-            number(meta.counts.sent.get())?,
-            number(meta.counts.given_up.get())?,
-            number(meta.counts.dropped.get())?,
-            number(meta.pending)?,
-            number(meta.keys)?,
-        ],
-    )
+    let Cells(cells) = cells_of(meta)?;
+    run(tx, PUT, &cells)
 }
 
 /// Puts the numbers of the node in the place of those that are kept.
@@ -142,6 +172,11 @@ impl FromRow for Meta {
             counts: counts_in(row)?,
             pending: column(row, 8)?,
             keys: column(row, 9)?,
+            vens: column(row, 10)?,
+            resources: column(row, 11)?,
+            shares: column(row, 12)?,
+            reports: column(row, 13)?,
+            subs: column(row, 14)?,
         })
     }
 }

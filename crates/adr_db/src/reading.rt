@@ -3,15 +3,16 @@ ghost use Rattle.std.specs.Prelude.{◌≡◌, ℕ, [], ◌∷◌, take, option_
 ghost use Rattle.std.specs.List.{AllZip};
 ghost use Rattle.sqlite.specs.Order.{column};
 ghost use Rattle.sqlite.specs.Values.{bound};
-ghost use Rattle.sqlite_sql.specs.Aggregate.{count};
 ghost use Rattle.adr_sql.specs.Calls.{LeavesLent};
 ghost use Rattle.adr_state.specs.Keys.{map_of};
 ghost use Rattle.adr_db.specs.Calls.{Shows, IsOfStore};
-ghost use Rattle.adr_db.specs.Refusals.{CannotRead, CannotReadAll, CannotReadFirst, CannotCount, RefusesToShow};
+ghost use Rattle.adr_db.specs.Admitted.{IsNumber, ReadsNumber};
+ghost use Rattle.adr_db.specs.Refusals.{CannotRead, CannotReadAll, CannotReadFirst, RefusesToShow};
 ghost use Rattle.adr_text.specs.declared.refusal.Refusal.TheVariants.{OutOfMemory};
 
-use crate::cells::column;
+use crate::cells::{column, number_in};
 use crate::statement::rows_of;
+use adr_objects::Number;
 use adr_text::{Refusal, Rows, Table};
 use sqlite::types::ValueRef;
 use sqlite::{Alter, Row, Transaction};
@@ -99,6 +100,32 @@ pub fn first_of<T: FromRow, S: Alter>(
     first_in(alloc, &rows)
 }
 
+// The number in the first column of the first of these rows, where there is one.
+fn first_number_in(rows: &[Row]) -> Result<Option<Number>, Refusal>
+    ensures read { IfOk result (λ found. AllZip ReadsNumber (take 1 rows.now) (option_to_list found)) }
+    ensures refused { IfErr result (CannotReadFirst IsNumber ReadsNumber rows.now) }
+{
+    match rows.first() {
+        Some(row) => Ok(Some(number_in(row)?)),
+        None => Ok(None),
+    }
+}
+
+/// The number in the first column of the first row that the query shows, where it shows one. It is read without memory.
+pub fn first_number<S: Alter>(
+    tx: &mut Transaction<'_, S>,
+    sql: &str,
+    params: &[ValueRef<'_>],
+) -> Result<Option<Number>, Refusal>
+    ensures lent { LeavesLent S.Store tx.old.conn tx.new.conn result }
+    ensures shows { Shows S.Store tx.old.conn.now tx.new.conn.now sql.now (bound params.now) (λ rows found. AllZip ReadsNumber (take 1 rows) (option_to_list found)) result }
+    ensures refused { IfErr result IsOfStore }
+    ensures fails { RefusesToShow S.Store tx.old.conn.now tx.new.conn.now sql.now (bound params.now) (CannotReadFirst IsNumber ReadsNumber) result }
+{
+    let rows = rows_of(tx, sql, params)?;
+    first_number_in(&rows)
+}
+
 /// The map that entries make, put one after another.
 pub fn table_of<K: Ord + Drop, V: Drop>(
     alloc: Global,
@@ -112,21 +139,4 @@ pub fn table_of<K: Ord + Drop, V: Drop>(
         table.put(row.0, row.1)?;
     }
     Ok(table)
-}
-
-/// The number that the query counts, which is all that it shows. SQL counts no further than
-/// 9,223,372,036,854,775,807: that is the store's refusal.
-pub fn count_of<S: Alter>(tx: &mut Transaction<'_, S>, sql: &str) -> Result<u64, Refusal>
-    ensures lent { LeavesLent S.Store tx.old.conn tx.new.conn result }
-    ensures shows { Shows S.Store tx.old.conn.now tx.new.conn.now sql.now [] (λ rows n. (m : ℕ) → rows ≡ (count m ∷ []) ∷ [] → n ≡ m) result }
-    ensures refused { IfErr result IsOfStore }
-    ensures fails { RefusesToShow S.Store tx.old.conn.now tx.new.conn.now sql.now [] CannotCount result }
-{
-    let rows = rows_of(tx, sql, &[])?;
-    let row = rows.first().ok_or(Refusal::Store)?;
-    let counted: u64 = column(row, 0)?;
-    if counted >= 9_223_372_036_854_775_807 {
-        return Err(Refusal::Store);
-    }
-    Ok(counted)
 }

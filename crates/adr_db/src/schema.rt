@@ -19,7 +19,7 @@ use adr_text::Refusal;
 use sqlite::{Alter, Transaction};
 
 const META: &str =
-    "CREATE TABLE meta (k INT NOT NULL, version INT NOT NULL, serial INT NOT NULL, scan INT NOT NULL, made INT NOT NULL, sent INT NOT NULL, given_up INT NOT NULL, dropped INT NOT NULL, pending INT NOT NULL, keys INT NOT NULL, frozen INT NOT NULL, PRIMARY KEY (k)) STRICT";
+    "CREATE TABLE meta (k INT NOT NULL, version INT NOT NULL, serial INT NOT NULL, scan INT NOT NULL, made INT NOT NULL, sent INT NOT NULL, given_up INT NOT NULL, dropped INT NOT NULL, pending INT NOT NULL, keys INT NOT NULL, vens INT NOT NULL, resources INT NOT NULL, shares INT NOT NULL, reports INT NOT NULL, subs INT NOT NULL, frozen INT NOT NULL, PRIMARY KEY (k)) STRICT";
 
 const MIRROR: &str =
     "CREATE TABLE mirror (kind INT NOT NULL, id TEXT NOT NULL, state INT NOT NULL, moment INT NOT NULL, body TEXT NOT NULL, program TEXT, PRIMARY KEY (kind, id), UNIQUE (program, kind, id)) STRICT";
@@ -60,12 +60,15 @@ const SHOWN: &str =
 const ROLLUP: &str =
     "CREATE TABLE rollup (event TEXT NOT NULL, program TEXT NOT NULL, body TEXT NOT NULL, PRIMARY KEY (event)) STRICT";
 
+const HEAD: &str =
+    "CREATE TABLE head (dest INT NOT NULL, entry INT NOT NULL, PRIMARY KEY (dest)) STRICT";
+
 /// Makes the tables of a new node, which keep nothing, in an empty database.
 pub fn create<S: Alter>(tx: &mut Transaction<'_, S>) -> Result<(), Refusal>
     ensures lent { LeavesLent S.Store tx.old.conn tx.new.conn result }
     ensures made { HasCleanDisk (state S.Store tx.new.conn.now) → OnOk result (Holds no_schema [] (state S.Store tx.old.conn.now) → Keeps nothing_kept (state S.Store tx.new.conn.now)) }
     ensures refused { IfErr result IsOfStore }
-    ensures fails { RefusesToRunAll S.Store tx.old.conn.now tx.new.conn.now (META.now ∷ MIRROR.now ∷ POLLED.now ∷ VEN.now ∷ RESOURCE.now ∷ SHARE.now ∷ STAMP.now ∷ REPORT.now ∷ REPORT_VALUE.now ∷ SUB.now ∷ REMOTE.now ∷ OUTBOX.now ∷ SHOWN.now ∷ ROLLUP.now ∷ []) PUT.now (meta_numbers first_meta) result }
+    ensures fails { RefusesToRunAll S.Store tx.old.conn.now tx.new.conn.now (META.now ∷ MIRROR.now ∷ POLLED.now ∷ VEN.now ∷ RESOURCE.now ∷ SHARE.now ∷ STAMP.now ∷ REPORT.now ∷ REPORT_VALUE.now ∷ SUB.now ∷ REMOTE.now ∷ OUTBOX.now ∷ SHOWN.now ∷ ROLLUP.now ∷ HEAD.now ∷ []) PUT.now (meta_numbers first_meta) result }
 {
     let texts = [
         META,
@@ -82,6 +85,7 @@ pub fn create<S: Alter>(tx: &mut Transaction<'_, S>) -> Result<(), Refusal>
         OUTBOX,
         SHOWN,
         ROLLUP,
+        HEAD,
     ];
     match create_tables(tx, &texts) {
         Ok(()) => write_meta(tx, &Meta::first()),

@@ -1,5 +1,9 @@
 mod RemoteStatements
 mod OutboxStatements
+mod Numbered
+mod RightHeads
+mod HeadStatements
 mod Firsts
+mod Sorted
 mod NextStatement
 mod LostStatement

@@ -22,7 +22,7 @@ use Rattle.adr_db.specs.Kept.{Kept, Keeps, contents_of, numbers_lost}
 use Rattle.adr_db.proofs.Rows.{numbers_as_values}
 use Rattle.adr_db.proofs.Tables.{outbox, outbox_keyed, sub}
 use Rattle.adr_db.proofs.Maps.{outbox_map}
-use Rattle.adr_db_outbox.proofs.NextStatement.{equals, compared, any_map}
+use Rattle.adr_db_outbox.proofs.NextStatement.{equals, compared}
 
 abbrev tests : List Term
 tests = equals (col 2 1) (col 1 2) ∷ []
@@ -59,6 +59,10 @@ same_is : (e : ℕ × Entry) (s : ℕ × Sub) → list_all (holds ([] ∷ (Null 
 same_is e s =
     let d = destination e.1.addressee in
     ap (λ b. b && true) (equal_is (number s.0) (number d) refl ∙ ap is_eq (value_cmp-Int (pos d) (pos s.0) ∙ numbers_as_values d s.0)) ∙ and_true _
+
+any_map : {X Y : Type 0} (p : Y → Bool) (f : X → Y) (xs : List X) → list_any p (map f xs) ≡ list_any (λ x. p (f x)) xs
+any_map p f [] = refl
+any_map p f (x ∷ xs) = ap (λ b. p (f x) || b) (any_map p f xs)
 
 -- which is none of those that are there
 none_is : (kept : Kept) (e : ℕ × Entry) → is_true (unary Not (Int (pos (min 1 (length (matches (seen schema.tables (contents_of kept)) tests (inner sub.tree end) ([] ∷ (Null ∷ entry_row e) ∷ []))))))) ≡ not (is_some (lookup (is_at (nat_cmp (destination e.1.addressee))) kept.portfolio.subs))

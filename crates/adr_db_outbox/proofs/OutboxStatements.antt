@@ -1,18 +1,22 @@
 -- The statements on the table `outbox`.
-use Rattle.std.proofs.Common.{◌≡◌, ℕ, None, Some, List, [], ◌∷◌, codes, refl, subst}
+use Rattle.std.proofs.Common.{◌≡◌, ℕ, None, Some, Result, List, [], ◌∷◌, codes, refl, subst}
 use Rattle.sqlite.specs.Values.{or_null}
 use Rattle.sqlite.specs.declared.types.Value.{Value}
-use Rattle.adr_db.proofs.Common.{Null, Text, Row, lit, col, understood, everything, AreValues}
+use Rattle.adr_db.proofs.Common.{Null, Text, Row, Ghosts, Held, state, lit, col, understood, everything, Runs, AreValues}
+use Rattle.adr_sql.proofs.KeyedMaps.{upsert_entry_runs, remove_entry_runs}
 use Rattle.adr_delivery.specs.declared.addressee.Addressee.{Addressee}
 use Rattle.adr_delivery.specs.declared.addressee.Addressee.TheVariants.{Utility, Subscriber}
 use Rattle.adr_delivery.specs.declared.entry.Entry.{Entry}
 use Rattle.adr_db_outbox.specs.declared.outbox.TheConstants.{PUT, REMOVE, READ_ONE, READ_ALL}
 use Rattle.adr_delivery.specs.Entries.{destination, event_of}
 use Rattle.adr_delivery.specs.Jobs.{token_for}
-use Rattle.adr_db.specs.Rows.{number, operation_number, address_of, delivery_columns, entry_row}
-use Rattle.adr_db.proofs.Tables.{outbox}
+use Rattle.adr_db.specs.Rows.{number, number_row, operation_number, address_of, delivery_columns, entry_row}
+use Rattle.adr_db.specs.Kept.{contents_with_heads, with_waiting, without_waiting}
+use Rattle.adr_db.specs.Calls.{ChangesHeads}
+use Rattle.adr_db.proofs.Calls.{run_changes_heads}
+use Rattle.adr_db.proofs.Tables.{outbox, outbox_childless}
 use Rattle.adr_db.proofs.Maps.{outbox_map}
-use Rattle.adr_db.proofs.KeptMaps.{HasTexts}
+use Rattle.adr_db.proofs.KeptMaps.{HasTextsOn}
 
 abbrev pub columns : List (List ℕ)
 columns =
@@ -39,7 +43,7 @@ fit e = by e.1.addressee
     by (Subscriber subscription address None) = record { fits = refl; full = refl; width = refl }
     by (Subscriber subscription address (Some token)) = record { fits = refl; full = refl; width = refl }
 
-pub texts : HasTexts outbox_map PUT.now REMOVE.now READ_ONE.now READ_ALL.now
+pub texts : HasTextsOn outbox_map.rows PUT.now REMOVE.now READ_ONE.now READ_ALL.now
 unfolding understood everything
 texts = record {
   puts = λ e. record {
@@ -67,3 +71,16 @@ row_with e event token = number e.0 ∷ number (destination e.1.addressee) ∷ e
 -- where they are those, it is the row of the entry
 pub with_cells : (P : Row → Type 0) (e : ℕ × Entry) (event token : Value) → event ≡ or_null Text (event_of e.1.addressee) → token ≡ or_null Text (token_for e.1.addressee) → P (row_with e event token) → P (entry_row e)
 with_cells P e event token event_is token_is p = subst (λ token. P (row_with e (or_null Text (event_of e.1.addressee)) token)) token_is (subst (λ event. P (row_with e event token)) event_is p)
+
+-- ---- what they write, whatever `head` names
+
+module _ {S E : Type 0} (g : Ghosts S) (old new : Held S) where
+  pub row_put : (e : ℕ × Entry) (r : Result Unit E) → Runs g old new PUT.now (entry_row e) r → ChangesHeads g old new (with_waiting e.0 e.1) (λ kept heads. heads) r
+  row_put e r =
+      run_changes_heads g old new PUT.now (entry_row e) (with_waiting e.0 e.1) (λ kept heads. heads) r (λ count h kept heads was.
+      upsert_entry_runs outbox_map.rows (contents_with_heads heads kept) kept.entries refl PUT.now (entry_row e) (state g old) (state g new) e.0 e.1 (texts.puts e) (texts.fit e) count h was)
+
+  pub row_removed : (n : ℕ) (r : Result Unit E) → Runs g old new REMOVE.now (number_row n) r → ChangesHeads g old new (without_waiting n) (λ kept heads. heads) r
+  row_removed n r =
+      run_changes_heads g old new REMOVE.now (number_row n) (without_waiting n) (λ kept heads. heads) r (λ count h kept heads was.
+      remove_entry_runs outbox_map.rows (contents_with_heads heads kept) kept.entries refl REMOVE.now (state g old) (state g new) n refl outbox_childless texts.removes count h was)

@@ -1,6 +1,7 @@
 //! The entries that wait and the utility's ids of reports in the tables, one typed call per statement, on a lent transaction.
 #![tactic(auto)]
 
+mod heads;
 mod lost;
 mod next;
 mod outbox;

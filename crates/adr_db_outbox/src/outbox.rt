@@ -1,4 +1,4 @@
-//! The table `outbox`: the entries that wait.
+//! The table `outbox`: the entries that wait. Behind each that comes or goes `head` is set right.
 ghost use Rattle.std.specs.Prelude.{◌≡◌, [], IfErr};
 ghost use Rattle.std.specs.Ordering.{nat_cmp};
 ghost use Rattle.sqlite.specs.Values.{bound_value, or_null};
@@ -11,11 +11,14 @@ ghost use Rattle.adr_sql.specs.Calls.{LeavesLent};
 ghost use Rattle.adr_db.specs.Kept.{with_waiting, without_waiting};
 ghost use Rattle.adr_db.specs.Rows.{number_row, operation_number, address_of, lease_end, entry_row};
 ghost use Rattle.adr_db.specs.Refusals.{RefusesToPut, RefusesToShow, CannotReadAll, CannotReadFirst};
-ghost use Rattle.adr_db.specs.Admitted.{IsWaiting, IsWaitingEntry, ReadsWaiting, ReadsWaitingEntry};
-ghost use Rattle.adr_db.specs.Calls.{LeavesKept, Finds, IsOfStore};
+ghost use Rattle.adr_db.specs.Admitted.{IsNumber, IsWaiting, IsWaitingEntry, ReadsNumber, ReadsWaiting, ReadsWaitingEntry};
+ghost use Rattle.adr_db.specs.Calls.{ChangesHeads, LeavesKept, Finds, IsOfStore};
+ghost use Rattle.adr_db_outbox.specs.Heads.{destination_at};
+ghost use Rattle.adr_db_outbox.specs.Refused.{RefusesToChange};
 
+use crate::heads::{set_both_heads, set_head_where};
 use adr_db::cells::number;
-use adr_db::reading::{all_of, first_of, table_of};
+use adr_db::reading::{all_of, first_number, first_of, table_of};
 use adr_db::statement::run;
 use adr_delivery::{Addressee, Entry};
 use adr_objects::Number;
@@ -29,6 +32,8 @@ const PUT: &str =
     "INSERT INTO outbox (id, dest, event, operation, url, token, body, failed, leases, leased, until, due) VALUES (?1, ?2, ?3, ?4, ?5, ?6, ?7, ?8, ?9, ?10, ?11, ?12) ON CONFLICT (id) DO UPDATE SET id = excluded.id, dest = excluded.dest, event = excluded.event, operation = excluded.operation, url = excluded.url, token = excluded.token, body = excluded.body, failed = excluded.failed, leases = excluded.leases, leased = excluded.leased, until = excluded.until, due = excluded.due";
 
 const REMOVE: &str = "DELETE FROM outbox WHERE id = ?1";
+
+const READ_DESTINATION: &str = "SELECT dest FROM outbox WHERE id = ?1 ORDER BY id";
 
 const READ_ONE: &str =
     "SELECT id, dest, event, operation, url, token, body, failed, leases, leased, until, due FROM outbox WHERE id = ?1 ORDER BY id";
@@ -90,14 +95,23 @@ fn lease_end(lease: Option<Moment>) -> u64
     }
 }
 
-/// Puts the entry of a number, new or in the place of the one that has it.
-pub fn put_entry<S: Alter>(
+// The destination of the entry of a number, where one waits.
+fn read_destination<S: Alter>(
     tx: &mut Transaction<'_, S>,
     id: Number,
-    entry: &Entry,
-) -> Result<(), Refusal>
+) -> Result<Option<Number>, Refusal>
     ensures lent { LeavesLent S.Store tx.old.conn tx.new.conn result }
-    ensures leaves { LeavesKept S.Store tx.old.conn.now tx.new.conn.now (with_waiting id entry.now) result }
+    ensures finds { Finds S.Store tx.old.conn.now tx.new.conn.now (λ kept found. found ≡ destination_at id kept) result }
+    ensures refused { IfErr result IsOfStore }
+    ensures fails { RefusesToShow S.Store tx.old.conn.now tx.new.conn.now READ_DESTINATION.now (number_row id) (CannotReadFirst IsNumber ReadsNumber) result }
+{
+    first_number(tx, READ_DESTINATION, &[number(id.get())?])
+}
+
+// Puts the row of an entry. What `head` names stays, right or not.
+fn put_row<S: Alter>(tx: &mut Transaction<'_, S>, id: Number, entry: &Entry) -> Result<(), Refusal>
+    ensures lent { LeavesLent S.Store tx.old.conn tx.new.conn result }
+    ensures changes { ChangesHeads S.Store tx.old.conn.now tx.new.conn.now (with_waiting id entry.now) (λ kept heads. heads) result }
     ensures refused { IfErr result IsOfStore }
     ensures fails { RefusesToPut S.Store tx.old.conn.now tx.new.conn.now PUT.now (entry_row (id, entry.now)) result }
 {
@@ -122,14 +136,42 @@ pub fn put_entry<S: Alter>(
     )
 }
 
+/// Puts the entry of a number, new or in the place of the one that has it.
+pub fn put_entry<S: Alter>(
+    tx: &mut Transaction<'_, S>,
+    id: Number,
+    entry: &Entry,
+) -> Result<(), Refusal>
+    ensures lent { LeavesLent S.Store tx.old.conn tx.new.conn result }
+    ensures leaves { LeavesKept S.Store tx.old.conn.now tx.new.conn.now (with_waiting id entry.now) result }
+    ensures refused { IfErr result IsOfStore }
+    ensures fails { RefusesToChange S.Store tx.old.conn.now tx.new.conn.now READ_DESTINATION.now (number_row id) PUT.now (entry_row (id, entry.now)) result }
+{
+    let left = read_destination(tx, id)?;
+    put_row(tx, id, entry)?;
+    set_both_heads(tx, left, entry.addressee.destination())
+}
+
+// The row of an entry goes. What `head` names stays, right or not.
+fn remove_row<S: Alter>(tx: &mut Transaction<'_, S>, id: Number) -> Result<(), Refusal>
+    ensures lent { LeavesLent S.Store tx.old.conn tx.new.conn result }
+    ensures changes { ChangesHeads S.Store tx.old.conn.now tx.new.conn.now (without_waiting id) (λ kept heads. heads) result }
+    ensures refused { IfErr result IsOfStore }
+    ensures fails { RefusesToPut S.Store tx.old.conn.now tx.new.conn.now REMOVE.now (number_row id) result }
+{
+    run(tx, REMOVE, &[number(id.get())?])
+}
+
 /// The entry of a number goes.
 pub fn remove_entry<S: Alter>(tx: &mut Transaction<'_, S>, id: Number) -> Result<(), Refusal>
     ensures lent { LeavesLent S.Store tx.old.conn tx.new.conn result }
     ensures leaves { LeavesKept S.Store tx.old.conn.now tx.new.conn.now (without_waiting id) result }
     ensures refused { IfErr result IsOfStore }
-    ensures fails { RefusesToPut S.Store tx.old.conn.now tx.new.conn.now REMOVE.now (number_row id) result }
+    ensures fails { RefusesToChange S.Store tx.old.conn.now tx.new.conn.now READ_DESTINATION.now (number_row id) REMOVE.now (number_row id) result }
 {
-    run(tx, REMOVE, &[number(id.get())?])
+    let left = read_destination(tx, id)?;
+    remove_row(tx, id)?;
+    set_head_where(tx, left)
 }
 
 /// The entry of a number, where one waits.

@@ -1,4 +1,5 @@
 pub mod Named
+pub mod Numbers
 pub mod VenStatements
 pub mod ResourceStatements
 pub mod ShareStatements

@@ -1,22 +1,22 @@
 -- The statements on the tables `report` and `report_value`.
-use Rattle.std.proofs.Common.{◌≡◌, ℕ, suc, Bool, None, Some, Option, Ok, Err, Result, List, [], ◌∷◌, codes, map, filter, take, length, refl, sym, ap, ap₂, subst, ◌∙◌}
-use Rattle.std.specs.Prelude.{bytes_eq, option_to_list}
-use Rattle.adr_db.proofs.Common.{AllZip, option_map, option_map_or, nat_cmp, Null, Int, Text, Row, filter-map, map-map, lit, col, end, Ghosts, Held, state, State, Executes, understood, everything, at, cells, with_row, rows_of_table, with_table, Contents, Holds, Runs, AreValues, IsUpsertText, upsert_runs, IsRemoveText, IsCountText, IsSelectText, first_columns, first_runs, passes, whole_rows, read_runs, equalities, is_text, text_passes}
-use Rattle.sqlite_sql.specs.Aggregate.{count}
+use Rattle.std.proofs.Common.{◌≡◌, ℕ, suc, Bool, None, Some, Option, Ok, Err, Result, List, [], ◌∷◌, codes, map, filter, take, refl, sym, ap, ap₂, subst, ◌∙◌}
+use Rattle.std.specs.Prelude.{◌==◌, bytes_eq, option_to_list}
+use Rattle.adr_db.proofs.Common.{AllZip, option_map, option_map_or, nat_cmp, Null, Int, Text, Row, filter-map, map-map, lit, col, end, Ghosts, Held, state, State, Executes, understood, everything, at, cells, with_row, rows_of_table, with_table, Contents, Holds, Runs, AreValues, IsUpsertText, upsert_runs, IsRemoveText, IsSelectText, first_columns, first_runs, passes, whole_rows, read_runs, equalities, is_text, text_passes}
 use Rattle.adr_objects.specs.declared.report.UsageInterval.{UsageInterval}
 use Rattle.adr_state.specs.declared.portfolio.Report.{Report}
+use Rattle.adr_state.specs.Portfolios.{reported_on}
 use Rattle.adr_sql.specs.Keys.{rows_without}
 use Rattle.adr_sql.specs.Codecs.{entry_at}
-use Rattle.adr_sql.proofs.KeyedMaps.{read_all_runs, read_entry_runs, count_all_runs}
+use Rattle.adr_sql.proofs.KeyedMaps.{read_all_runs, read_entry_runs}
 use Rattle.adr_sql.proofs.Removals.{remove_at_runs}
 use Rattle.adr_db.specs.declared.report_columns.ReportColumns.{ReportColumns}
-use Rattle.adr_db_portfolio.specs.declared.report.TheConstants.{PUT, REMOVE, READ_ONE, READ_OF, READ_ALL, COUNT}
+use Rattle.adr_db_portfolio.specs.declared.report.TheConstants.{PUT, REMOVE, READ_ONE, READ_OF, READ_ON, READ_ALL}
 use Rattle.adr_db_portfolio.specs.declared.report_value.TheConstants as values
 use Rattle.adr_db.specs.Tables.{schema}
 use Rattle.adr_db.specs.Rows.{number, number_row, name_cell, usage_cell, report_row, report_columns_row, value_row, value_rows_from, value_rows}
 use Rattle.adr_db.specs.Kept.{contents_of, contents_with, intervals_of}
 use Rattle.adr_db.specs.Calls.{ChangesValues, Finds, Shows}
-use Rattle.adr_db.specs.Admitted.{ReadsReportColumns, ReadsReportEntry, ReadsUsageInterval}
+use Rattle.adr_db.specs.Admitted.{ReadsNumber, ReadsReportColumns, ReadsReportEntry, ReadsUsageInterval}
 use Rattle.adr_db.proofs.Tables.{report, report_keyed, report_value, report_value_keyed, report_value_childless}
 use Rattle.adr_db.proofs.Rows.{number_kept, report_columns_kept, interval_kept}
 use Rattle.adr_db.proofs.Calls.{shown_finds}
@@ -24,6 +24,7 @@ use Rattle.adr_db.proofs.KeptMaps.{read_back}
 use Rattle.adr_db.proofs.Maps.{report_rows}
 use Rattle.adr_db.proofs.Rises.{reports_rise}
 use Rattle.adr_db.proofs.Reports.{values_at, columns_of}
+use Rattle.adr_db_portfolio.proofs.Numbers.{number_passes, numbers_read}
 
 -- ---- the texts
 
@@ -63,13 +64,13 @@ pub reads_of : IsSelectText schema report (first_columns 8 (is_text 1) report) e
 unfolding understood everything
 reads_of = record { names = columns; command = refl; alone = (refl, refl); unlisted = refl; from = refl; order = refl; ungrouped = refl; undistinct = refl; joins = refl; sorts = refl; shows = refl }
 
+reads_on : IsSelectText schema report (first_columns 1 (is_text 2) report) end READ_ON.now
+unfolding understood everything
+reads_on = record { names = codes "id" ∷ []; command = refl; alone = (refl, refl); unlisted = refl; from = refl; order = refl; ungrouped = refl; undistinct = refl; joins = refl; sorts = refl; shows = refl }
+
 pub reads_all : IsSelectText schema report (whole_rows 0 report) end READ_ALL.now
 unfolding understood everything
 reads_all = record { names = columns; command = refl; alone = (refl, refl); unlisted = refl; from = refl; order = refl; ungrouped = refl; undistinct = refl; joins = refl; sorts = refl; shows = refl }
-
-pub counts : IsCountText schema 0 report COUNT.now
-unfolding understood everything
-counts = record { names = codes "count(*)" ∷ []; command = refl; alone = (refl, refl); unlisted = refl }
 
 puts_value : (n place : ℕ) (interval : UsageInterval) → IsUpsertText schema 8 report_value values.PUT.now (value_row n place interval) (value_row n place interval)
 unfolding understood everything
@@ -171,7 +172,12 @@ module _ {S E : Type 0} (g : Ghosts S) (old new : Held S) where
       by (Some there) None reads = absurd reads
       by (Some there) (Some found) reads = ap Some (report_columns_kept found (columns_of (n, there)).1 reads.0)
 
-  pub reports_counted : (r : Result ℕ E) → Shows g old new COUNT.now [] (λ rows n. (m : ℕ) → rows ≡ (count m ∷ []) ∷ [] → n ≡ m) r → Finds g old new (λ kept n. n ≡ length kept.portfolio.reports) r
-  reports_counted r =
-      shown_finds g old new COUNT.now [] (λ rows n. (m : ℕ) → rows ≡ (count m ∷ []) ∷ [] → n ≡ m) (λ kept n. n ≡ length kept.portfolio.reports) r counts.alone (λ n rows kept shown was is.
-      is (length kept.portfolio.reports) (count_all_runs report_rows (contents_of kept) kept.portfolio.reports refl COUNT.now [] (state g old) (state g new) counts rows shown was.rows))
+  pub numbers_on_find : (n : ℕ) (r : Result (List ℕ) E) → Shows g old new READ_ON.now (number_row n) (AllZip ReadsNumber) r → Finds g old new (λ kept numbers. numbers ≡ map (λ r. r.0) (filter (λ r. reported_on r == n) kept.portfolio.reports)) r
+  numbers_on_find n r =
+      shown_finds g old new READ_ON.now (number_row n) (AllZip ReadsNumber) (λ kept numbers. numbers ≡ map (λ r. r.0) (filter (λ r. reported_on r == n) kept.portfolio.reports)) r reads_on.alone (λ read rows kept shown was reads.
+      let es = kept.portfolio.reports in
+      let is_on = λ (row : Row). passes (number_row n) (is_text 2) (Null ∷ row) in
+      let are = first_runs schema 7 1 (is_text 2) report report_keyed.place READ_ON.now (number_row n) reads_on (state g old) (state g new) rows (contents_of kept) shown was.rows
+      ∙ ap (map (cells 0 1)) (filter-map is_on report_row es) ∙ map-map (cells 0 1) report_row (filter (λ e. is_on (report_row e)) es)
+      ∙ ap (λ (p : ℕ × Report → Bool). map (λ e. number_row e.0) (filter p es)) (λ i e. number_passes 2 n (reported_on e) (report_row e) refl i) in
+      numbers_read (filter (λ e. reported_on e == n) es) read (subst (λ rows. AllZip ReadsNumber rows read) are reads))

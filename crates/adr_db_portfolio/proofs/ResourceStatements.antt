@@ -1,7 +1,7 @@
 -- The statements on the table `resource`.
 use Rattle.std.proofs.Common.{ℕ, List, [], ◌∷◌, codes, refl}
-use Rattle.adr_db.proofs.Common.{Null, lit, col, end, understood, everything, IsCountText, IsSelectText, first_columns, is_text}
-use Rattle.adr_db_portfolio.specs.declared.resource.TheConstants.{PUT, REMOVE, READ_ONE, READ_ALL, READ_NAMED, COUNT}
+use Rattle.adr_db.proofs.Common.{Null, lit, col, end, understood, everything, IsSelectText, first_columns, is_text}
+use Rattle.adr_db_portfolio.specs.declared.resource.TheConstants.{PUT, REMOVE, READ_ONE, READ_ALL, READ_NAMED, READ_OF}
 use Rattle.adr_db.specs.Tables.{schema}
 use Rattle.adr_db.proofs.Tables.{resource}
 use Rattle.adr_db.proofs.Maps.{resource_map}
@@ -24,6 +24,6 @@ pub reads_named : IsSelectText schema resource (first_columns 1 (is_text 2) reso
 unfolding understood everything
 reads_named = record { names = codes "id" ∷ []; command = refl; alone = (refl, refl); unlisted = refl; from = refl; order = refl; ungrouped = refl; undistinct = refl; joins = refl; sorts = refl; shows = refl }
 
-pub counts : IsCountText schema 0 resource COUNT.now
+pub reads_of : IsSelectText schema resource (first_columns 1 (is_text 1) resource) end READ_OF.now
 unfolding understood everything
-counts = record { names = codes "count(*)" ∷ []; command = refl; alone = (refl, refl); unlisted = refl }
+reads_of = record { names = codes "id" ∷ []; command = refl; alone = (refl, refl); unlisted = refl; from = refl; order = refl; ungrouped = refl; undistinct = refl; joins = refl; sorts = refl; shows = refl }

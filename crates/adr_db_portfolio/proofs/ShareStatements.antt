@@ -1,7 +1,7 @@
 -- The statements on the table `share`.
 use Rattle.std.proofs.Common.{ℕ, List, [], ◌∷◌, codes, refl}
-use Rattle.adr_db.proofs.Common.{Null, lit, col, understood, everything, IsCountText}
-use Rattle.adr_db_portfolio.specs.declared.share.TheConstants.{PUT, REMOVE, READ_ONE, READ_ALL, COUNT}
+use Rattle.adr_db.proofs.Common.{Null, lit, col, end, understood, everything, IsSelectText, first_columns, is_text}
+use Rattle.adr_db_portfolio.specs.declared.share.TheConstants.{PUT, REMOVE, READ_ONE, READ_ALL, READ_OF}
 use Rattle.adr_db.specs.Tables.{schema}
 use Rattle.adr_db.proofs.Tables.{share}
 use Rattle.adr_db.proofs.Maps.{share_map}
@@ -20,6 +20,6 @@ texts = record {
   reads_all = record { names = columns; command = refl; alone = (refl, refl); unlisted = refl; from = refl; order = refl; ungrouped = refl; undistinct = refl; joins = refl; sorts = refl; shows = refl };
 }
 
-pub counts : IsCountText schema 0 share COUNT.now
+pub reads_of : IsSelectText schema share (first_columns 2 (is_text 1) share) end READ_OF.now
 unfolding understood everything
-counts = record { names = codes "count(*)" ∷ []; command = refl; alone = (refl, refl); unlisted = refl }
+reads_of = record { names = codes "program" ∷ codes "resource" ∷ []; command = refl; alone = (refl, refl); unlisted = refl; from = refl; order = refl; ungrouped = refl; undistinct = refl; joins = refl; sorts = refl; shows = refl }

@@ -1,8 +1,8 @@
 -- The statements on the table `sub`.
 use Rattle.std.proofs.Common.{ℕ, None, Some, List, [], ◌∷◌, codes, refl}
-use Rattle.adr_db.proofs.Common.{Null, Text, lit, col, understood, everything, AreValues, IsCountText, Sub}
+use Rattle.adr_db.proofs.Common.{Null, Text, lit, col, end, understood, everything, AreValues, IsSelectText, first_columns, is_text, Sub}
 use Rattle.adr_subscription.specs.Kept.{kept_text}
-use Rattle.adr_db_portfolio.specs.declared.sub.TheConstants.{PUT, REMOVE, READ_ONE, READ_ALL, COUNT}
+use Rattle.adr_db_portfolio.specs.declared.sub.TheConstants.{PUT, REMOVE, READ_ONE, READ_ALL, READ_OF}
 use Rattle.adr_db.specs.Tables.{schema}
 use Rattle.adr_db.specs.Rows.{number, owner_cell, sub_row}
 use Rattle.adr_db.proofs.Tables.{sub}
@@ -30,6 +30,6 @@ texts = record {
   reads_all = record { names = columns; command = refl; alone = (refl, refl); unlisted = refl; from = refl; order = refl; ungrouped = refl; undistinct = refl; joins = refl; sorts = refl; shows = refl };
 }
 
-pub counts : IsCountText schema 0 sub COUNT.now
+pub reads_of : IsSelectText schema sub (first_columns 1 (is_text 1) sub) end READ_OF.now
 unfolding understood everything
-counts = record { names = codes "count(*)" ∷ []; command = refl; alone = (refl, refl); unlisted = refl }
+reads_of = record { names = codes "id" ∷ []; command = refl; alone = (refl, refl); unlisted = refl; from = refl; order = refl; ungrouped = refl; undistinct = refl; joins = refl; sorts = refl; shows = refl }

@@ -1,7 +1,7 @@
 -- The statements on the table `ven`.
 use Rattle.std.proofs.Common.{ℕ, List, [], ◌∷◌, codes, refl}
-use Rattle.adr_db.proofs.Common.{Null, lit, col, end, understood, everything, IsCountText, IsSelectText, first_columns, is_text}
-use Rattle.adr_db_portfolio.specs.declared.ven.TheConstants.{PUT, REMOVE, READ_ONE, READ_ALL, READ_NAMED, COUNT}
+use Rattle.adr_db.proofs.Common.{Null, lit, col, end, understood, everything, IsSelectText, first_columns, is_text}
+use Rattle.adr_db_portfolio.specs.declared.ven.TheConstants.{PUT, REMOVE, READ_ONE, READ_ALL, READ_NAMED}
 use Rattle.adr_db.specs.Tables.{schema}
 use Rattle.adr_db.proofs.Tables.{ven}
 use Rattle.adr_db.proofs.Maps.{ven_map}
@@ -23,7 +23,3 @@ texts = record {
 pub reads_named : IsSelectText schema ven (first_columns 1 (is_text 1) ven) end READ_NAMED.now
 unfolding understood everything
 reads_named = record { names = codes "id" ∷ []; command = refl; alone = (refl, refl); unlisted = refl; from = refl; order = refl; ungrouped = refl; undistinct = refl; joins = refl; sorts = refl; shows = refl }
-
-pub counts : IsCountText schema 0 ven COUNT.now
-unfolding understood everything
-counts = record { names = codes "count(*)" ∷ []; command = refl; alone = (refl, refl); unlisted = refl }

@@ -1,5 +1,5 @@
 //! The table `report`: the reports on resources. Their intervals stand in `report_value`.
-ghost use Rattle.std.specs.Prelude.{◌≡◌, [], bytes_eq, map, filter, length, IfErr};
+ghost use Rattle.std.specs.Prelude.{◌≡◌, ◌==◌, [], bytes_eq, map, filter, IfErr};
 ghost use Rattle.std.specs.Ordering.{nat_cmp};
 ghost use Rattle.sqlite.specs.Values.{bound_value};
 ghost use Rattle.sqlite_value.specs.Value.{owned};
@@ -7,17 +7,18 @@ ghost use Rattle.adr_sql.specs.Keys.{with_row};
 ghost use Rattle.adr_sql.specs.Contents.{rows_of_table, with_table};
 ghost use Rattle.adr_sql.specs.Calls.{LeavesLent, Changes};
 ghost use Rattle.adr_state.specs.Keys.{at};
-ghost use Rattle.adr_state.specs.Portfolios.{with_report, without_report};
+ghost use Rattle.adr_state.specs.Portfolios.{reported_on, with_report, without_report};
 ghost use Rattle.adr_db.specs.Tables.{schema};
 ghost use Rattle.adr_db.specs.Kept.{whole_report, report_of, with_portfolio};
 ghost use Rattle.adr_db.specs.Rows.{name_cell, number_row, report_row};
-ghost use Rattle.adr_db.specs.Refusals.{RefusesToPut, RefusesToShow, CannotCount};
+ghost use Rattle.adr_db.specs.Refusals.{RefusesToPut, RefusesToShow, CannotReadAll};
+ghost use Rattle.adr_db.specs.Admitted.{IsNumber, ReadsNumber};
 ghost use Rattle.adr_db.specs.Calls.{LeavesKept, Finds, IsOfStore};
 
 use crate::report_value::{clear_values, put_values, read_values};
 use adr_db::ReportColumns;
 use adr_db::cells::number;
-use adr_db::reading::{all_of, count_of, first_of, table_of};
+use adr_db::reading::{all_of, first_of, table_of};
 use adr_db::statement::run;
 use adr_objects::{Number, ReportBody, ReportName, UsageInterval};
 use adr_state::Report;
@@ -37,7 +38,7 @@ const READ_ONE: &str =
 const READ_OF: &str =
     "SELECT id, event, resource, program, client, name, resource_name, revision FROM report WHERE event = ?1 ORDER BY id";
 
-const COUNT: &str = "SELECT count(*) FROM report";
+const READ_ON: &str = "SELECT id FROM report WHERE resource = ?1 ORDER BY id";
 
 const READ_ALL: &str =
     "SELECT id, event, resource, program, client, name, resource_name, revision FROM report ORDER BY id";
@@ -184,12 +185,16 @@ pub fn read_reports_of<S: Alter>(
     with_values(alloc, tx, rows)
 }
 
-/// How many reports there are.
-pub fn count_reports<S: Alter>(tx: &mut Transaction<'_, S>) -> Result<u64, Refusal>
+/// The numbers of the reports on a resource, in their order. No report on another resource is read.
+pub fn read_reports_on<S: Alter>(
+    alloc: Global,
+    tx: &mut Transaction<'_, S>,
+    resource: Number,
+) -> Result<Rows<Number>, Refusal>
     ensures lent { LeavesLent S.Store tx.old.conn tx.new.conn result }
-    ensures finds { Finds S.Store tx.old.conn.now tx.new.conn.now (λ kept count. count ≡ length kept.portfolio.reports) result }
+    ensures finds { Finds S.Store tx.old.conn.now tx.new.conn.now (λ kept numbers. numbers ≡ map (λ r. r.0) (filter (λ r. reported_on r == resource) kept.portfolio.reports)) result }
     ensures refused { IfErr result IsOfStore }
-    ensures fails { RefusesToShow S.Store tx.old.conn.now tx.new.conn.now COUNT.now [] CannotCount result }
+    ensures fails { RefusesToShow S.Store tx.old.conn.now tx.new.conn.now READ_ON.now (number_row resource) (CannotReadAll IsNumber ReadsNumber) result }
 {
-    count_of(tx, COUNT)
+    all_of(alloc, tx, READ_ON, &[number(resource.get())?])
 }

@@ -1,5 +1,5 @@
 //! The table `resource`: the resources of the vens.
-ghost use Rattle.std.specs.Prelude.{◌≡◌, ◌⊎◌, ◌<◌, [], ◌∷◌, map, length, IfOk, IfErr};
+ghost use Rattle.std.specs.Prelude.{◌≡◌, ◌⊎◌, ◌<◌, ◌==◌, [], ◌∷◌, map, filter, length, IfOk, IfErr};
 ghost use Rattle.std.specs.Ordering.{nat_cmp};
 ghost use Rattle.adr_state.specs.Names.{resource_name};
 ghost use Rattle.adr_state.specs.Keys.{at, map_of};
@@ -8,14 +8,14 @@ ghost use Rattle.adr_sql.specs.Calls.{LeavesLent};
 ghost use Rattle.adr_state.specs.Portfolios.{with_resource, without_resource};
 ghost use Rattle.adr_db.specs.Kept.{numbers_named, with_portfolio};
 ghost use Rattle.adr_db.specs.Rows.{resource_row, number_row};
-ghost use Rattle.adr_db.specs.Refusals.{RefusesToPut, RefusesToShow, CannotRead, CannotReadAll, CannotReadFirst, CannotCount};
+ghost use Rattle.adr_db.specs.Refusals.{RefusesToPut, RefusesToShow, CannotRead, CannotReadAll, CannotReadFirst};
 ghost use Rattle.std.specs.List.{AllZip};
 ghost use Rattle.adr_text.specs.declared.refusal.Refusal.TheVariants.{OutOfMemory, Store};
 ghost use Rattle.adr_db.specs.Admitted.{IsNumber, IsResource, AreResources, ReadsNumber, ReadsResource, ReadsResourceEntry};
 ghost use Rattle.adr_db.specs.Calls.{LeavesKept, Finds, IsOfStore};
 
 use adr_db::cells::number;
-use adr_db::reading::{all_of, count_of, first_of};
+use adr_db::reading::{all_of, first_of};
 use adr_db::statement::run;
 use adr_objects::{Number, ResourceName};
 use adr_state::{Resource, Resources};
@@ -36,7 +36,7 @@ const READ_ALL: &str = "SELECT id, ven, name, created, modified FROM resource OR
 
 const READ_NAMED: &str = "SELECT id FROM resource WHERE name = ?1 ORDER BY id";
 
-const COUNT: &str = "SELECT count(*) FROM resource";
+const READ_OF: &str = "SELECT id FROM resource WHERE ven = ?1 ORDER BY id";
 
 /// Puts the resource of a number, new or in the place of the one that has it.
 pub fn put_resource<S: Alter>(
@@ -129,12 +129,16 @@ pub fn read_resources_named<S: Alter>(
     all_of(alloc, tx, READ_NAMED, &[name.as_name().as_str().to_sql()])
 }
 
-/// How many resources there are.
-pub fn count_resources<S: Alter>(tx: &mut Transaction<'_, S>) -> Result<u64, Refusal>
+/// The numbers of the resources of a ven, in their order. No resource of another ven is read.
+pub fn read_resources_of<S: Alter>(
+    alloc: Global,
+    tx: &mut Transaction<'_, S>,
+    ven: Number,
+) -> Result<Rows<Number>, Refusal>
     ensures lent { LeavesLent S.Store tx.old.conn tx.new.conn result }
-    ensures finds { Finds S.Store tx.old.conn.now tx.new.conn.now (λ kept count. count ≡ length kept.portfolio.resources) result }
+    ensures finds { Finds S.Store tx.old.conn.now tx.new.conn.now (λ kept numbers. numbers ≡ map (λ r. r.0) (filter (λ r. r.1.ven == ven) kept.portfolio.resources)) result }
     ensures refused { IfErr result IsOfStore }
-    ensures fails { RefusesToShow S.Store tx.old.conn.now tx.new.conn.now COUNT.now [] CannotCount result }
+    ensures fails { RefusesToShow S.Store tx.old.conn.now tx.new.conn.now READ_OF.now (number_row ven) (CannotReadAll IsNumber ReadsNumber) result }
 {
-    count_of(tx, COUNT)
+    all_of(alloc, tx, READ_OF, &[number(ven.get())?])
 }

@@ -1,19 +1,20 @@
 //! The table `share`: the shares of resources in programs.
-ghost use Rattle.std.specs.Prelude.{◌≡◌, [], length, IfErr};
+ghost use Rattle.std.specs.Prelude.{◌≡◌, ◌==◌, [], map, filter, IfErr};
 ghost use Rattle.adr_state.specs.Keys.{share_cmp, at};
 ghost use Rattle.adr_sql.specs.Calls.{LeavesLent};
 ghost use Rattle.adr_state.specs.Portfolios.{with_share, without_share};
 ghost use Rattle.adr_db.specs.Kept.{with_portfolio};
-ghost use Rattle.adr_db.specs.Rows.{share_key_row, share_row};
-ghost use Rattle.adr_db.specs.Refusals.{RefusesToPut, RefusesToShow, CannotReadAll, CannotReadFirst, CannotCount};
-ghost use Rattle.adr_db.specs.Admitted.{IsShareWeight, IsShare, ReadsShareWeight, ReadsShare};
+ghost use Rattle.adr_db.specs.Rows.{number_row, share_key_row, share_row};
+ghost use Rattle.adr_db.specs.Refusals.{RefusesToPut, RefusesToShow, CannotReadAll, CannotReadFirst};
+ghost use Rattle.adr_db.specs.Admitted.{IsShareKey, IsShareWeight, IsShare, ReadsShareKey, ReadsShareWeight, ReadsShare};
 ghost use Rattle.adr_db.specs.Calls.{LeavesKept, Finds, IsOfStore};
 
 use adr_db::cells::number;
-use adr_db::reading::{all_of, count_of, first_in, table_of};
+use adr_db::reading::{all_of, first_in, table_of};
 use adr_db::statement::{rows_of, run};
+use adr_objects::Number;
 use adr_state::{ShareKey, Weight};
-use adr_text::{Refusal, Table};
+use adr_text::{Refusal, Rows, Table};
 use sqlite::types::ToSql;
 use sqlite::{Alter, Transaction};
 use std::alloc::Global;
@@ -28,7 +29,8 @@ const READ_ONE: &str =
 
 const READ_ALL: &str = "SELECT program, resource, weight FROM share ORDER BY program, resource";
 
-const COUNT: &str = "SELECT count(*) FROM share";
+const READ_OF: &str =
+    "SELECT program, resource FROM share WHERE resource = ?1 ORDER BY program, resource";
 
 /// Puts the weight of a share, new or in the place of the one that it has.
 pub fn put_share<S: Alter>(
@@ -92,12 +94,16 @@ pub fn read_shares<S: Alter>(
     table_of(alloc, entries)
 }
 
-/// How many shares there are.
-pub fn count_shares<S: Alter>(tx: &mut Transaction<'_, S>) -> Result<u64, Refusal>
+/// The keys of the shares of a resource, by their programs. No weight is read, and no share of another resource.
+pub fn read_shares_of<S: Alter>(
+    alloc: Global,
+    tx: &mut Transaction<'_, S>,
+    resource: Number,
+) -> Result<Rows<ShareKey>, Refusal>
     ensures lent { LeavesLent S.Store tx.old.conn tx.new.conn result }
-    ensures finds { Finds S.Store tx.old.conn.now tx.new.conn.now (λ kept count. count ≡ length kept.portfolio.shares) result }
+    ensures finds { Finds S.Store tx.old.conn.now tx.new.conn.now (λ kept keys. keys ≡ map (λ s. s.0) (filter (λ s. s.0.resource == resource) kept.portfolio.shares)) result }
     ensures refused { IfErr result IsOfStore }
-    ensures fails { RefusesToShow S.Store tx.old.conn.now tx.new.conn.now COUNT.now [] CannotCount result }
+    ensures fails { RefusesToShow S.Store tx.old.conn.now tx.new.conn.now READ_OF.now (number_row resource) (CannotReadAll IsShareKey ReadsShareKey) result }
 {
-    count_of(tx, COUNT)
+    all_of(alloc, tx, READ_OF, &[number(resource.get())?])
 }

@@ -1,5 +1,5 @@
 //! The table `sub`: the subscriptions.
-ghost use Rattle.std.specs.Prelude.{◌≡◌, [], length, string_bytes, IfOk, IfErr};
+ghost use Rattle.std.specs.Prelude.{◌≡◌, [], map, filter, string_bytes, IfOk, IfErr};
 ghost use Rattle.std.specs.Ordering.{nat_cmp};
 ghost use Rattle.sqlite.specs.Values.{bound_value};
 ghost use Rattle.sqlite_value.specs.Value.{owned};
@@ -7,20 +7,20 @@ ghost use Rattle.adr_text.specs.declared.refusal.Refusal.TheVariants.{Store};
 ghost use Rattle.adr_subscription.specs.Types.{IsSub};
 ghost use Rattle.adr_subscription.specs.Kept.{kept_text};
 ghost use Rattle.adr_state.specs.Keys.{at};
-ghost use Rattle.adr_state.specs.Portfolios.{with_sub, without_sub};
+ghost use Rattle.adr_state.specs.Portfolios.{is_sub_of, with_sub, without_sub};
 ghost use Rattle.adr_sql.specs.Calls.{LeavesLent};
 ghost use Rattle.adr_db.specs.Kept.{with_portfolio};
 ghost use Rattle.adr_db.specs.Rows.{owner_cell, number_row, sub_row};
-ghost use Rattle.adr_db.specs.Refusals.{IsBeyond, RefusesToPut, RefusesToPutText, RefusesToShow, CannotReadAll, CannotReadFirst, CannotCount};
-ghost use Rattle.adr_db.specs.Admitted.{IsKeptSub, IsSubEntry, ReadsSub, ReadsSubEntry};
+ghost use Rattle.adr_db.specs.Refusals.{IsBeyond, RefusesToPut, RefusesToPutText, RefusesToShow, CannotReadAll, CannotReadFirst};
+ghost use Rattle.adr_db.specs.Admitted.{IsNumber, IsKeptSub, IsSubEntry, ReadsNumber, ReadsSub, ReadsSubEntry};
 ghost use Rattle.adr_db.specs.Calls.{LeavesKept, Finds, IsOfStore};
 
 use adr_db::cells::number;
-use adr_db::reading::{all_of, count_of, first_of, table_of};
+use adr_db::reading::{all_of, first_of, table_of};
 use adr_db::statement::run;
 use adr_objects::Number;
 use adr_subscription::{Sub, kept_text};
-use adr_text::{Refusal, Table};
+use adr_text::{Refusal, Rows, Table};
 use sqlite::types::{ToSql, ValueRef};
 use sqlite::{Alter, Transaction};
 use std::alloc::Global;
@@ -34,7 +34,7 @@ const READ_ONE: &str = "SELECT id, ven, body, created, modified FROM sub WHERE i
 
 const READ_ALL: &str = "SELECT id, ven, body, created, modified FROM sub ORDER BY id";
 
-const COUNT: &str = "SELECT count(*) FROM sub";
+const READ_OF: &str = "SELECT id FROM sub WHERE ven = ?1 ORDER BY id";
 
 // The ven that one is of, where it is of one.
 fn owner_cell(owner: Option<Number>) -> Result<ValueRef<'static>, Refusal>
@@ -128,12 +128,16 @@ pub fn read_subs<S: Alter>(
     table_of(alloc, entries)
 }
 
-/// How many subscriptions there are.
-pub fn count_subs<S: Alter>(tx: &mut Transaction<'_, S>) -> Result<u64, Refusal>
+/// The numbers of the subscriptions of a ven, in their order. None of another ven is read, and none of the operator.
+pub fn read_subs_of<S: Alter>(
+    alloc: Global,
+    tx: &mut Transaction<'_, S>,
+    ven: Number,
+) -> Result<Rows<Number>, Refusal>
     ensures lent { LeavesLent S.Store tx.old.conn tx.new.conn result }
-    ensures finds { Finds S.Store tx.old.conn.now tx.new.conn.now (λ kept count. count ≡ length kept.portfolio.subs) result }
+    ensures finds { Finds S.Store tx.old.conn.now tx.new.conn.now (λ kept numbers. numbers ≡ map (λ s. s.0) (filter (λ s. is_sub_of ven s.1) kept.portfolio.subs)) result }
     ensures refused { IfErr result IsOfStore }
-    ensures fails { RefusesToShow S.Store tx.old.conn.now tx.new.conn.now COUNT.now [] CannotCount result }
+    ensures fails { RefusesToShow S.Store tx.old.conn.now tx.new.conn.now READ_OF.now (number_row ven) (CannotReadAll IsNumber ReadsNumber) result }
 {
-    count_of(tx, COUNT)
+    all_of(alloc, tx, READ_OF, &[number(ven.get())?])
 }

@@ -1,5 +1,5 @@
 //! The table `ven`: the vens that are enrolled.
-ghost use Rattle.std.specs.Prelude.{◌≡◌, [], ◌∷◌, length, IfErr};
+ghost use Rattle.std.specs.Prelude.{◌≡◌, [], ◌∷◌, IfErr};
 ghost use Rattle.std.specs.Ordering.{nat_cmp};
 ghost use Rattle.adr_state.specs.Names.{ven_name};
 ghost use Rattle.adr_state.specs.Keys.{at};
@@ -7,13 +7,13 @@ ghost use Rattle.adr_sql.specs.Calls.{LeavesLent};
 ghost use Rattle.adr_state.specs.Portfolios.{with_ven, without_ven};
 ghost use Rattle.adr_db.specs.Kept.{numbers_named, with_portfolio};
 ghost use Rattle.adr_db.specs.Rows.{ven_row, number_row};
-ghost use Rattle.adr_db.specs.Refusals.{RefusesToPut, RefusesToShow, CannotReadAll, CannotReadFirst, CannotCount};
+ghost use Rattle.adr_db.specs.Refusals.{RefusesToPut, RefusesToShow, CannotReadAll, CannotReadFirst};
 ghost use Rattle.sqlite.specs.declared.types.Value.TheVariants.{Text};
 ghost use Rattle.adr_db.specs.Admitted.{IsNumber, IsVen, IsVenEntry, ReadsNumber, ReadsVen, ReadsVenEntry};
 ghost use Rattle.adr_db.specs.Calls.{LeavesKept, Finds, IsOfStore};
 
 use adr_db::cells::number;
-use adr_db::reading::{all_of, count_of, first_of, table_of};
+use adr_db::reading::{all_of, first_of, table_of};
 use adr_db::statement::run;
 use adr_objects::Number;
 use adr_state::Ven;
@@ -32,8 +32,6 @@ const READ_ONE: &str = "SELECT id, name, created, modified FROM ven WHERE id = ?
 const READ_ALL: &str = "SELECT id, name, created, modified FROM ven ORDER BY id";
 
 const READ_NAMED: &str = "SELECT id FROM ven WHERE name = ?1 ORDER BY id";
-
-const COUNT: &str = "SELECT count(*) FROM ven";
 
 /// Puts the ven of a number, new or in the place of the one that has it.
 pub fn put_ven<S: Alter>(tx: &mut Transaction<'_, S>, id: Number, ven: &Ven) -> Result<(), Refusal>
@@ -105,14 +103,4 @@ pub fn read_vens_named<S: Alter>(
     ensures fails { RefusesToShow S.Store tx.old.conn.now tx.new.conn.now READ_NAMED.now (Text name.now ∷ []) (CannotReadAll IsNumber ReadsNumber) result }
 {
     all_of(alloc, tx, READ_NAMED, &[name.as_str().to_sql()])
-}
-
-/// How many vens there are.
-pub fn count_vens<S: Alter>(tx: &mut Transaction<'_, S>) -> Result<u64, Refusal>
-    ensures lent { LeavesLent S.Store tx.old.conn tx.new.conn result }
-    ensures finds { Finds S.Store tx.old.conn.now tx.new.conn.now (λ kept count. count ≡ length kept.portfolio.vens) result }
-    ensures refused { IfErr result IsOfStore }
-    ensures fails { RefusesToShow S.Store tx.old.conn.now tx.new.conn.now COUNT.now [] CannotCount result }
-{
-    count_of(tx, COUNT)
 }

@@ -1,4 +1,3 @@
-pub mod Ranges
 pub mod ShownStatements
 pub mod RollupStatements
 pub mod RangeStatements

@@ -4,7 +4,7 @@ use Rattle.std.specs.Prelude.{option_map, option_and_then, IfSome, IsSomeAnd}
 use Rattle.std.specs.Ordering.{nat_cmp}
 use Rattle.adr_text.specs.Refusals.{◌>>=◌, or_else}
 use Rattle.adr_text.specs.declared.refusal.Refusal.{Refusal}
-use Rattle.adr_text.specs.declared.refusal.Refusal.TheVariants.{NotFound, Conflict, Forbidden, LimitReached, BadShare}
+use Rattle.adr_text.specs.declared.refusal.Refusal.TheVariants.{NotFound, Forbidden, LimitReached, BadShare}
 use Rattle.adr_objects.specs.declared.shown.VenObject.{VenObject}
 use Rattle.adr_objects.specs.declared.shown.ResourceObject.{ResourceObject}
 use Rattle.adr_objects.specs.declared.shown.ShareObject.{ShareObject}
@@ -18,7 +18,7 @@ use Rattle.adr_state.specs.BaseChanges.{ChangePortfolio}
 use Rattle.adr_state.specs.Digits.{number_in}
 use Rattle.adr_state.specs.Keys.{at}
 use Rattle.adr_state.specs.Names.{if_new, if_free, is_full, is_taken, is_taken_by_another, resource_name, ven_name}
-use Rattle.adr_state.specs.Portfolios.{PortfolioChange, PutVen, DropVen, PutResource, DropResource, PutShare, DropShare, PutReport, DropReport, PutSub, DropSub}
+use Rattle.adr_state.specs.Portfolios.{PortfolioChange, DropVen, DropResource, PutShare, DropShare, PutReport, DropReport, PutSub, DropSub}
 use Rattle.adr_state.specs.Resources.{is_under, putting_resource, resource_add, resource_at, resource_object, resource_put, resource_remove, resource_under, resource_with_id}
 use Rattle.adr_state.specs.Shares.{is_beyond, share_object, share_of, share_set, weight_set}
 use Rattle.adr_state.specs.Stamping.{fresh, modified_at}

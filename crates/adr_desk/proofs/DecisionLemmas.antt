@@ -11,7 +11,7 @@ use Rattle.adr_state.specs.declared.state.State.{State}
 use Rattle.sqlite.specs.State as sql
 use Rattle.adr_db.specs.declared.meta.Meta.{Meta}
 use Rattle.adr_db.specs.Bases.{Beside, meta_of, with_base, counting, kept_beside, HoldsBeside}
-use Rattle.adr_db.specs.BaseCalls.{Carries, Makes, Refuses, RefusesOn}
+use Rattle.adr_db.specs.BaseCalls.{Carries, Makes, RefusesOn}
 use Rattle.adr_db.specs.Calls.{IsOfStore}
 use Rattle.adr_machine.specs.declared.outcome.Outcome.{Outcome}
 use Rattle.adr_machine.specs.declared.outcome.Outcome.TheVariants as outcome
@@ -19,7 +19,6 @@ use Rattle.adr_mirror.specs.Missed.{closing}
 use Rattle.adr_db.proofs.Results.{refused_so}
 use Rattle.sqlite.specs.State.{HasCleanDisk}
 use Rattle.adr_db.specs.Images.{image_kept}
-use Rattle.adr_reports.specs.Decided.{Decides}
 use Rattle.adr_state.specs.declared.base.Mark.{Mark}
 use Rattle.adr_view.specs.declared.sight.Sight.{Sight}
 use Rattle.adr_queries.specs.declared.role.Role.{Role}
@@ -73,26 +72,26 @@ asks_nothing g old clean beside base was = (tt, was)
 
 module _ {S : Type 0} (g : Ghosts S) (old asked new : Held S) (Right : Base → Type 0) (asks : Asks g old asked Right) (early : HasCleanDisk (state g new) → HasCleanDisk (state g asked)) where
   -- a decision of the portfolio
-  pub portfolio_carries : {A : Type 0} (comes : A → Outcome) (decide : Portfolio → Result (A × PortfolioChange) Refusal) (touched : Touched) (meta : Meta) (r : Result A Refusal)
-      → Carries g asked new decide r → Refuses g asked new (λ kept. decide kept.portfolio) r
+  pub portfolio_carries : {A : Type 0} (comes : A → Outcome) (decide : Portfolio → Result (A × PortfolioChange) Refusal) (touched : Touched) (before after : Meta) (r : Result A Refusal)
+      → Carries g asked new (λ base. decide base.portfolio) before after r → RefusesOn g asked new (λ base. decide base.portfolio) before r
       → ((base : Base) → Right base → (x : A) (change : PortfolioChange) → decide base.portfolio ≡ Ok (x, change) → Covers (ChangePortfolio change) base touched)
-      → CarriesOut g old new (λ base. of_portfolio comes (decide base.portfolio)) meta meta (told_by (with_touched touched) (told_by comes r))
-  portfolio_carries comes decide touched meta (Ok x) carries refuses covers = record {
+      → CarriesOut g old new (λ base. of_portfolio comes (decide base.portfolio)) before after (told_by (with_touched touched) (told_by comes r))
+  portfolio_carries comes decide touched before after (Ok x) carries refuses covers = record {
     decides = λ clean beside base was same.
         let found = asks (early clean) beside base was in
-        let it = carries clean (kept_beside beside base) found.1 in
+        let it = carries clean beside base found.1 same in
         record {
           change = ChangePortfolio it.change;
           decided = ap (of_portfolio comes) it.decided;
-          holds = it.keeps;
-          counted = same;
+          holds = it.left.holds;
+          counted = it.left.counted;
           covers = covers base found.0 x it.change it.decided;
         };
     refuses = λ clean. tt;
   }
-  portfolio_carries comes decide touched meta (Err e) carries refuses covers = record {
+  portfolio_carries comes decide touched before after (Err e) carries refuses covers = record {
     decides = λ clean. tt;
-    refuses = λ clean beside base was same. then_refused e (decide base.portfolio) _ (refuses clean (kept_beside beside base) (asks (early clean) beside base was).1);
+    refuses = λ clean beside base was same. then_refused e (decide base.portfolio) _ (refuses clean beside base (asks (early clean) beside base was).1 same);
   }
 
 module _ {S : Type 0} (g : Ghosts S) (old new : Held S) where
@@ -177,38 +176,38 @@ module _ {S : Type 0} (g : Ghosts S) (old asked mid new : Held S) {A : Type 0} (
   sight_kept (role.Ven id) beside base = refl
   sight_kept role.Utility beside base = refl
 
-  pub sight_carries : (sight : Sight) (meta : Meta) (r : Result A Refusal) → (HasCleanDisk (state g new) → HasCleanDisk (state g mid))
+  pub sight_carries : (sight : Sight) (before after : Meta) (r : Result A Refusal) → (HasCleanDisk (state g new) → HasCleanDisk (state g mid))
       → (HasCleanDisk (state g mid) → (kept : Kept) → Keeps kept (state g asked) → (sight_of (image_kept kept).base giver ≡ Ok sight) × Keeps kept (state g mid))
-      → Decides g mid new (decide sight) r → Refuses g mid new (λ kept. decide sight kept.mirror kept.portfolio) r
+      → Carries g mid new (λ base. decide sight base.mirror base.portfolio) before after r → RefusesOn g mid new (λ base. decide sight base.mirror base.portfolio) before r
       → (touched : Touched) → ((base : Base) → Right base → (x : A) (change : PortfolioChange) → r ≡ Ok x → decide sight base.mirror base.portfolio ≡ Ok (x, change) → Covers (ChangePortfolio change) base touched)
-      → CarriesOut g old new whole meta meta (told_by (with_touched touched) (told_by comes r))
-  sight_carries sight meta (Ok x) early sees decides refuses touched covers = record {
+      → CarriesOut g old new whole before after (told_by (with_touched touched) (told_by comes r))
+  sight_carries sight before after (Ok x) early sees carries refuses touched covers = record {
     decides = λ clean beside base was same.
         let found = asks (asked_early (early clean)) beside base was in
         let seen = sees (early clean) (kept_beside beside base) found.1 in
-        let it = decides clean (kept_beside beside base) seen.1 in
+        let it = carries clean beside base seen.1 same in
         record {
           change = ChangePortfolio it.change;
           decided = ap (λ (s : Result Sight Refusal). s >>= λ sight. of_portfolio comes (decide sight base.mirror base.portfolio)) (sym (sight_kept giver beside base) ∙ seen.0) ∙ ap (of_portfolio comes) it.decided;
-          holds = it.keeps;
-          counted = same;
+          holds = it.left.holds;
+          counted = it.left.counted;
           covers = covers base found.0 x it.change refl it.decided;
         };
     refuses = λ clean. tt;
   }
-  sight_carries sight meta (Err e) early sees decides refuses touched covers = record {
+  sight_carries sight before after (Err e) early sees carries refuses touched covers = record {
     decides = λ clean. tt;
     refuses = λ clean beside base was same.
         let found = asks (asked_early (early clean)) beside base was in
         let seen = sees (early clean) (kept_beside beside base) found.1 in
         subst (λ (s : Result Sight Refusal). IsRefusalOf e (s >>= λ sight. of_portfolio comes (decide sight base.mirror base.portfolio))) (sym (sym (sight_kept giver beside base) ∙ seen.0))
-        (then_refused e (decide sight base.mirror base.portfolio) _ (refuses clean (kept_beside beside base) seen.1));
+        (then_refused e (decide sight base.mirror base.portfolio) _ (refuses clean beside base seen.1 same));
   }
 
   -- who sees nothing is refused
-  pub unseen_carries : (meta : Meta) (e : Refusal) (r : Result (Outcome × Touched) Refusal) → IsErrAnd r (λ x. x ≡ e) → (HasCleanDisk (state g new) → HasCleanDisk (state g mid)) → (HasCleanDisk (state g mid) → (kept : Kept) → Keeps kept (state g asked) → IsRefusalOf e (sight_of (image_kept kept).base giver)) → CarriesOut g old new whole meta meta r
-  unseen_carries meta e (Ok x) is early refuses = absurd is
-  unseen_carries meta e (Err x) is early refuses = record {
+  pub unseen_carries : (before after : Meta) (e : Refusal) (r : Result (Outcome × Touched) Refusal) → IsErrAnd r (λ x. x ≡ e) → (HasCleanDisk (state g new) → HasCleanDisk (state g mid)) → (HasCleanDisk (state g mid) → (kept : Kept) → Keeps kept (state g asked) → IsRefusalOf e (sight_of (image_kept kept).base giver)) → CarriesOut g old new whole before after r
+  unseen_carries before after e (Ok x) is early refuses = absurd is
+  unseen_carries before after e (Err x) is early refuses = record {
     decides = λ clean. tt;
     refuses = λ clean beside base was same.
         let found = asks (asked_early (early clean)) beside base was in
@@ -216,8 +215,8 @@ module _ {S : Type 0} (g : Ghosts S) (old asked mid new : Held S) {A : Type 0} (
   }
 
 -- what is not settled is refused, whatever the tables hold
-module _ {S : Type 0} (g : Ghosts S) (old new : Held S) (sub : SubIn) (f : SubIn → Base → Result Decision Refusal) (meta : Meta) where
-  pub unsettled_carries : (e : Refusal) (r : Result (Outcome × Touched) Refusal) → IsErrAnd r (λ x. x ≡ e) → Fails e (settled sub) → CarriesOut g old new (λ base. settled sub >>= λ body. f body base) meta meta r
+module _ {S : Type 0} (g : Ghosts S) (old new : Held S) (sub : SubIn) (f : SubIn → Base → Result Decision Refusal) (before after : Meta) where
+  pub unsettled_carries : (e : Refusal) (r : Result (Outcome × Touched) Refusal) → IsErrAnd r (λ x. x ≡ e) → Fails e (settled sub) → CarriesOut g old new (λ base. settled sub >>= λ body. f body base) before after r
   unsettled_carries e (Ok x) is fails = absurd is
   unsettled_carries e (Err x) is fails = record {
     decides = λ clean. tt;
@@ -225,8 +224,8 @@ module _ {S : Type 0} (g : Ghosts S) (old new : Held S) (sub : SubIn) (f : SubIn
   }
 
   -- of what is settled, what follows is what is decided
-  pub settled_carries : (body : SubIn) (r : Result (Outcome × Touched) Refusal) → settled sub ≡ Ok body → CarriesOut g old new (f body) meta meta r → CarriesOut g old new (λ base. settled sub >>= λ body. f body base) meta meta r
-  settled_carries body r is carries = subst (λ (s : Result SubIn Refusal). CarriesOut g old new (λ base. s >>= λ body. f body base) meta meta r) (sym is) carries
+  pub settled_carries : (body : SubIn) (r : Result (Outcome × Touched) Refusal) → settled sub ≡ Ok body → CarriesOut g old new (f body) before after r → CarriesOut g old new (λ base. settled sub >>= λ body. f body base) before after r
+  settled_carries body r is carries = subst (λ (s : Result SubIn Refusal). CarriesOut g old new (λ base. s >>= λ body. f body base) before after r) (sym is) carries
 
 -- no change draws a number
 pub serial_stays : (change : BaseChange) (base : Base) → (changed change base).serial ≡ base.serial

@@ -1,5 +1,5 @@
 -- Evidence that was carried out, with what it touched.
-use Rattle.std.proofs.Common.{◌≡◌, Bool, true, false, cond, List, Option, Result, Ok, Err, refl, sym, ap, subst}
+use Rattle.std.proofs.Common.{◌≡◌, Bool, true, false, cond, List, Option, Result, Ok, Err, sym, ap, subst}
 use Rattle.std.specs.Prelude.{IsErrAnd}
 use Rattle.sqlite.specs.Store.{Ghosts}
 use Rattle.sqlite.specs.Held.{Held, state}

@@ -1,5 +1,5 @@
 -- Where a command stands once its edit is made.
-use Rattle.std.proofs.Common.{◌≡◌, ◌≤◌, ℕ, true, List, Result, Ok, IfOk, sym, ap, subst, ◌∙◌, arith}
+use Rattle.std.proofs.Common.{◌≡◌, ◌≤◌, ℕ, Result, IfOk, sym, ap, subst, ◌∙◌, arith}
 use Rattle.std.specs.List.{All}
 use Rattle.std.proofs.lemmas.List.Elements.{All-weaker}
 use Rattle.sqlite.specs.State as sql
@@ -14,7 +14,7 @@ use Rattle.adr_held.specs.Held.{beside_of, HoldsState}
 use Rattle.adr_held.proofs.HeldLemmas.{held_keeps}
 use Rattle.adr_machine.specs.declared.command.Command.{Command}
 use Rattle.adr_machine.specs.declared.outcome.Outcome.{Outcome}
-use Rattle.adr_machine.specs.Edits.{is_quiet, edit_of}
+use Rattle.adr_machine.specs.Edits.{edit_of}
 use Rattle.adr_machine.proofs.Listed.{edit_of_quiet}
 use Rattle.adr_touched.specs.declared.touched.Touched.{Touched}
 use Rattle.adr_held.proofs.VenLemmas.{anyones_keep}

@@ -5,7 +5,6 @@ use Rattle.sqlite.specs.State as sql
 use Rattle.adr_text.specs.Refusals.{◌>>=◌, IsRefusalOf}
 use Rattle.adr_text.specs.declared.refusal.Refusal.{Refusal}
 use Rattle.adr_text.specs.declared.refusal.Refusal.TheVariants.{Exhausted}
-use Rattle.adr_objects.specs.declared.shown.Stamps.{Stamps}
 use Rattle.adr_delivery.specs.declared.outbox.Outbox.{Outbox}
 use Rattle.adr_state.specs.declared.base.Base.{Base}
 use Rattle.adr_state.specs.declared.state.State.{State}
@@ -16,7 +15,6 @@ use Rattle.adr_state.specs.BaseChanges.{changed as changed_base}
 use Rattle.adr_state.specs.Serials.{drawn}
 use Rattle.adr_view.specs.declared.view.Content.{Content}
 use Rattle.adr_view.specs.Views.{view}
-use Rattle.adr_view.specs.Changes.{changes, restamped}
 use Rattle.adr_notices.specs.Committed.{outbox_after}
 use Rattle.adr_db.specs.declared.meta.Meta.{Meta}
 use Rattle.adr_db.specs.Kept.{Kept, Keeps, with_meta}
@@ -37,6 +35,7 @@ use Rattle.adr_machine.specs.Edits.{Decision, decided, draws_number, edit_of, nu
 use Rattle.adr_machine.specs.Steps.{answered_by, changed, outbox_then, committed}
 use Rattle.adr_commit.specs.Commits.{entries_told}
 use Rattle.adr_db.proofs.Results.{refused_so}
+use Rattle.adr_held.proofs.StampLemmas.{same_view}
 use Rattle.adr_desk.specs.Steps.{step_of, IsCommitted}
 use Rattle.adr_desk.specs.Told.{outbox_then as outbox_told, IsTold}
 use Rattle.adr_desk.proofs.DecisionLemmas.{then_refused}
@@ -49,11 +48,6 @@ found_so (Err e) h = tt
 pub refused_then : {A : Type 0} {P : Refusal → Type 0} (r : Result A Refusal) → ((e : Refusal) → r ≡ Err e → P e) → IfErr r P
 refused_then (Ok x) h = tt
 refused_then (Err e) h = h e refl
-
--- of the last number that was drawn nothing is shown
-same_view : (base : Base) (serial : ℕ) → view (record base { serial = serial }) ≡ view base
-unfolding view
-same_view base serial = refl
 
 same_kept : (base : Base) (serial : ℕ) → kept_view (record base { serial = serial }) ≡ kept_view base
 same_kept base serial = ap (rows_at (λ k. is_kept (source_of k))) (same_view base serial)

@@ -1,6 +1,5 @@
 -- What is told of a command, in the tables.
-use Rattle.std.proofs.Common.{◌≡◌, ℕ, ◌+◌, ◌≤◌, nat_lt, Bool, true, false, cond, List, [], Ok, refl, sym, ap, subst, ◌∙◌, arith}
-use Rattle.std.proofs.lemmas.Bool.{ltb-true}
+use Rattle.std.proofs.Common.{◌≡◌, ℕ, ◌+◌, ◌≤◌, List, [], Ok, refl, sym, ap, subst, ◌∙◌, arith}
 use Rattle.std.specs.List.{All}
 use Rattle.std.proofs.lemmas.List.Elements.{All-filter}
 use Rattle.adr_text.specs.declared.refusal.Refusal.{Refusal}
@@ -9,7 +8,7 @@ use Rattle.sqlite.specs.State.{State}
 use Rattle.adr_delivery.specs.declared.entry.Entry.{Entry}
 use Rattle.adr_delivery.specs.declared.outbox.Outbox.{Outbox}
 use Rattle.adr_delivery.specs.Outboxes.{has_addressee}
-use Rattle.adr_delivery.specs.Tallies.{most_tally, plus}
+use Rattle.adr_delivery.specs.Tallies.{most_tally}
 use Rattle.adr_state.specs.declared.base.Base.{Base}
 use Rattle.adr_state.specs.declared.limits.Limits.{Limits}
 use Rattle.adr_state.specs.declared.limits.Settings.{Settings}
@@ -26,17 +25,10 @@ use Rattle.adr_outbox.specs.Appended.{further}
 use Rattle.adr_outbox.specs.Dropped.{without_lost}
 use Rattle.adr_touched.specs.declared.touched.Touched.{Touched}
 use Rattle.adr_commit.specs.Commits.{IsEdited, IsCommitted, entries_told, outbox_told}
+use Rattle.adr_commit.proofs.Ended.{plus_none}
 use Rattle.adr_commit.proofs.Quiet.{untouched}
 use Rattle.adr_told.specs.Commits.{IsAsComputed}
 use Rattle.adr_desk.specs.Told.{outbox_then, IsTold, IsMade}
-
--- none more are as many
-pub plus_none : (n : ℕ) → n ≤ most_tally → plus n 0 ≡ n
-plus_none n within = by (nat_lt most_tally (n + 0)) refl
-  where
-    by : (past : Bool) → nat_lt most_tally (n + 0) ≡ past → cond past most_tally (n + 0) ≡ n
-    by false is = omega arith
-    by true is = absurd (let over = ltb-true most_tally (n + 0) is in omega (arith, within, over))
 
 -- where nothing is told, what is lost is dropped and no more
 untold_is : (limits : Limits) (before : Meta) (kept : Kept) → before.counts.made ≤ most_tally → outbox_after limits before.serial (outbox_of before kept) kept.portfolio.subs [] ≡ Ok (without_lost before kept, before.serial)

@@ -49,33 +49,35 @@ pub(crate) fn carry_out<S: Alter>(
         Command::Gone { kind, id } => evidence::deleted(alloc, tx, limits, meta, *kind, id),
         Command::ScanBegin => along(done(scan_begin(tx, meta)), Touched::none(alloc)),
         Command::ScanEnd => along(of_scan(scan_end(alloc, tx, meta)), Touched::none(alloc)),
-        Command::VenAdd { ven, .. } => sites::ven_add(alloc, tx, limits, now, number, ven),
-        Command::VenPut { id, ven, .. } => sites::ven_put(alloc, tx, now, id, ven),
-        Command::VenRemove { id, .. } => sites::ven_remove(alloc, tx, id),
+        Command::VenAdd { ven, .. } => sites::ven_add(alloc, tx, limits, meta, now, number, ven),
+        Command::VenPut { id, ven, .. } => sites::ven_put(alloc, tx, meta, now, id, ven),
+        Command::VenRemove { id, .. } => sites::ven_remove(alloc, tx, meta, id),
         Command::ResourceAdd { ven, resource, .. } => {
-            sites::resource_add(alloc, tx, limits, now, number, ven, resource)
+            sites::resource_add(alloc, tx, limits, meta, now, number, ven, resource)
         }
         Command::ResourcePut {
             ven,
             id,
             resource,
             ..
-        } => sites::resource_put(alloc, tx, now, ven, id, resource),
-        Command::ResourceRemove { ven, id, .. } => sites::resource_remove(alloc, tx, ven, id),
+        } => sites::resource_put(alloc, tx, meta, now, ven, id, resource),
+        Command::ResourceRemove { ven, id, .. } => sites::resource_remove(alloc, tx, meta, ven, id),
         Command::ShareSet {
             program,
             resource,
             share,
             ..
-        } => sites::share_set(alloc, tx, limits, program, resource, share),
+        } => sites::share_set(alloc, tx, limits, meta, program, resource, share),
         Command::ReportPost { role, report } => {
-            report_post(alloc, tx, limits, number, role, report)
+            report_post(alloc, tx, limits, meta, number, role, report)
         }
-        Command::ReportPut { role, id, report } => report_put(alloc, tx, number, role, id, report),
-        Command::ReportDelete { role, id } => report_delete(alloc, tx, role, id),
-        Command::SubPost { role, sub } => sub_post(alloc, tx, limits, now, number, role, sub),
-        Command::SubPut { role, id, sub } => sub_put(alloc, tx, now, role, id, sub),
-        Command::SubDelete { role, id } => sub_delete(alloc, tx, role, id),
+        Command::ReportPut { role, id, report } => report_put(
+            alloc, tx, meta, number, role, id, report,
+        ),
+        Command::ReportDelete { role, id } => report_delete(alloc, tx, meta, role, id),
+        Command::SubPost { role, sub } => sub_post(alloc, tx, limits, meta, now, number, role, sub),
+        Command::SubPut { role, id, sub } => sub_put(alloc, tx, meta, now, role, id, sub),
+        Command::SubDelete { role, id } => sub_delete(alloc, tx, meta, role, id),
         // what is about an entry leaves the base
         Command::Lease | Command::Sent { .. } | Command::Failed { .. } => {
             along(done(Ok(())), Touched::none(alloc))

@@ -9,7 +9,7 @@ use Rattle.adr_objects.specs.declared.body.Found.{Found}
 use Rattle.adr_state.specs.Marks.{is_below}
 use Rattle.adr_db.specs.declared.meta.Meta.{Meta}
 use Rattle.adr_db.specs.Kept.{Kept, Keeps, at_most, with_mark}
-use Rattle.adr_db.specs.Bases.{Beside, keys_polled, with_base, kept_beside}
+use Rattle.adr_db.specs.Bases.{Beside, keys_polled, with_sizes, with_base, kept_beside}
 use Rattle.adr_mirror.specs.Raises.{are_beyond, with_raised, with_polled_if}
 use Rattle.adr_mirror.specs.Missed.{missed, closing}
 
@@ -45,7 +45,7 @@ pub counted_is : (base : Base) (mirror : List (MirrorKey × Mark)) (scan : Optio
 counted_is base mirror scan added old new same is grows still =
     is
     ∙ ap (λ (m : Meta). let after : Meta = record m { keys = m.keys + added } in after) same
-    ∙ ap₂ (λ (n : ℕ) (is_open : Bool). let after : Meta = record old { serial = base.serial; scan = is_open; keys = n } in after) grows (sym still)
+    ∙ ap₂ (λ (n : ℕ) (is_open : Bool). let after : Meta = record (with_sizes old base.portfolio) { serial = base.serial; scan = is_open; keys = n } in after) grows (sym still)
 
 -- ---- scans
 

@@ -1,29 +1,7 @@
--- Lists that rise: how long a map is after a put, and what a set has.
-use Rattle.std.proofs.Common.{◌≡◌, ℕ, suc, Bool, true, false, cond, ◌||◌, List, [], ◌∷◌, length, Some, None, refl, ap, ◌∙◌, Ordering, Less, Equal, Greater}
-use Rattle.std.specs.Prelude.{is_none}
-use Rattle.adr_db.proofs.Common.{match_ordering, is_eq, ordering_reverse, AllByRecursion, list_any, insert_entry, is_at, insert_key, alike_right, IsAscending, all_weaker, at}
+-- What a set has, as a list that rises.
+use Rattle.std.proofs.Common.{◌≡◌, Bool, true, false, ◌||◌, List, [], ◌∷◌, refl, ap, ◌∙◌, Ordering, Less, Equal, Greater}
+use Rattle.adr_db.proofs.Common.{match_ordering, is_eq, ordering_reverse, AllByRecursion, list_any, is_at, insert_key, alike_right, IsAscending, all_weaker}
 use Rattle.std.specs.Cmp.{IsTotalOrder}
-
-one_more : (b : Bool) (n : ℕ) → suc (cond b (suc n) n) ≡ cond b (suc (suc n)) (suc n)
-one_more true n = refl
-one_more false n = refl
-
-module _ {K X : Type 0} {R : K → K → Ordering} (order : IsTotalOrder R) where
-  -- a key below every key is none of them
-  absent : (k : K) (e : K × X) (es : List (K × X)) → R k e.0 ≡ Less → AllByRecursion (λ x. R e.0 x.0 ≡ Less) es → at R k es ≡ None
-  absent k e [] less up = refl
-  absent k e (x ∷ xs) less up = rw (order.trans k e.0 x.0 less up.0) (absent k e xs less up.1)
-
-  -- a put of a new key makes a map longer by one, and one of a key that is there does not
-  pub length_put : (k : K) (v : X) (es : List (K × X)) → IsAscending (λ a b. R a.0 b.0 ≡ Less) es → length (insert_entry R es k v) ≡ cond (is_none (at R k es)) (suc (length es)) (length es)
-  length_put k v [] up = refl
-  length_put k v (e ∷ es) up = by (R k e.0) refl (length_put k v es up.1) (λ less. absent k e es less up.0)
-    where
-      by : (o : Ordering) → R k e.0 ≡ o → length (insert_entry R es k v) ≡ cond (is_none (at R k es)) (suc (length es)) (length es) → (R k e.0 ≡ Less → at R k es ≡ None)
-          → length (match_ordering o ((k, v) ∷ e ∷ es) ((e.0, v) ∷ es) (e ∷ insert_entry R es k v)) ≡ cond (is_none (cond (is_eq o) (Some e.1) (at R k es))) (suc (suc (length es))) (suc (length es))
-      by Less is more none = rw (none is) refl
-      by Equal is more none = refl
-      by Greater is more none = ap suc more ∙ one_more (is_none (at R k es)) (length es)
 
 twice : (b c : Bool) → (b || c) ≡ (b || (b || c))
 twice true c = refl

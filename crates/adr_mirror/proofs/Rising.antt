@@ -1,6 +1,6 @@
 -- Which marks rise as evidence joins the mirror.
 use Rattle.std.proofs.Common.{◌≡◌, ℕ, suc, ◌+◌, Bool, true, false, cond, ◌||◌, ◌++◌, inl, inr, List, [], ◌∷◌, fold, length, Option, Some, None, refl, sym, ap, subst, ◌∙◌, arith, Less}
-use Rattle.std.specs.Prelude.{is_none}
+use Rattle.std.specs.Prelude.{is_some}
 use Rattle.adr_db.proofs.Common.{is_eq, option_map_or, insert_entry, insert_key, map-append, IsAscending, Mark, MirrorKey, mirror_cmp, at, key_of, mark_of, evidence_of, raised, joined}
 use Rattle.std.proofs.lemmas.List.Sums.{fold-append}
 use Rattle.adr_objects.specs.declared.body.Found.{Found}
@@ -11,7 +11,8 @@ use Rattle.adr_mirror.specs.declared.raise.Rise.{Rise}
 use Rattle.adr_mirror.specs.declared.raise.Rise.TheVariants.{Same, Higher, First}
 use Rattle.adr_mirror.specs.declared.risen.Risen.{Risen}
 use Rattle.adr_mirror.specs.Raises.{is_raised, added_by, rise_of, rises, noted, HaveRisen, HasRisen}
-use Rattle.adr_mirror.proofs.Orders.{length_put, any-insert_key, ascending-insert_key}
+use Rattle.adr_db.proofs.Entries.{length_put}
+use Rattle.adr_mirror.proofs.Orders.{any-insert_key, ascending-insert_key}
 
 abbrev pub Mirror : Type 0
 Mirror = List (MirrorKey × Mark)
@@ -61,8 +62,8 @@ module _ (before now : Mirror) (e : MirrorKey × Mark) (raises : (key : MirrorKe
       put : Mirror
       put = insert_entry mirror_cmp now e.0 e.1
 
-      long : (known : Option Mark) → at mirror_cmp e.0 now ≡ known → length put ≡ cond (is_none known) (suc (length now)) (length now)
-      long known is = length_put key_order e.0 e.1 now up ∙ ap (λ x. cond (is_none x) (suc (length now)) (length now)) is
+      long : (known : Option Mark) → at mirror_cmp e.0 now ≡ known → length put ≡ cond (is_some known) (length now) (suc (length now))
+      long known is = length_put key_order e.0 e.1 now up ∙ ap (λ x. cond (is_some x) (length now) (suc (length now))) is
 
       above : (m : Mark) (b : Bool) → at mirror_cmp e.0 now ≡ Some m → is_below (Some m) e.1 ≡ b → HasRisen before (cond b put now) (noted risen e.0 (cond b Higher Same))
       above m true is below = record { keys = put_risen risen.keys (ap (λ x. is_below x e.1) is ∙ below) has.keys; added = has.added ∙ sym (long (Some m) is) }

@@ -5,7 +5,7 @@ use Rattle.std.specs.Map.{remove_entry}
 use Rattle.adr_text.specs.Refusals.{◌>>=◌, or_else}
 use Rattle.adr_text.specs.declared.refusal.Refusal.{Refusal}
 use Rattle.adr_text.specs.declared.refusal.Refusal.TheVariants.{LeaseLost}
-use Rattle.adr_db.proofs.Common.{Has, at, nat_cmp, insert_entry, insert_key, is_at}
+use Rattle.adr_db.proofs.Common.{Has, at, nat_cmp, nat_cmp_total, insert_entry, insert_key, is_at}
 use Rattle.adr_db.proofs.Entries.{NumbersRise, found_of, length_put, length_left}
 use Rattle.adr_delivery.specs.declared.entry.Entry.{Entry}
 use Rattle.adr_delivery.specs.Deliveries.{has_lease}
@@ -27,11 +27,11 @@ next_at now es up n e h = found_of es up (n, e) (next_has [] now es (n, e) h)
 
 -- as many wait where one stands in the place of another
 pub as_many : (n : ℕ) (e there : Entry) (es : List (ℕ × Entry)) → NumbersRise es → at nat_cmp n es ≡ Some there → length (insert_entry nat_cmp es n e) ≡ length es
-as_many n e there es up is = length_put n e es up ∙ ap (λ found. cond (is_some found) (length es) (suc (length es))) is
+as_many n e there es up is = length_put nat_cmp_total n e es up ∙ ap (λ found. cond (is_some found) (length es) (suc (length es))) is
 
 -- and one less where one leaves
 pub one_less : (n : ℕ) (there : Entry) (es : List (ℕ × Entry)) (waiting : ℕ) → at nat_cmp n es ≡ Some there → waiting ≡ length es → waiting - 1 ≡ length (remove_entry (is_at (nat_cmp n)) es)
-one_less n there es waiting is same = let left = length_left n es (ap is_some is) in omega (arith, left, same)
+one_less n there es waiting is same = let left = length_left nat_cmp n es (ap is_some is) in omega (arith, left, same)
 
 -- the one that has a lease stands at its number
 pub leased_there : (n lease : ℕ) (es : List (ℕ × Entry)) (e : Entry) → entry_leased n lease es ≡ Ok e → at nat_cmp n es ≡ Some e

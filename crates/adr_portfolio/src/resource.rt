@@ -5,15 +5,15 @@ ghost use Rattle.adr_state.specs.Stamping.{modified_at};
 ghost use Rattle.adr_state.specs.Resources.{resource_under, resource_object, resource_add, resource_put, resource_remove};
 ghost use Rattle.adr_sql.specs.Calls.{LeavesLent};
 ghost use Rattle.adr_db.specs.Calls.{Finds, IsOfStore, IsOneOf};
-ghost use Rattle.adr_db.specs.BaseCalls.{Carries, Refuses};
+ghost use Rattle.adr_db.specs.BaseCalls.{Carries, RefusesOn};
 ghost use Rattle.adr_portfolio.specs.Found.{found_under};
 
 use crate::found::there;
 use crate::names::is_another_there;
 use crate::ven::ven_at;
-use adr_db_portfolio::{
-    count_resources, put_resource, read_resource, read_resources_named, read_ven, remove_resource,
-};
+use adr_counted::{add_resource, put_resource, remove_resource};
+use adr_db::Meta;
+use adr_db_portfolio::{read_resource, read_resources_named, read_ven};
 use adr_objects::{Number, ResourceName, ResourceObject};
 use adr_state::{Limits, Resource, check_free, check_new, fresh, modified_at, number_in};
 use adr_text::{Moment, ObjectId, Refusal};
@@ -37,33 +37,34 @@ fn shown(alloc: Global, number: Number, resource: &Resource) -> Result<ResourceO
     })
 }
 
-/// Adds a resource to the ven of an id, under the number that is handed in. Refused with `NotFound` where the
-/// ven isn't there, then with `Conflict` where the name is taken, and with `LimitReached`.
+/// Adds a resource to the ven of an id, under the number that is handed in. The numbers of the node are handed in too,
+/// and are left as the caller has to put them. Refused with `NotFound` where the ven isn't there, then with `Conflict`
+/// where the name is taken, and with `LimitReached`.
 pub fn resource_add<S: Alter>(
     alloc: Global,
     tx: &mut Transaction<'_, S>,
     limits: &Limits,
+    meta: &mut Meta,
     now: Moment,
     number: Number,
     ven: &ObjectId,
     name: &ResourceName,
 ) -> Result<ResourceObject, Refusal>
     ensures lent { LeavesLent S.Store tx.old.conn tx.new.conn result }
-    ensures carries { Carries S.Store tx.old.conn.now tx.new.conn.now (resource_add limits.now now number ven.now name.now) result }
-    ensures refuses { Refuses S.Store tx.old.conn.now tx.new.conn.now (λ kept. resource_add limits.now now number ven.now name.now kept.portfolio) result }
+    ensures carries { Carries S.Store tx.old.conn.now tx.new.conn.now (λ base. resource_add limits.now now number ven.now name.now base.portfolio) meta.old meta.new result }
+    ensures refuses { RefusesOn S.Store tx.old.conn.now tx.new.conn.now (λ base. resource_add limits.now now number ven.now name.now base.portfolio) meta.old result }
     ensures refused { IfErr result (IsOneOf (NotFound ∷ Conflict ∷ LimitReached ∷ [])) }
 {
     let found = ven_at(alloc, tx, ven)?;
     let ven = there(found)?;
     let named = read_resources_named(alloc, tx, name)?;
-    let count = count_resources(tx)?;
-    check_new(!named.is_empty(), limits.resources.get() <= count)?;
+    check_new(!named.is_empty(), limits.resources.get() <= meta.resources)?;
     let resource = Resource {
         ven,
         name: copy_of(name)?,
         stamps: fresh(now),
     };
-    put_resource(tx, number, &resource)?;
+    add_resource(alloc, tx, meta, number, &resource)?;
     Ok(shown(alloc, number, &resource)?)
 }
 
@@ -116,19 +117,20 @@ fn renamed(now: Moment, name: &ResourceName, resource: &Resource) -> Result<Reso
 }
 
 /// Gives a resource of a ven its name anew: it stays with its ven, keeps when it was created, and was
-/// modified now. Refused with `NotFound` where it isn't there, or belongs to another ven, and with `Conflict`
-/// where another resource has the name.
+/// modified now. The numbers of the node are handed in, as to `resource_add`. Refused with `NotFound` where it isn't
+/// there, or belongs to another ven, and with `Conflict` where another resource has the name.
 pub fn resource_put<S: Alter>(
     alloc: Global,
     tx: &mut Transaction<'_, S>,
+    meta: &mut Meta,
     now: Moment,
     ven: &ObjectId,
     id: &ObjectId,
     name: &ResourceName,
 ) -> Result<ResourceObject, Refusal>
     ensures lent { LeavesLent S.Store tx.old.conn tx.new.conn result }
-    ensures carries { Carries S.Store tx.old.conn.now tx.new.conn.now (resource_put now ven.now id.now name.now) result }
-    ensures refuses { Refuses S.Store tx.old.conn.now tx.new.conn.now (λ kept. resource_put now ven.now id.now name.now kept.portfolio) result }
+    ensures carries { Carries S.Store tx.old.conn.now tx.new.conn.now (λ base. resource_put now ven.now id.now name.now base.portfolio) meta.old meta.new result }
+    ensures refuses { RefusesOn S.Store tx.old.conn.now tx.new.conn.now (λ base. resource_put now ven.now id.now name.now base.portfolio) meta.old result }
     ensures refused { IfErr result (IsOneOf (NotFound ∷ Conflict ∷ [])) }
 {
     let found = read_under(alloc, tx, ven, id)?;
@@ -137,26 +139,27 @@ pub fn resource_put<S: Alter>(
     let named = read_resources_named(alloc, tx, name)?;
     check_free(is_another_there(number, named.as_slice()))?;
     let resource = renamed(now, name, &row.1)?;
-    put_resource(tx, number, &resource)?;
+    put_resource(tx, meta, number, &resource, true)?;
     Ok(shown(alloc, number, &resource)?)
 }
 
-/// Removes a resource of a ven with its shares, and answers the resource that went. Refused with `NotFound`
-/// where it isn't there, or belongs to another ven.
+/// Removes a resource of a ven with its shares, and answers the resource that went. The numbers of the node are handed
+/// in, as to `resource_add`. Refused with `NotFound` where it isn't there, or belongs to another ven.
 pub fn resource_remove<S: Alter>(
     alloc: Global,
     tx: &mut Transaction<'_, S>,
+    meta: &mut Meta,
     ven: &ObjectId,
     id: &ObjectId,
 ) -> Result<ResourceObject, Refusal>
     ensures lent { LeavesLent S.Store tx.old.conn tx.new.conn result }
-    ensures carries { Carries S.Store tx.old.conn.now tx.new.conn.now (resource_remove ven.now id.now) result }
-    ensures refuses { Refuses S.Store tx.old.conn.now tx.new.conn.now (λ kept. resource_remove ven.now id.now kept.portfolio) result }
+    ensures carries { Carries S.Store tx.old.conn.now tx.new.conn.now (λ base. resource_remove ven.now id.now base.portfolio) meta.old meta.new result }
+    ensures refuses { RefusesOn S.Store tx.old.conn.now tx.new.conn.now (λ base. resource_remove ven.now id.now base.portfolio) meta.old result }
     ensures refused { IfErr result (IsOneOf (NotFound ∷ [])) }
 {
     let found = read_under(alloc, tx, ven, id)?;
     let row = there(found)?;
     let number = row.0;
-    remove_resource(tx, number)?;
+    remove_resource(alloc, tx, meta, number)?;
     Ok(shown(alloc, number, &row.1)?)
 }

@@ -4,12 +4,14 @@ ghost use Rattle.adr_text.specs.declared.refusal.Refusal.TheVariants.{NotFound, 
 ghost use Rattle.adr_state.specs.Stamping.{modified_at};
 ghost use Rattle.adr_state.specs.Vens.{ven_with_id, ven_at, ven_object, ven_add, ven_put, ven_remove};
 ghost use Rattle.adr_sql.specs.Calls.{LeavesLent};
-ghost use Rattle.adr_db.specs.BaseCalls.{Carries, Refuses};
+ghost use Rattle.adr_db.specs.BaseCalls.{Carries, RefusesOn};
 ghost use Rattle.adr_db.specs.Calls.{Finds, IsOfStore, IsOneOf};
 
 use crate::found::there;
 use crate::names::is_another_there;
-use adr_db_portfolio::{count_vens, put_ven, read_ven, read_vens_named, remove_ven};
+use adr_counted::{add_ven, put_ven, remove_ven};
+use adr_db::Meta;
+use adr_db_portfolio::{read_ven, read_vens_named};
 use adr_objects::{Number, VenObject};
 use adr_state::{Limits, Ven, check_free, check_new, fresh, modified_at, number_in};
 use adr_text::{Moment, Name, ObjectId, Refusal};
@@ -26,29 +28,29 @@ fn shown(number: Number, ven: Ven) -> VenObject
     }
 }
 
-/// Enrols a ven under the number that is handed in. Refused with `Conflict` where the name is taken, then with
-/// `LimitReached`.
+/// Enrols a ven under the number that is handed in. The numbers of the node are handed in too, and are left as the
+/// caller has to put them. Refused with `Conflict` where the name is taken, then with `LimitReached`.
 pub fn ven_add<S: Alter>(
     alloc: Global,
     tx: &mut Transaction<'_, S>,
     limits: &Limits,
+    meta: &mut Meta,
     now: Moment,
     number: Number,
     name: &Name,
 ) -> Result<VenObject, Refusal>
     ensures lent { LeavesLent S.Store tx.old.conn tx.new.conn result }
-    ensures carries { Carries S.Store tx.old.conn.now tx.new.conn.now (ven_add limits.now now number name.now) result }
-    ensures refuses { Refuses S.Store tx.old.conn.now tx.new.conn.now (λ kept. ven_add limits.now now number name.now kept.portfolio) result }
+    ensures carries { Carries S.Store tx.old.conn.now tx.new.conn.now (λ base. ven_add limits.now now number name.now base.portfolio) meta.old meta.new result }
+    ensures refuses { RefusesOn S.Store tx.old.conn.now tx.new.conn.now (λ base. ven_add limits.now now number name.now base.portfolio) meta.old result }
     ensures refused { IfErr result (IsOneOf (Conflict ∷ LimitReached ∷ [])) }
 {
     let named = read_vens_named(alloc, tx, name)?;
-    let count = count_vens(tx)?;
-    check_new(!named.is_empty(), limits.vens.get() <= count)?;
+    check_new(!named.is_empty(), limits.vens.get() <= meta.vens)?;
     let ven = Ven {
         name: name.copy(alloc)?,
         stamps: fresh(now),
     };
-    put_ven(tx, number, &ven)?;
+    add_ven(alloc, tx, meta, number, &ven)?;
     Ok(shown(number, ven))
 }
 
@@ -105,18 +107,20 @@ fn renamed(alloc: Global, now: Moment, name: &Name, ven: &Ven) -> Result<Ven, Al
     })
 }
 
-/// Gives a ven its name anew: it keeps when it was created, and was modified now. Refused with `NotFound`
-/// where it isn't there, and with `Conflict` where another ven has the name.
+/// Gives a ven its name anew: it keeps when it was created, and was modified now. The numbers of the node are handed
+/// in, as to `ven_add`. Refused with `NotFound` where it isn't there, and with `Conflict` where another ven has the
+/// name.
 pub fn ven_put<S: Alter>(
     alloc: Global,
     tx: &mut Transaction<'_, S>,
+    meta: &mut Meta,
     now: Moment,
     id: &ObjectId,
     name: &Name,
 ) -> Result<VenObject, Refusal>
     ensures lent { LeavesLent S.Store tx.old.conn tx.new.conn result }
-    ensures carries { Carries S.Store tx.old.conn.now tx.new.conn.now (ven_put now id.now name.now) result }
-    ensures refuses { Refuses S.Store tx.old.conn.now tx.new.conn.now (λ kept. ven_put now id.now name.now kept.portfolio) result }
+    ensures carries { Carries S.Store tx.old.conn.now tx.new.conn.now (λ base. ven_put now id.now name.now base.portfolio) meta.old meta.new result }
+    ensures refuses { RefusesOn S.Store tx.old.conn.now tx.new.conn.now (λ base. ven_put now id.now name.now base.portfolio) meta.old result }
     ensures refused { IfErr result (IsOneOf (NotFound ∷ Conflict ∷ [])) }
 {
     let found = ven_with_id(alloc, tx, id)?;
@@ -125,24 +129,25 @@ pub fn ven_put<S: Alter>(
     let named = read_vens_named(alloc, tx, name)?;
     check_free(is_another_there(number, named.as_slice()))?;
     let ven = renamed(alloc, now, name, &old.1)?;
-    put_ven(tx, number, &ven)?;
+    put_ven(tx, meta, number, &ven, true)?;
     Ok(shown(number, ven))
 }
 
-/// Removes a ven with its resources, their shares and its subscriptions, and answers the ven that went. Refused with
-/// `NotFound` where it isn't there.
+/// Removes a ven with its resources, their shares and its subscriptions, and answers the ven that went. The numbers of
+/// the node are handed in, as to `ven_add`. Refused with `NotFound` where it isn't there.
 pub fn ven_remove<S: Alter>(
     alloc: Global,
     tx: &mut Transaction<'_, S>,
+    meta: &mut Meta,
     id: &ObjectId,
 ) -> Result<VenObject, Refusal>
     ensures lent { LeavesLent S.Store tx.old.conn tx.new.conn result }
-    ensures carries { Carries S.Store tx.old.conn.now tx.new.conn.now (ven_remove id.now) result }
-    ensures refuses { Refuses S.Store tx.old.conn.now tx.new.conn.now (λ kept. ven_remove id.now kept.portfolio) result }
+    ensures carries { Carries S.Store tx.old.conn.now tx.new.conn.now (λ base. ven_remove id.now base.portfolio) meta.old meta.new result }
+    ensures refuses { RefusesOn S.Store tx.old.conn.now tx.new.conn.now (λ base. ven_remove id.now base.portfolio) meta.old result }
     ensures refused { IfErr result (IsOneOf (NotFound ∷ [])) }
 {
     let found = ven_with_id(alloc, tx, id)?;
     let ven = there(found)?;
-    remove_ven(tx, ven.0)?;
+    remove_ven(alloc, tx, meta, ven.0)?;
     Ok(shown(ven.0, ven.1))
 }

@@ -19,7 +19,6 @@ use Rattle.adr_view.specs.declared.report.Reported.{Reported}
 use Rattle.adr_view.specs.declared.sight.Sight.{Sight}
 use Rattle.adr_view.specs.Reports.{fits, kept_report, report_on, putting_report, sees_resource, may_report}
 use Rattle.adr_db.specs.Kept.{Kept, Keeps}
-use Rattle.adr_db.specs.BaseCalls.{IsCarriedOut}
 
 -- the shown event that was found is the one that a report is on, where the report fits it: 6 where none was found, and 11 where it does not fit
 abbrev pub fitting : Option Reported → ReportIn → Result Reported Refusal
@@ -46,7 +45,3 @@ module _ {S : Type 0} (g : Ghosts S) (old new : Held S) where
   -- after Ok, the answer is what is decided of what the tables kept, and they keep it still
   abbrev pub FindsOr : {A E : Type 0} → (Kept → Result A Refusal) → Result A E → Type 0
   FindsOr decide result = HasCleanDisk (state g new) → IfOk result (λ x. (kept : Kept) → Keeps kept (state g old) → (decide kept ≡ Ok x) × Keeps kept (state g new))
-
-  -- after Ok, what is decided of the mirror and the portfolio that the tables kept is carried out on the portfolio, and answered
-  abbrev pub Decides : {A E : Type 0} → (List (MirrorKey × Mark) → Portfolio → Result (A × PortfolioChange) Refusal) → Result A E → Type 0
-  Decides decide result = HasCleanDisk (state g new) → IfOk result (λ x. (kept : Kept) → Keeps kept (state g old) → IsCarriedOut (decide kept.mirror) kept x (state g new))

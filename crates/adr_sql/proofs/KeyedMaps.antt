@@ -1,7 +1,6 @@
 -- A table that stands for a map, and the statements on it.
-use Rattle.std.proofs.Common.{◌≡◌, ℕ, true, Ok, List, [], ◌∷◌, map, length, fold, refl, sym, ap, subst, ◌∙◌, Ordering, Less}
-use Rattle.adr_sql.proofs.Common.{insert_entry, is_at, remove_entry, lookup, length-map, Row, IsAscending, ascending_weaker, ascending_from_map, filter_all, filter_none, all_of, Table, Schema, end, State, Executes, Shown}
-use Rattle.sqlite_sql.specs.Aggregate.{count}
+use Rattle.std.proofs.Common.{◌≡◌, ℕ, true, Ok, List, [], map, length, fold, refl, sym, ap, subst, ◌∙◌, Ordering, Less}
+use Rattle.adr_sql.proofs.Common.{insert_entry, is_at, remove_entry, lookup, Row, IsAscending, ascending_weaker, ascending_from_map, filter_all, filter_none, all_of, Table, Schema, end, State, Executes, Shown}
 use Rattle.adr_sql.specs.Keys.{key_order, with_row, rows_at, rows_without}
 use Rattle.adr_sql.specs.Codecs.{IsCodec, entry_at}
 use Rattle.adr_sql.specs.Contents.{Contents, rows_of_table, with_table, Holds}
@@ -11,7 +10,6 @@ use Rattle.adr_sql.proofs.Values.{AreValues}
 use Rattle.adr_sql.proofs.References.{is_childless}
 use Rattle.adr_sql.proofs.Upserts.{IsKeyed, IsUpsertText, upsert_runs}
 use Rattle.adr_sql.proofs.Removals.{IsRemoveText, remove_at_runs}
-use Rattle.adr_sql.proofs.Counts.{IsCountText, count_runs}
 use Rattle.adr_sql.proofs.Joins.{IsSelectText}
 use Rattle.adr_sql.proofs.Selections.{whole_rows, equalities, read_runs}
 use Rattle.adr_sql.proofs.Maps.{put_entry, remove_entry_is, read_entry}
@@ -73,12 +71,6 @@ module _ {schema : Schema} {K V : Type 0} (m : KeyedMap schema K V) where
       -- all rows are read
       pub read_all_runs : IsSelectText schema m.table (whole_rows 0 m.table) end sql → (rows : List Row) → Shown sql params old new rows → Holds schema all old → rows ≡ map m.row_of es
       read_all_runs text rows h was = read_runs schema m.at 0 m.table m.keyed.place sql params text refl old new rows all h was ∙ rows_at_none params (rows_of_table all m.at) ∙ is
-
-      -- all rows are counted
-      pub count_all_runs : IsCountText schema 0 m.table sql → (rows : List Row) → Shown sql params old new rows → Holds schema all old → rows ≡ (count (length es) ∷ []) ∷ []
-      count_all_runs text rows h was =
-          count_runs schema m.at 0 m.table m.keyed.place sql params text refl old new rows all h was
-          ∙ ap (λ (rs : List Row). (count (length rs) ∷ []) ∷ []) (rows_at_none params (rows_of_table all m.at) ∙ is) ∙ ap (λ n. (count n ∷ []) ∷ []) (length-map es m.row_of)
 
     -- by the whole key
     module _ (sql : List ℕ) (old new : State) (k : K) (full : are_full 0 key_width (m.key_of k) ≡ true) where

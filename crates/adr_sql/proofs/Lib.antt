@@ -9,7 +9,6 @@ pub mod Selections
 pub mod Joins
 pub mod Removals
 pub mod Upserts
-pub mod Counts
 pub mod Creations
 pub mod Transactions
 pub mod Commits

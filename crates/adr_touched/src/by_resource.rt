@@ -10,9 +10,9 @@ ghost use Rattle.adr_touched.specs.Touched.{ReportsStood, Covers, CoversResource
 
 use crate::events::events_of_resource;
 use crate::ordered::ids_of;
-use crate::reports::reports_of_resource;
 use crate::stood::reports_at;
 use crate::touched::{Touched, with_rollups};
+use adr_db_portfolio::read_reports_on;
 use adr_kept_view::OldObject;
 use adr_objects::{Kind, Number};
 use adr_text::{Refusal, Rows};
@@ -44,7 +44,7 @@ fn reports_on<S: Alter>(
     ensures finds { Finds S.Store tx.old.conn.now tx.new.conn.now (λ kept olds. ReportsStood (reports_by (λ m. m == resource) kept.portfolio) kept olds) result }
     ensures refused { IfErr result IsOfStore }
 {
-    let numbers = reports_of_resource(alloc, tx, resource)?;
+    let numbers = read_reports_on(alloc, tx, resource)?;
     reports_at(alloc, tx, numbers)
 }
 

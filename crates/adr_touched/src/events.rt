@@ -7,7 +7,7 @@ ghost use Rattle.adr_db.specs.Calls.{Finds, IsOfStore};
 ghost use Rattle.adr_touched.specs.Answers.{HasEvents, live_events};
 
 use crate::programs::programs_of_resource;
-use crate::resources::resources_of_ven;
+use adr_db_portfolio::read_resources_of;
 use adr_db_shown::read_live_events;
 use adr_objects::Number;
 use adr_state::MirrorKey;
@@ -90,6 +90,6 @@ pub fn events_of_ven<S: Alter>(
     ensures finds { Finds S.Store tx.old.conn.now tx.new.conn.now (λ kept keys. HasEvents keys (live_events (one_shares kept.portfolio ven) kept)) result }
     ensures refused { IfErr result IsOfStore }
 {
-    let resources = resources_of_ven(alloc, tx, ven)?;
+    let resources = read_resources_of(alloc, tx, ven)?;
     events_of_resources(alloc, tx, resources)
 }

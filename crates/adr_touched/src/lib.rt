@@ -13,7 +13,6 @@ mod object_keys;
 mod ordered;
 mod programs;
 mod reports;
-mod resources;
 mod stood;
 mod touched;
 
@@ -24,6 +23,5 @@ pub use by_share::touched_by_share;
 pub use by_ven::{touched_as_ven_goes, touched_by_ven};
 pub use events::{events_of_program, events_of_resource, events_of_ven};
 pub use programs::programs_of_resource;
-pub use reports::{event_of_report, reports_of_resource, reports_of_ven};
-pub use resources::resources_of_ven;
+pub use reports::{event_of_report, reports_of_ven};
 pub use touched::Touched;

@@ -1,42 +1,23 @@
-//! The reports that go with a resource or a ven, and the event of a report, from the table `report`.
-ghost use Rattle.std.specs.Prelude.{◌≡◌, ◌==◌, map, option_to_list, IfErr};
+//! The reports that go with a ven, and the event of a report.
+ghost use Rattle.std.specs.Prelude.{◌≡◌, ◌==◌, option_to_list, IfErr};
 ghost use Rattle.std.specs.List.{list_any};
 ghost use Rattle.adr_sql.specs.Calls.{LeavesLent};
 ghost use Rattle.adr_state.specs.Portfolios.{is_of_ven};
 ghost use Rattle.adr_refresh.specs.Touched.{reports_by, event_reported};
-ghost use Rattle.adr_db.specs.Rows.{number_row};
-ghost use Rattle.adr_db.specs.Refusals.{RefusesToShow, CannotReadAll};
-ghost use Rattle.adr_db.specs.Admitted.{IsNumber, ReadsNumber};
 ghost use Rattle.adr_db.specs.Calls.{Finds, IsOfStore};
 ghost use Rattle.adr_touched.specs.Answers.{HasEach};
 
-use crate::resources::resources_of_ven;
 use adr_db::ReportColumns;
 use adr_db::cells::number;
-use adr_db::reading::{all_of, first_of};
+use adr_db::reading::first_of;
+use adr_db_portfolio::{read_reports_on, read_resources_of};
 use adr_objects::Number;
 use adr_text::{ObjectId, Refusal, Rows};
 use sqlite::{Alter, Transaction};
 use std::alloc::Global;
 
-const READ_OF: &str = "SELECT id FROM report WHERE resource = ?1 ORDER BY id";
-
 const READ_ONE: &str =
     "SELECT id, event, resource, program, client, name, resource_name, revision FROM report WHERE id = ?1 ORDER BY id";
-
-/// The numbers of the reports on a resource, in their order. No report on another resource is read.
-pub fn reports_of_resource<S: Alter>(
-    alloc: Global,
-    tx: &mut Transaction<'_, S>,
-    resource: Number,
-) -> Result<Rows<Number>, Refusal>
-    ensures lent { LeavesLent S.Store tx.old.conn tx.new.conn result }
-    ensures finds { Finds S.Store tx.old.conn.now tx.new.conn.now (λ kept numbers. numbers ≡ reports_by (λ m. m == resource) kept.portfolio) result }
-    ensures refused { IfErr result IsOfStore }
-    ensures fails { RefusesToShow S.Store tx.old.conn.now tx.new.conn.now READ_OF.now (number_row resource) (CannotReadAll IsNumber ReadsNumber) result }
-{
-    all_of(alloc, tx, READ_OF, &[number(resource.get())?])
-}
 
 // The numbers of the reports on each of these resources.
 fn reports_of_resources<S: Alter>(
@@ -50,7 +31,7 @@ fn reports_of_resources<S: Alter>(
 {
     let mut all = Vec::new(alloc);
     'resources: for resource in resources.into_vec() {
-        let mut numbers = reports_of_resource(alloc, tx, resource)?.into_vec();
+        let mut numbers = read_reports_on(alloc, tx, resource)?.into_vec();
         all.append(&mut numbers)?;
     }
     Ok(Rows::from_vec(all))
@@ -66,7 +47,7 @@ pub fn reports_of_ven<S: Alter>(
     ensures finds { Finds S.Store tx.old.conn.now tx.new.conn.now (λ kept numbers. HasEach numbers (reports_by (is_of_ven ven kept.portfolio.resources) kept.portfolio)) result }
     ensures refused { IfErr result IsOfStore }
 {
-    let resources = resources_of_ven(alloc, tx, ven)?;
+    let resources = read_resources_of(alloc, tx, ven)?;
     reports_of_resources(alloc, tx, resources)
 }
 

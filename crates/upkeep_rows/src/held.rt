@@ -1,4 +1,5 @@
 //! What the tables hold, and what whole views show of it.
+use adr_db::Meta;
 use adr_db_portfolio::read_portfolio;
 use adr_db_state::read_stamps;
 use adr_events::view;
@@ -54,5 +55,15 @@ impl Held {
             Some(found) => Some(found.ven),
             None => None,
         }
+    }
+
+    /// Whether the numbers of the node say how much of each kind there is.
+    pub fn is_counted(&self, meta: &Meta) -> bool {
+        let p = &self.portfolio;
+        meta.vens == p.vens.len() as u64
+            && meta.resources == p.resources.len() as u64
+            && meta.shares == p.shares.len() as u64
+            && meta.reports == p.reports.len() as u64
+            && meta.subs == p.subs.len() as u64
     }
 }

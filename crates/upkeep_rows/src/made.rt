@@ -53,9 +53,10 @@ fn add_ven<S: Alter>(
     alloc: Global,
     tx: &mut Transaction<'_, S>,
     scene: &Scene<'_>,
+    meta: &mut Meta,
     name: &Name,
 ) -> Result<(), Refusal> {
-    ven_add(alloc, tx, scene.limits, scene.now, scene.number, name)?;
+    ven_add(alloc, tx, scene.limits, meta, scene.now, scene.number, name)?;
     Ok(())
 }
 
@@ -63,21 +64,23 @@ fn put_ven<S: Alter>(
     alloc: Global,
     tx: &mut Transaction<'_, S>,
     scene: &Scene<'_>,
+    meta: &mut Meta,
     ven: Number,
     name: &Name,
 ) -> Result<(), Refusal> {
     let ven = id_of(alloc, 'v', ven)?;
-    ven_put(alloc, tx, scene.now, &ven, name)?;
+    ven_put(alloc, tx, meta, scene.now, &ven, name)?;
     Ok(())
 }
 
 fn remove_ven<S: Alter>(
     alloc: Global,
     tx: &mut Transaction<'_, S>,
+    meta: &mut Meta,
     ven: Number,
 ) -> Result<(), Refusal> {
     let ven = id_of(alloc, 'v', ven)?;
-    ven_remove(alloc, tx, &ven)?;
+    ven_remove(alloc, tx, meta, &ven)?;
     Ok(())
 }
 
@@ -85,11 +88,21 @@ fn add_resource<S: Alter>(
     alloc: Global,
     tx: &mut Transaction<'_, S>,
     scene: &Scene<'_>,
+    meta: &mut Meta,
     ven: Number,
     name: &ResourceName,
 ) -> Result<(), Refusal> {
     let ven = id_of(alloc, 'v', ven)?;
-    resource_add(alloc, tx, scene.limits, scene.now, scene.number, &ven, name)?;
+    resource_add(
+        alloc,
+        tx,
+        scene.limits,
+        meta,
+        scene.now,
+        scene.number,
+        &ven,
+        name,
+    )?;
     Ok(())
 }
 
@@ -97,25 +110,27 @@ fn put_resource<S: Alter>(
     alloc: Global,
     tx: &mut Transaction<'_, S>,
     scene: &Scene<'_>,
+    meta: &mut Meta,
     ven: Number,
     resource: Number,
     name: &ResourceName,
 ) -> Result<(), Refusal> {
     let ven = id_of(alloc, 'v', ven)?;
     let resource = id_of(alloc, 'r', resource)?;
-    resource_put(alloc, tx, scene.now, &ven, &resource, name)?;
+    resource_put(alloc, tx, meta, scene.now, &ven, &resource, name)?;
     Ok(())
 }
 
 fn remove_resource<S: Alter>(
     alloc: Global,
     tx: &mut Transaction<'_, S>,
+    meta: &mut Meta,
     ven: Number,
     resource: Number,
 ) -> Result<(), Refusal> {
     let ven = id_of(alloc, 'v', ven)?;
     let resource = id_of(alloc, 'r', resource)?;
-    resource_remove(alloc, tx, &ven, &resource)?;
+    resource_remove(alloc, tx, meta, &ven, &resource)?;
     Ok(())
 }
 
@@ -123,12 +138,13 @@ fn set_share<S: Alter>(
     alloc: Global,
     tx: &mut Transaction<'_, S>,
     scene: &Scene<'_>,
+    meta: &mut Meta,
     program: &ObjectId,
     resource: Number,
     share: u32,
 ) -> Result<(), Refusal> {
     let resource = id_of(alloc, 'r', resource)?;
-    share_set(alloc, tx, scene.limits, program, &resource, share)?;
+    share_set(alloc, tx, scene.limits, meta, program, &resource, share)?;
     Ok(())
 }
 
@@ -136,9 +152,18 @@ fn post_report<S: Alter>(
     alloc: Global,
     tx: &mut Transaction<'_, S>,
     scene: &Scene<'_>,
+    meta: &mut Meta,
     report: &ReportIn,
 ) -> Result<(), Refusal> {
-    post(alloc, tx, scene.limits, Sight::All, scene.number, report)?;
+    post(
+        alloc,
+        tx,
+        scene.limits,
+        meta,
+        Sight::All,
+        scene.number,
+        report,
+    )?;
     Ok(())
 }
 
@@ -146,21 +171,23 @@ fn put_report<S: Alter>(
     alloc: Global,
     tx: &mut Transaction<'_, S>,
     scene: &Scene<'_>,
+    meta: &mut Meta,
     number: Number,
     report: &ReportIn,
 ) -> Result<(), Refusal> {
     let id = id_of(alloc, 'p', number)?;
-    put(alloc, tx, Sight::All, scene.number, &id, report)?;
+    put(alloc, tx, meta, Sight::All, scene.number, &id, report)?;
     Ok(())
 }
 
 fn delete_report<S: Alter>(
     alloc: Global,
     tx: &mut Transaction<'_, S>,
+    meta: &mut Meta,
     number: Number,
 ) -> Result<(), Refusal> {
     let id = id_of(alloc, 'p', number)?;
-    delete(alloc, tx, Sight::All, &id)?;
+    delete(alloc, tx, meta, Sight::All, &id)?;
     Ok(())
 }
 
@@ -169,24 +196,25 @@ fn make_in_portfolio<S: Alter>(
     alloc: Global,
     tx: &mut Transaction<'_, S>,
     scene: &Scene<'_>,
+    meta: &mut Meta,
     edit: &Edit,
 ) -> Result<(), Refusal> {
     match edit {
         Edit::Page(_) | Edit::Gone(_, _) => Ok(()),
-        Edit::AddVen(name) => add_ven(alloc, tx, scene, name),
-        Edit::PutVen(ven, name) => put_ven(alloc, tx, scene, *ven, name),
-        Edit::RemoveVen(ven) => remove_ven(alloc, tx, *ven),
-        Edit::AddResource(ven, name) => add_resource(alloc, tx, scene, *ven, name),
+        Edit::AddVen(name) => add_ven(alloc, tx, scene, meta, name),
+        Edit::PutVen(ven, name) => put_ven(alloc, tx, scene, meta, *ven, name),
+        Edit::RemoveVen(ven) => remove_ven(alloc, tx, meta, *ven),
+        Edit::AddResource(ven, name) => add_resource(alloc, tx, scene, meta, *ven, name),
         Edit::PutResource(ven, resource, name) => {
-            put_resource(alloc, tx, scene, *ven, *resource, name)
+            put_resource(alloc, tx, scene, meta, *ven, *resource, name)
         }
-        Edit::RemoveResource(ven, resource) => remove_resource(alloc, tx, *ven, *resource),
+        Edit::RemoveResource(ven, resource) => remove_resource(alloc, tx, meta, *ven, *resource),
         Edit::SetShare(program, resource, share) => {
-            set_share(alloc, tx, scene, program, *resource, *share)
+            set_share(alloc, tx, scene, meta, program, *resource, *share)
         }
-        Edit::PostReport(report) => post_report(alloc, tx, scene, report),
-        Edit::PutReport(number, report) => put_report(alloc, tx, scene, *number, report),
-        Edit::DeleteReport(number) => delete_report(alloc, tx, *number),
+        Edit::PostReport(report) => post_report(alloc, tx, scene, meta, report),
+        Edit::PutReport(number, report) => put_report(alloc, tx, scene, meta, *number, report),
+        Edit::DeleteReport(number) => delete_report(alloc, tx, meta, *number),
     }
 }
 
@@ -202,7 +230,7 @@ pub fn make<S: Alter>(
         Edit::Page(page) => evidence(alloc, tx, scene, meta, page),
         Edit::Gone(kind, id) => gone(alloc, tx, scene, meta, *kind, id),
         _ => {
-            make_in_portfolio(alloc, tx, scene, edit)?;
+            make_in_portfolio(alloc, tx, scene, meta, edit)?;
             Ok(Rows::new(alloc))
         }
     }

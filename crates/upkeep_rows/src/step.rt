@@ -123,6 +123,10 @@ fn look<S: Alter>(
     if let Some(what) = differs_told(alloc, step, wanted)? {
         return Ok(Ended::Differs(what, None));
     }
+    let meta = read_meta(tx)?;
+    if !step.after.is_counted(&meta) {
+        return Ok(Ended::Differs("counts", None));
+    }
     look_at_kept(alloc, tx, step.after, events)
 }
 

@@ -1,11 +1,11 @@
 //! What an edit touches, asked before it.
 use crate::edit::Edit;
+use adr_db_portfolio::read_reports_on;
 use adr_objects::{Kind, Number, ReportIn};
 use adr_state::{MirrorKey, id_parts};
 use adr_text::{ObjectId, Refusal};
 use adr_touched::{
-    event_of_report, events_of_program, events_of_resource, events_of_ven, reports_of_resource,
-    reports_of_ven,
+    event_of_report, events_of_program, events_of_resource, events_of_ven, reports_of_ven,
 };
 use sqlite::{Alter, Transaction};
 use std::alloc::{AllocError, Global};
@@ -101,7 +101,7 @@ fn add_reports_of_resource<S: Alter>(
     touched: &mut Touched,
     resource: Number,
 ) -> Result<(), Refusal> {
-    let reports = reports_of_resource(alloc, tx, resource)?;
+    let reports = read_reports_on(alloc, tx, resource)?;
     Ok(touched.add_reports(reports.as_slice())?)
 }
 

@@ -162,11 +162,12 @@ set vens=1
 < 201 {"createdDateTime":"2024-07-01T10:00:00Z","id":"v4","modificationDateTime":"2024-07-01T10:00:00Z","objectType":"VEN","venName":"delta"}
 "#;
 
-/// The numbers of a node that has drawn two.
+/// The numbers of a node that has drawn two, for the two vens that it has.
 fn two_drawn() -> Option<Meta> {
     let serial = Serial::at(2)?;
     Some(Meta {
         serial,
+        vens: 2,
         ..Meta::first()
     })
 }

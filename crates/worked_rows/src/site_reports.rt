@@ -2,7 +2,7 @@
 //! rows 11 and 12, and the one of row 19 that names another resource. After each that is taken the roll-up is compared
 //! byte for byte, and of one that is refused the refusal.
 use crate::participants::{resource, share, ven};
-use adr_db::create;
+use adr_db::{Meta, create, put_meta, read_meta};
 use adr_db_mirror::put_mark;
 use adr_objects::{Kind, Number, Rollup, RollupObject};
 use adr_reports::{delete, post, put, rollup};
@@ -112,15 +112,19 @@ fn rolled_up<S: Alter>(alloc: Global, tx: &mut Transaction<'_, S>) -> Result<Str
     written(alloc, event, found)
 }
 
-// Whether the roll-up is this after a call that went well, or the refusal has this title.
+// Whether the roll-up is this after a call that went well and left these numbers, or the refusal has this title.
 fn is_told<S: Alter>(
     alloc: Global,
     tx: &mut Transaction<'_, S>,
+    meta: &Meta,
     outcome: Result<(Number, Report), Refusal>,
     told: &str,
 ) -> Result<bool, Refusal> {
     match outcome {
-        Ok(_) => Ok(rolled_up(alloc, tx)?.as_str() == told),
+        Ok(_) => {
+            put_meta(tx, meta)?;
+            Ok(rolled_up(alloc, tx)?.as_str() == told)
+        }
         Err(refusal) => Ok(refusal.title() == told),
     }
 }
@@ -134,8 +138,17 @@ fn posts<S: Alter>(
     told: &str,
 ) -> Result<bool, Refusal> {
     let report = read_report(alloc, text.as_bytes())?;
-    let outcome = post(alloc, tx, limits, Sight::All, Number::new(number), &report);
-    is_told(alloc, tx, outcome, told)
+    let mut meta = read_meta(tx)?;
+    let outcome = post(
+        alloc,
+        tx,
+        limits,
+        &mut meta,
+        Sight::All,
+        Number::new(number),
+        &report,
+    );
+    is_told(alloc, tx, &meta, outcome, told)
 }
 
 fn puts<S: Alter>(
@@ -148,8 +161,17 @@ fn puts<S: Alter>(
 ) -> Result<bool, Refusal> {
     let report = read_report(alloc, text.as_bytes())?;
     let id = ObjectId::new(alloc, id)?;
-    let outcome = put(alloc, tx, Sight::All, Number::new(revision), &id, &report);
-    is_told(alloc, tx, outcome, told)
+    let mut meta = read_meta(tx)?;
+    let outcome = put(
+        alloc,
+        tx,
+        &mut meta,
+        Sight::All,
+        Number::new(revision),
+        &id,
+        &report,
+    );
+    is_told(alloc, tx, &meta, outcome, told)
 }
 
 fn deletes<S: Alter>(
@@ -159,8 +181,9 @@ fn deletes<S: Alter>(
     told: &str,
 ) -> Result<bool, Refusal> {
     let id = ObjectId::new(alloc, id)?;
-    let outcome = delete(alloc, tx, Sight::All, &id);
-    is_told(alloc, tx, outcome, told)
+    let mut meta = read_meta(tx)?;
+    let outcome = delete(alloc, tx, &mut meta, Sight::All, &id);
+    is_told(alloc, tx, &meta, outcome, told)
 }
 
 // The reports of row 11: one is replaced, and those of the others come.

@@ -1,39 +1,42 @@
-use Rattle.std.proofs.Common.{inl, inr, ℕ}
+use Rattle.std.proofs.Common.{inl, inr, ℕ, List, subst, arith}
 use Rattle.std.proofs.lemmas.Result.{IfErr-weaker}
-use Rattle.sqlite.specs.Values.{bound_value}
-use Rattle.sqlite_value.specs.Value.{owned}
-use Rattle.adr_delivery.specs.declared.entry.Entry.{Entry}
-use Rattle.adr_db.proofs.Common.{Runs}
-use Rattle.adr_db_outbox.specs.declared.outbox.TheConstants.{PUT}
-use Rattle.adr_db.specs.Rows.{entry_row}
-use Rattle.adr_db.specs.Refusals.{RefusesToRun}
-use Rattle.adr_db.proofs.KeptMaps.{put_leaves}
-use Rattle.adr_db.proofs.Maps.{outbox_map}
-use Rattle.adr_db.proofs.Results.{handed_on}
-use Rattle.adr_db_outbox.proofs.OutboxStatements.{texts, with_cells}
+use Rattle.adr_db.proofs.Common.{state, HasCleanDisk, Holds}
+use Rattle.adr_db.specs.Tables.{schema}
+use Rattle.adr_db.specs.Kept.{heads_of, contents_with_heads, with_waiting}
+use Rattle.adr_db.proofs.Results.{handed_on, on_then}
+use Rattle.adr_db.proofs.Rises.{waiting_rises}
+use Rattle.adr_db_outbox.proofs.RightHeads.{put_right}
 use Rattle.adr_db_outbox.proofs.outbox.put_entry.Goals as goal
 
 pub returns-clause-leaves : goal.returns-clause-leaves
-returns-clause-leaves g c =
-    let old = c.args.tx.now.conn.now in
-    let new = c.run.new.tx.conn.now in
+returns-clause-leaves g c clean =
+    let old = state g.S.Store c.args.tx.now.conn.now in
+    let new = state g.S.Store c.set_both_heads.new.tx.conn.now in
+    let second : HasCleanDisk (state g.S.Store c.put_row.new.tx.conn.now) = omega (arith, c.set_both_heads.ensures.lent.stays.crash.clean) in
+    let first : HasCleanDisk (state g.S.Store c.read_destination.new.tx.conn.now) = omega (arith, second, c.put_row.ensures.lent.stays.crash.clean) in
+    let id = c.args.id in
     let entry = c.args.entry.now in
-    let e : ℕ × Entry = (c.args.id, entry) in
-    put_leaves outbox_map g.S.Store old new _ (entry_row e) c.args.id entry _ (texts.puts e) (texts.fit e) (λ kept are. are)
-    (with_cells (λ row. Runs g.S.Store old new PUT.now row c.run.result) e (bound_value (owned c.event_cell.result)) (bound_value (owned c.token_cell.result)) c.event_cell.ensures c.token_cell.ensures
-    (rw (c.in_ok-number.ensures.value, c.get.ensures, c.in_ok-number-2.ensures.value, c.get-2.ensures, c.destination.ensures, c.to_sql.ensures, c.operation_number.ensures, c.to_sql-2.ensures, c.address_of.ensures, c.to_sql-3.ensures, c.as_str.ensures, c.to_sql-4.ensures, c.get-3.ensures.value, c.in_ok-number-3.ensures.value, c.to_sql-5.ensures, c.is_some.ensures, c.in_ok-number-4.ensures.value, c.lease_end.ensures, c.in_ok-number-5.ensures.value, c.nanos.ensures.value) at c.run.ensures.runs))
+    on_then c.set_both_heads.result (λ set kept was.
+    let found = c.in_ok-left.ensures.finds first kept was in
+    let put = c.in_ok-put_row.ensures.changes second kept (heads_of kept.entries) found.1.rows in
+    record {
+      rows = subst (λ (heads : List (ℕ × ℕ)). Holds schema (contents_with_heads heads (with_waiting id entry kept)) new) (put_right id kept entry (waiting_rises kept old was) c.in_ok-left.left found.0)
+          (set (with_waiting id entry kept) (heads_of kept.entries) put);
+      marks = was.marks;
+      subs = was.subs;
+    }) (rw c.destination.ensures at c.set_both_heads.ensures.changes clean)
 
--- the number of leases is the ninth value
-pub returns-in_err-number-3-clause-fails : goal.returns-in_err-number-3-clause-fails
-returns-in_err-number-3-clause-fails g c clean inside =
-    let refused = c.in_err-number-3.ensures.refused in
-    handed_on _ c.from_residual-in_err-number-3.result c.in_err-number-3.field-0.0 c.from_residual-in_err-number-3.ensures.1 (inl (refused.0, inr (inr (inr (inr (inr (inr (inr (inr (inl refused.1))))))))))
+pub returns-in_err-left-clause-fails : goal.returns-in_err-left-clause-fails
+returns-in_err-left-clause-fails g c clean inside = handed_on _ c.from_residual.result _ c.from_residual.ensures.1 (inl (c.in_err-left.ensures.fails clean))
+
+pub returns-in_err-put_row-clause-fails : goal.returns-in_err-put_row-clause-fails
+returns-in_err-put_row-clause-fails g c clean inside =
+    let mid = c.read_destination.new.tx.conn.now in
+    let early : HasCleanDisk (state g.S.Store mid) = omega (arith, clean, c.put_row.ensures.lent.stays.crash.clean) in
+    handed_on _ c.from_residual-in_err-put_row.result _ c.from_residual-in_err-put_row.ensures.1 (inr (inl (mid, c.in_err-put_row.ensures.fails clean (c.in_ok-left.ensures.lent.stays.inside early inside))))
 
 pub returns-clause-fails : goal.returns-clause-fails
 returns-clause-fails g c clean inside =
-    let old = c.args.tx.now.conn.now in
-    let new = c.run.new.tx.conn.now in
-    let e : ℕ × Entry = (c.args.id, c.args.entry.now) in
-    IfErr-weaker c.run.result _ _ (λ refusal why. inr why)
-    (with_cells (λ row. RefusesToRun g.S.Store old new PUT.now row c.run.result) e (bound_value (owned c.event_cell.result)) (bound_value (owned c.token_cell.result)) c.event_cell.ensures c.token_cell.ensures
-    (rw (c.in_ok-number.ensures.value, c.get.ensures, c.in_ok-number-2.ensures.value, c.get-2.ensures, c.destination.ensures, c.to_sql.ensures, c.operation_number.ensures, c.to_sql-2.ensures, c.address_of.ensures, c.to_sql-3.ensures, c.as_str.ensures, c.to_sql-4.ensures, c.get-3.ensures.value, c.in_ok-number-3.ensures.value, c.to_sql-5.ensures, c.is_some.ensures, c.in_ok-number-4.ensures.value, c.lease_end.ensures, c.in_ok-number-5.ensures.value, c.nanos.ensures.value) at c.run.ensures.fails) clean inside)
+    let second : HasCleanDisk (state g.S.Store c.put_row.new.tx.conn.now) = omega (arith, c.set_both_heads.ensures.lent.stays.crash.clean) in
+    let first : HasCleanDisk (state g.S.Store c.read_destination.new.tx.conn.now) = omega (arith, second, c.put_row.ensures.lent.stays.crash.clean) in
+    IfErr-weaker c.set_both_heads.result _ _ (λ e why. inr (inr why)) (c.set_both_heads.ensures.fails clean (c.in_ok-put_row.ensures.lent.stays.inside second (c.in_ok-left.ensures.lent.stays.inside first inside)))

@@ -4,7 +4,7 @@ use Rattle.adr_db.specs.Admitted.{ReadsKey}
 use Rattle.adr_db.proofs.Common.{is_text}
 use Rattle.adr_db.proofs.Maps.{mirror_map}
 use Rattle.adr_db_shown.specs.Entries.{is_event_of}
-use Rattle.adr_db_shown.proofs.Ranges.{picked_finds}
+use Rattle.adr_db.proofs.Ranges.{picked_finds}
 use Rattle.adr_db_shown.proofs.RangeStatements.{reads_events, events_pass, keys_read}
 use Rattle.adr_db_shown.proofs.programs.read_live_events.Goals as goal
 

@@ -3,7 +3,7 @@ use Rattle.adr_db.proofs.Common.{is_eq, id_cmp, text_key}
 use Rattle.adr_db.specs.Rows.{event_key_row, shown_columns, number}
 use Rattle.adr_db.proofs.Maps.{shown_map}
 use Rattle.adr_db_shown.specs.Entries.{ReadsShownEntry}
-use Rattle.adr_db_shown.proofs.Ranges.{range_finds}
+use Rattle.adr_db.proofs.Ranges.{range_finds}
 use Rattle.adr_db_shown.proofs.ShownStatements.{reads_of, shown_read}
 use Rattle.adr_db_shown.proofs.shown.read_shown_of.Goals as goal
 

@@ -4,7 +4,7 @@ use Rattle.adr_view.specs.Laws.{is_key_of}
 use Rattle.adr_db.specs.Rows.{number}
 use Rattle.adr_db.specs.Admitted.{ReadsStamped}
 use Rattle.adr_db.proofs.Maps.{stamp_map}
-use Rattle.adr_db_shown.proofs.Ranges.{range_finds}
+use Rattle.adr_db.proofs.Ranges.{range_finds}
 use Rattle.adr_db_shown.proofs.RangeStatements.{reads_stamps, stamps_begin, stamps_read}
 use Rattle.adr_db_shown.proofs.stamps.read_event_stamps.Goals as goal
 

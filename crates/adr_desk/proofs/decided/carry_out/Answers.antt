@@ -9,7 +9,7 @@ use Rattle.adr_desk.proofs.ListedLemmas.{along_either, along_store, either_refus
 use Rattle.adr_desk.proofs.decided.carry_out.Goals as goal
 
 pub returns-in-VenAdd-clause-carries : goal.returns-in-VenAdd-clause-carries
-returns-in-VenAdd-clause-carries g c = rw c.in-VenAdd.is (c.ven_add.ensures.carries c.args.meta.now)
+returns-in-VenAdd-clause-carries g c = rw c.in-VenAdd.is c.ven_add.ensures.carries
 
 pub returns-in-VenAdd-clause-answered : goal.returns-in-VenAdd-clause-answered
 returns-in-VenAdd-clause-answered g c = c.ven_add.ensures.answered c.args.command.now
@@ -18,7 +18,7 @@ pub returns-in-VenAdd-clause-listed : goal.returns-in-VenAdd-clause-listed
 returns-in-VenAdd-clause-listed g c = own_refused c.args.command.now c.ven_add.result (rw c.in-VenAdd.is c.ven_add.ensures.refused)
 
 pub returns-in-VenPut-clause-carries : goal.returns-in-VenPut-clause-carries
-returns-in-VenPut-clause-carries g c = rw c.in-VenPut.is (c.ven_put.ensures.carries c.args.meta.now)
+returns-in-VenPut-clause-carries g c = rw c.in-VenPut.is c.ven_put.ensures.carries
 
 pub returns-in-VenPut-clause-answered : goal.returns-in-VenPut-clause-answered
 returns-in-VenPut-clause-answered g c = c.ven_put.ensures.answered c.args.command.now
@@ -27,7 +27,7 @@ pub returns-in-VenPut-clause-listed : goal.returns-in-VenPut-clause-listed
 returns-in-VenPut-clause-listed g c = own_refused c.args.command.now c.ven_put.result (rw c.in-VenPut.is c.ven_put.ensures.refused)
 
 pub returns-in-VenRemove-clause-carries : goal.returns-in-VenRemove-clause-carries
-returns-in-VenRemove-clause-carries g c = rw c.in-VenRemove.is (c.ven_remove.ensures.carries c.args.meta.now)
+returns-in-VenRemove-clause-carries g c = rw c.in-VenRemove.is c.ven_remove.ensures.carries
 
 pub returns-in-VenRemove-clause-answered : goal.returns-in-VenRemove-clause-answered
 returns-in-VenRemove-clause-answered g c = c.ven_remove.ensures.answered c.args.command.now
@@ -36,7 +36,7 @@ pub returns-in-VenRemove-clause-listed : goal.returns-in-VenRemove-clause-listed
 returns-in-VenRemove-clause-listed g c = own_refused c.args.command.now c.ven_remove.result (rw c.in-VenRemove.is c.ven_remove.ensures.refused)
 
 pub returns-in-ResourceAdd-clause-carries : goal.returns-in-ResourceAdd-clause-carries
-returns-in-ResourceAdd-clause-carries g c = rw c.in-ResourceAdd.is (c.resource_add.ensures.carries c.args.meta.now)
+returns-in-ResourceAdd-clause-carries g c = rw c.in-ResourceAdd.is c.resource_add.ensures.carries
 
 pub returns-in-ResourceAdd-clause-answered : goal.returns-in-ResourceAdd-clause-answered
 returns-in-ResourceAdd-clause-answered g c = c.resource_add.ensures.answered c.args.command.now
@@ -45,7 +45,7 @@ pub returns-in-ResourceAdd-clause-listed : goal.returns-in-ResourceAdd-clause-li
 returns-in-ResourceAdd-clause-listed g c = own_refused c.args.command.now c.resource_add.result (rw c.in-ResourceAdd.is c.resource_add.ensures.refused)
 
 pub returns-in-ResourcePut-clause-carries : goal.returns-in-ResourcePut-clause-carries
-returns-in-ResourcePut-clause-carries g c = rw c.in-ResourcePut.is (c.resource_put.ensures.carries c.args.meta.now)
+returns-in-ResourcePut-clause-carries g c = rw c.in-ResourcePut.is c.resource_put.ensures.carries
 
 pub returns-in-ResourcePut-clause-answered : goal.returns-in-ResourcePut-clause-answered
 returns-in-ResourcePut-clause-answered g c = c.resource_put.ensures.answered c.args.command.now
@@ -54,7 +54,7 @@ pub returns-in-ResourcePut-clause-listed : goal.returns-in-ResourcePut-clause-li
 returns-in-ResourcePut-clause-listed g c = own_refused c.args.command.now c.resource_put.result (rw c.in-ResourcePut.is c.resource_put.ensures.refused)
 
 pub returns-in-ResourceRemove-clause-carries : goal.returns-in-ResourceRemove-clause-carries
-returns-in-ResourceRemove-clause-carries g c = rw c.in-ResourceRemove.is (c.resource_remove.ensures.carries c.args.meta.now)
+returns-in-ResourceRemove-clause-carries g c = rw c.in-ResourceRemove.is c.resource_remove.ensures.carries
 
 pub returns-in-ResourceRemove-clause-answered : goal.returns-in-ResourceRemove-clause-answered
 returns-in-ResourceRemove-clause-answered g c = c.resource_remove.ensures.answered c.args.command.now
@@ -63,7 +63,7 @@ pub returns-in-ResourceRemove-clause-listed : goal.returns-in-ResourceRemove-cla
 returns-in-ResourceRemove-clause-listed g c = own_refused c.args.command.now c.resource_remove.result (rw c.in-ResourceRemove.is c.resource_remove.ensures.refused)
 
 pub returns-in-ShareSet-clause-carries : goal.returns-in-ShareSet-clause-carries
-returns-in-ShareSet-clause-carries g c = rw c.in-ShareSet.is (c.share_set.ensures.carries c.args.meta.now)
+returns-in-ShareSet-clause-carries g c = rw c.in-ShareSet.is c.share_set.ensures.carries
 
 pub returns-in-ShareSet-clause-answered : goal.returns-in-ShareSet-clause-answered
 returns-in-ShareSet-clause-answered g c = c.share_set.ensures.answered c.args.command.now
@@ -112,7 +112,7 @@ returns-in-ScanEnd-clause-listed g c =
     (along_either (listed c.args.command.now) (λ keys. outcome.Told (answer.Probes keys)) c.none-in-ScanEnd.result NoScan (rw c.in-ScanEnd.is (0, omega arith, refl)) c.scan_end.result c.scan_end.ensures.refused)
 
 pub returns-in-ReportPost-clause-carries : goal.returns-in-ReportPost-clause-carries
-returns-in-ReportPost-clause-carries g c = rw c.in-ReportPost.is (c.report_post.ensures.carries c.args.meta.now)
+returns-in-ReportPost-clause-carries g c = rw c.in-ReportPost.is c.report_post.ensures.carries
 
 pub returns-in-ReportPost-clause-answered : goal.returns-in-ReportPost-clause-answered
 returns-in-ReportPost-clause-answered g c = rw c.in-ReportPost.is c.report_post.ensures.answered
@@ -121,7 +121,7 @@ pub returns-in-ReportPost-clause-listed : goal.returns-in-ReportPost-clause-list
 returns-in-ReportPost-clause-listed g c = rw c.in-ReportPost.is c.report_post.ensures.listed
 
 pub returns-in-ReportPut-clause-carries : goal.returns-in-ReportPut-clause-carries
-returns-in-ReportPut-clause-carries g c = rw c.in-ReportPut.is (c.report_put.ensures.carries c.args.meta.now)
+returns-in-ReportPut-clause-carries g c = rw c.in-ReportPut.is c.report_put.ensures.carries
 
 pub returns-in-ReportPut-clause-answered : goal.returns-in-ReportPut-clause-answered
 returns-in-ReportPut-clause-answered g c = rw c.in-ReportPut.is c.report_put.ensures.answered
@@ -130,7 +130,7 @@ pub returns-in-ReportPut-clause-listed : goal.returns-in-ReportPut-clause-listed
 returns-in-ReportPut-clause-listed g c = rw c.in-ReportPut.is c.report_put.ensures.listed
 
 pub returns-in-ReportDelete-clause-carries : goal.returns-in-ReportDelete-clause-carries
-returns-in-ReportDelete-clause-carries g c = rw c.in-ReportDelete.is (c.report_delete.ensures.carries c.args.meta.now)
+returns-in-ReportDelete-clause-carries g c = rw c.in-ReportDelete.is c.report_delete.ensures.carries
 
 pub returns-in-ReportDelete-clause-answered : goal.returns-in-ReportDelete-clause-answered
 returns-in-ReportDelete-clause-answered g c = rw c.in-ReportDelete.is c.report_delete.ensures.answered
@@ -139,7 +139,7 @@ pub returns-in-ReportDelete-clause-listed : goal.returns-in-ReportDelete-clause-
 returns-in-ReportDelete-clause-listed g c = rw c.in-ReportDelete.is c.report_delete.ensures.listed
 
 pub returns-in-SubPost-clause-carries : goal.returns-in-SubPost-clause-carries
-returns-in-SubPost-clause-carries g c = rw c.in-SubPost.is (c.sub_post.ensures.carries c.args.meta.now)
+returns-in-SubPost-clause-carries g c = rw c.in-SubPost.is c.sub_post.ensures.carries
 
 pub returns-in-SubPost-clause-answered : goal.returns-in-SubPost-clause-answered
 returns-in-SubPost-clause-answered g c = rw c.in-SubPost.is c.sub_post.ensures.answered
@@ -148,7 +148,7 @@ pub returns-in-SubPost-clause-listed : goal.returns-in-SubPost-clause-listed
 returns-in-SubPost-clause-listed g c = rw c.in-SubPost.is c.sub_post.ensures.listed
 
 pub returns-in-SubPut-clause-carries : goal.returns-in-SubPut-clause-carries
-returns-in-SubPut-clause-carries g c = rw c.in-SubPut.is (c.sub_put.ensures.carries c.args.meta.now)
+returns-in-SubPut-clause-carries g c = rw c.in-SubPut.is c.sub_put.ensures.carries
 
 pub returns-in-SubPut-clause-answered : goal.returns-in-SubPut-clause-answered
 returns-in-SubPut-clause-answered g c = rw c.in-SubPut.is c.sub_put.ensures.answered
@@ -157,7 +157,7 @@ pub returns-in-SubPut-clause-listed : goal.returns-in-SubPut-clause-listed
 returns-in-SubPut-clause-listed g c = rw c.in-SubPut.is c.sub_put.ensures.listed
 
 pub returns-in-SubDelete-clause-carries : goal.returns-in-SubDelete-clause-carries
-returns-in-SubDelete-clause-carries g c = rw c.in-SubDelete.is (c.sub_delete.ensures.carries c.args.meta.now)
+returns-in-SubDelete-clause-carries g c = rw c.in-SubDelete.is c.sub_delete.ensures.carries
 
 pub returns-in-SubDelete-clause-answered : goal.returns-in-SubDelete-clause-answered
 returns-in-SubDelete-clause-answered g c = rw c.in-SubDelete.is c.sub_delete.ensures.answered

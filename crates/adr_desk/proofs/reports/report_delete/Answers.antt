@@ -1,13 +1,10 @@
-use Rattle.std.proofs.Common.{◌≡◌, ℕ, List, Option, Some, None, [], ◌∷◌, Result, Ok, Err, refl, sym, ap, subst, arith}
+use Rattle.std.proofs.Common.{◌≡◌, ℕ, None, [], ◌∷◌, Ok, Err, refl, subst, arith}
 use Rattle.adr_db.proofs.Common.{Forbidden}
 use Rattle.adr_db.proofs.Results.{handed_on}
-use Rattle.adr_kept_view.specs.declared.object.ObjectKey.TheVariants as object
 use Rattle.adr_state.specs.declared.portfolio.Report.{Report}
 use Rattle.adr_state.specs.BaseChanges.{ChangePortfolio}
 use Rattle.adr_state.specs.Portfolios.{PortfolioChange}
-use Rattle.adr_text.specs.declared.refusal.Refusal.{Refusal}
-use Rattle.adr_touched.specs.declared.touched.Touched.{Touched}
-use Rattle.adr_touched.specs.Touched.{Covers, StoodAt}
+use Rattle.adr_touched.specs.Touched.{Covers}
 use Rattle.adr_view.specs.Reports.{report_delete}
 use Rattle.adr_machine.specs.declared.command.Command.TheVariants as command
 use Rattle.adr_machine.specs.Edits.{report_gone, delete_decided}
@@ -20,9 +17,9 @@ use Rattle.adr_desk.proofs.reports.report_delete.Goals as goal
 
 -- who sees nothing is refused
 pub returns-in_err-sight-clause-carries : goal.returns-in_err-sight-clause-carries
-returns-in_err-sight-clause-carries g c meta =
+returns-in_err-sight-clause-carries g c =
     let mid = c.sight_in.new.tx.conn.now in
-    unseen_carries g.S.Store c.args.tx.now.conn.now c.stood_at.new.tx.conn.now mid mid report_gone (λ sight mirror p. report_delete sight c.args.id.now p) c.args.role.now _ c.in_ok-stood.ensures.finds (λ clean. omega (arith, clean, c.sight_in.ensures.lent.stays.crash.clean)) meta c.in_err-sight.field-0.0 c.from_residual-in_err-sight.result c.from_residual-in_err-sight.ensures.1 (λ clean. clean) c.in_err-sight.ensures.refuses
+    unseen_carries g.S.Store c.args.tx.now.conn.now c.stood_at.new.tx.conn.now mid mid report_gone (λ sight mirror p. report_delete sight c.args.id.now p) c.args.role.now _ c.in_ok-stood.ensures.finds (λ clean. omega (arith, clean, c.sight_in.ensures.lent.stays.crash.clean)) c.args.meta.now c.args.meta.now c.in_err-sight.field-0.0 c.from_residual-in_err-sight.result c.from_residual-in_err-sight.ensures.1 (λ clean. clean) c.in_err-sight.ensures.refuses
 
 pub returns-in_err-sight-clause-listed : goal.returns-in_err-sight-clause-listed
 returns-in_err-sight-clause-listed g c =
@@ -32,10 +29,10 @@ returns-in_err-sight-clause-listed g c =
 
 -- nor what is refused for itself
 pub returns-in_err-number-clause-carries : goal.returns-in_err-number-clause-carries
-returns-in_err-number-clause-carries g c meta =
+returns-in_err-number-clause-carries g c =
     let e = c.in_err-number.field-0.0 in
-    passed_carries g.S.Store c.args.tx.now.conn.now c.delete.new.tx.conn.now (λ base. delete_decided c.args.role.now c.args.id.now base) meta meta e c.from_residual-in_err-number.result c.from_residual-in_err-number.ensures.1
-    (sight_carries g.S.Store c.args.tx.now.conn.now c.stood_at.new.tx.conn.now c.sight_in.new.tx.conn.now c.delete.new.tx.conn.now report_gone (λ sight mirror p. report_delete sight c.args.id.now p) c.args.role.now _ c.in_ok-stood.ensures.finds (λ clean. omega (arith, clean, c.sight_in.ensures.lent.stays.crash.clean)) c.in_ok-sight.sight meta (Err e)
+    passed_carries g.S.Store c.args.tx.now.conn.now c.delete.new.tx.conn.now (λ base. delete_decided c.args.role.now c.args.id.now base) c.args.meta.now c.delete.new.meta e c.from_residual-in_err-number.result c.from_residual-in_err-number.ensures.1
+    (sight_carries g.S.Store c.args.tx.now.conn.now c.stood_at.new.tx.conn.now c.sight_in.new.tx.conn.now c.delete.new.tx.conn.now report_gone (λ sight mirror p. report_delete sight c.args.id.now p) c.args.role.now _ c.in_ok-stood.ensures.finds (λ clean. omega (arith, clean, c.sight_in.ensures.lent.stays.crash.clean)) c.in_ok-sight.sight c.args.meta.now c.delete.new.meta (Err e)
     (λ clean. omega (arith, clean, c.delete.ensures.lent.stays.crash.clean)) c.in_ok-sight.ensures.finds c.in_err-number.ensures.carries c.in_err-number.ensures.refuses (record { programs = []; events = []; reports = []; rollups = [] }) (λ base right x change is. absurd (cc is)))
 
 pub returns-in_err-number-clause-listed : goal.returns-in_err-number-clause-listed
@@ -45,10 +42,10 @@ returns-in_err-number-clause-listed g c =
     handed_on (Listed (listed (command.ReportDelete c.args.role.now c.args.id.now))) c.from_residual-in_err-number.result e c.from_residual-in_err-number.ensures.1 own
 
 pub returns-clause-carries : goal.returns-clause-carries
-returns-clause-carries g c meta =
+returns-clause-carries g c =
     let it : ℕ × Report = (c.in_ok-number.number, c.in_ok-number.report) in
     let touched = c.in_ok-touched.touched in
-    sight_carries g.S.Store c.args.tx.now.conn.now c.stood_at.new.tx.conn.now c.sight_in.new.tx.conn.now c.delete.new.tx.conn.now report_gone (λ sight mirror p. report_delete sight c.args.id.now p) c.args.role.now _ c.in_ok-stood.ensures.finds (λ clean. omega (arith, clean, c.sight_in.ensures.lent.stays.crash.clean)) c.in_ok-sight.sight meta (Ok it)
+    sight_carries g.S.Store c.args.tx.now.conn.now c.stood_at.new.tx.conn.now c.sight_in.new.tx.conn.now c.delete.new.tx.conn.now report_gone (λ sight mirror p. report_delete sight c.args.id.now p) c.args.role.now _ c.in_ok-stood.ensures.finds (λ clean. omega (arith, clean, c.sight_in.ensures.lent.stays.crash.clean)) c.in_ok-sight.sight c.args.meta.now c.delete.new.meta (Ok it)
     (λ clean. omega (arith, clean, c.delete.ensures.lent.stays.crash.clean)) c.in_ok-sight.ensures.finds c.in_ok-number.ensures.carries c.in_ok-number.ensures.refuses touched (λ base right x change said is.
     let same : it ≡ x = cc said in
     let so = delete_drops c.in_ok-sight.sight c.args.id.now base.portfolio x change is in

@@ -1,4 +1,4 @@
-use Rattle.std.proofs.Common.{◌≡◌, Result, arith, sym, ap, ◌∙◌}
+use Rattle.std.proofs.Common.{Result, arith, sym, ◌∙◌}
 use Rattle.adr_text.specs.declared.refusal.Refusal.{Refusal}
 use Rattle.adr_state.specs.declared.base.Base.{Base}
 use Rattle.adr_db.proofs.Common.{state, HasCleanDisk}

@@ -38,22 +38,37 @@ same_counts a b h =
     }
 
 -- numbers that compare as equal are the same
-same_numbers : (a b : Meta) → true ≡ ((a.serial == b.serial) && (beq a.scan b.scan && (are_same a.counts b.counts && ((a.pending == b.pending) && (a.keys == b.keys))))) → a ≡ b
+same_numbers : (a b : Meta) → true ≡ ((a.serial == b.serial) && (beq a.scan b.scan && (are_same a.counts b.counts && ((a.pending == b.pending) && ((a.keys == b.keys) && ((a.vens == b.vens) && ((a.resources == b.resources) && ((a.shares == b.shares) && ((a.reports == b.reports) && (a.subs == b.subs)))))))))) → a ≡ b
 same_numbers a b h =
-    let last : Bool = a.keys == b.keys in
-    let third : Bool = (a.pending == b.pending) && last in
-    let second : Bool = are_same a.counts b.counts && third in
-    let first : Bool = beq a.scan b.scan && second in
-    let serial = both (a.serial == b.serial) first h in
-    let scan = both (beq a.scan b.scan) second serial.1 in
-    let counts = both (are_same a.counts b.counts) third scan.1 in
-    let pending = both (a.pending == b.pending) last counts.1 in
+    let from_subs : Bool = a.subs == b.subs in
+    let from_reports : Bool = (a.reports == b.reports) && from_subs in
+    let from_shares : Bool = (a.shares == b.shares) && from_reports in
+    let from_resources : Bool = (a.resources == b.resources) && from_shares in
+    let from_vens : Bool = (a.vens == b.vens) && from_resources in
+    let from_keys : Bool = (a.keys == b.keys) && from_vens in
+    let from_pending : Bool = (a.pending == b.pending) && from_keys in
+    let from_counts : Bool = are_same a.counts b.counts && from_pending in
+    let from_scan : Bool = beq a.scan b.scan && from_counts in
+    let serial = both (a.serial == b.serial) from_scan h in
+    let scan = both (beq a.scan b.scan) from_counts serial.1 in
+    let counts = both (are_same a.counts b.counts) from_pending scan.1 in
+    let pending = both (a.pending == b.pending) from_keys counts.1 in
+    let keys = both (a.keys == b.keys) from_vens pending.1 in
+    let vens = both (a.vens == b.vens) from_resources keys.1 in
+    let resources = both (a.resources == b.resources) from_shares vens.1 in
+    let shares = both (a.shares == b.shares) from_reports resources.1 in
+    let reports = both (a.reports == b.reports) from_subs shares.1 in
     λ i. record {
       serial = eqb-true a.serial b.serial serial.0 i;
       scan = same_bool a.scan b.scan scan.0 i;
       counts = same_counts a.counts b.counts (sym counts.0) i;
       pending = eqb-true a.pending b.pending pending.0 i;
-      keys = eqb-true a.keys b.keys (sym pending.1) i;
+      keys = eqb-true a.keys b.keys keys.0 i;
+      vens = eqb-true a.vens b.vens vens.0 i;
+      resources = eqb-true a.resources b.resources resources.0 i;
+      shares = eqb-true a.shares b.shares shares.0 i;
+      reports = eqb-true a.reports b.reports reports.0 i;
+      subs = eqb-true a.subs b.subs (sym reports.1) i;
     }
 
 pub returns-then-eq-clause-leaves : goal.returns-then-eq-clause-leaves

@@ -14,9 +14,9 @@ use Rattle.adr_desk.proofs.subs.made.Goals as goal
 
 -- who sees nothing is refused
 pub returns-in_err-sight-clause-carries : goal.returns-in_err-sight-clause-carries
-returns-in_err-sight-clause-carries g c meta =
+returns-in_err-sight-clause-carries g c =
     let mid = c.sight_in.new.tx.conn.now in
-    unseen_carries g.S.Store c.args.tx.now.conn.now c.args.tx.now.conn.now mid mid sub_outcome (λ sight mirror p. sub_post c.args.limits.now c.args.now c.args.number (owner_in sight) c.args.body p) c.args.role.now _ (asks_nothing g.S.Store c.args.tx.now.conn.now) (λ clean. omega (arith, clean, c.sight_in.ensures.lent.stays.crash.clean)) meta c.in_err-sight.field-0.0 c.from_residual.result c.from_residual.ensures.1 (λ clean. clean) c.in_err-sight.ensures.refuses
+    unseen_carries g.S.Store c.args.tx.now.conn.now c.args.tx.now.conn.now mid mid sub_outcome (λ sight mirror p. sub_post c.args.limits.now c.args.now c.args.number (owner_in sight) c.args.body p) c.args.role.now _ (asks_nothing g.S.Store c.args.tx.now.conn.now) (λ clean. omega (arith, clean, c.sight_in.ensures.lent.stays.crash.clean)) c.args.meta.now c.args.meta.now c.in_err-sight.field-0.0 c.from_residual.result c.from_residual.ensures.1 (λ clean. clean) c.in_err-sight.ensures.refuses
 
 pub returns-in_err-sight-clause-listed : goal.returns-in_err-sight-clause-listed
 returns-in_err-sight-clause-listed g c =
@@ -25,9 +25,9 @@ returns-in_err-sight-clause-listed g c =
     handed_on (Listed these) c.from_residual.result e c.from_residual.ensures.1 (one_of_listed these (Forbidden ∷ []) ((1, omega arith, refl), tt) e c.in_err-sight.ensures.refused)
 
 pub returns-clause-carries : goal.returns-clause-carries
-returns-clause-carries g c meta =
+returns-clause-carries g c =
     rw (c.along.ensures, c.of_sub.ensures)
-    (sight_carries g.S.Store c.args.tx.now.conn.now c.args.tx.now.conn.now c.sight_in.new.tx.conn.now c.post.new.tx.conn.now sub_outcome (λ sight mirror p. sub_post c.args.limits.now c.args.now c.args.number (owner_in sight) c.args.body p) c.args.role.now _ (asks_nothing g.S.Store c.args.tx.now.conn.now) (λ clean. omega (arith, clean, c.sight_in.ensures.lent.stays.crash.clean)) c.in_ok-sight.sight meta c.post.result
+    (sight_carries g.S.Store c.args.tx.now.conn.now c.args.tx.now.conn.now c.sight_in.new.tx.conn.now c.post.new.tx.conn.now sub_outcome (λ sight mirror p. sub_post c.args.limits.now c.args.now c.args.number (owner_in sight) c.args.body p) c.args.role.now _ (asks_nothing g.S.Store c.args.tx.now.conn.now) (λ clean. omega (arith, clean, c.sight_in.ensures.lent.stays.crash.clean)) c.in_ok-sight.sight c.args.meta.now c.post.new.meta c.post.result
     (λ clean. omega (arith, clean, c.post.ensures.lent.stays.crash.clean)) c.in_ok-sight.ensures.finds (rw (sym c.owner_in.ensures) c.post.ensures.carries) (rw (sym c.owner_in.ensures) c.post.ensures.refuses) c.none.result
     (λ base right x change said is. sub_post_covers c.none.result c.none.ensures.covers base change c.args.limits.now c.args.now c.args.number (owner_in c.in_ok-sight.sight) c.args.body base.portfolio x is))
 

@@ -5,7 +5,7 @@ use Rattle.adr_view.proofs.ListLemmas.{filter_alike}
 use Rattle.adr_db.proofs.Common.{state}
 use Rattle.adr_db.specs.Kept.{Keeps}
 use Rattle.adr_machine.specs.Edits.{unsubscribes}
-use Rattle.adr_desk.proofs.ToldLemmas.{plus_none}
+use Rattle.adr_commit.proofs.Ended.{plus_none}
 use Rattle.adr_desk.proofs.told.drop_gone.Goals as goal
 
 pub returns-clause-drops : goal.returns-clause-drops

@@ -6,6 +6,7 @@ use Rattle.adr_refresh.specs.Touched.{report_by, reports_by}
 use Rattle.adr_touched.specs.Answers.{HasEach}
 use Rattle.adr_touched.proofs.Gathered.{each_yielded, none_made, more_made}
 use Rattle.adr_touched.proofs.Tested.{by_resource}
+use Rattle.adr_touched.proofs.Statements.{reported_are}
 use Rattle.adr_touched.proofs.reports.reports_of_resources.Goals as goal
 
 pub resources-init : goal.resources-init
@@ -17,13 +18,13 @@ resources-init g c = record {
 pub resources-preserved : goal.resources-preserved
 resources-preserved g c = record {
   lent =
-      let one = c.in_ok-reports_of_resource.ensures.lent in
+      let one = c.in_ok-read_reports_on.ensures.lent in
       lent_then g.S.Store _ _ _ _ (Ok tt) c.resources.invariant.lent (record { same = one.same; stays = record { crash = one.stays.crash; commit = one.stays.commit; inside = one.stays.inside } });
   found = λ clean kept was.
-      let early : HasCleanDisk (state g.S.Store c.resources.tx.conn.now) = omega (arith, c.reports_of_resource.ensures.lent.stays.crash.clean) in
+      let early : HasCleanDisk (state g.S.Store c.resources.tx.conn.now) = omega (arith, c.read_reports_on.ensures.lent.stays.crash.clean) in
       let so_far = c.resources.invariant.found early kept was in
-      let one = c.in_ok-reports_of_resource.ensures.finds clean kept so_far.1 in
-      let more = more_made report_by by_resource kept.portfolio.reports (λ n. n) (λ n m. m == n) c.resources.yielded c.in-Some.resource c.resources.all.items c.in_ok-reports_of_resource.field-0 so_far.0 (λ m there. rw one.0 there) in
+      let one = c.in_ok-read_reports_on.ensures.finds clean kept so_far.1 in
+      let more = more_made report_by by_resource kept.portfolio.reports (λ n. n) (λ n m. m == n) c.resources.yielded c.in-Some.resource c.resources.all.items c.in_ok-read_reports_on.field-0 so_far.0 (λ m there. rw (one.0 ∙ reported_are (λ m. m == c.in-Some.resource) kept.portfolio.reports) there) in
       (rw (c.in_ok-append.ensures.items, c.into_vec-numbers.ensures) more, one.1);
 }
 

@@ -13,7 +13,7 @@ use Rattle.adr_touched.proofs.reports.reports_of_ven.Goals as goal
 pub returns-clause-finds : goal.returns-clause-finds
 returns-clause-finds g c clean =
     let ven = c.args.ven in
-    let early : HasCleanDisk (state g.S.Store c.resources_of_ven.new.tx.conn.now) = omega (arith, c.reports_of_resources.ensures.lent.stays.crash.clean) in
+    let early : HasCleanDisk (state g.S.Store c.read_resources_of.new.tx.conn.now) = omega (arith, c.reports_of_resources.ensures.lent.stays.crash.clean) in
     ok_then c.reports_of_resources.result (λ numbers finds kept was.
     let resources = c.in_ok-resources.ensures.finds early kept was in
     let found = finds kept resources.1 in

@@ -1,0 +1,5 @@
+pub mod Puts
+pub mod Sums
+pub mod Going
+pub mod Known
+pub mod Decided

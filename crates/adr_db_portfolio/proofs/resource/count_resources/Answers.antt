@@ -1,7 +1,0 @@
-use Rattle.adr_db.proofs.KeptMaps.{count_finds}
-use Rattle.adr_db.proofs.Maps.{resource_map}
-use Rattle.adr_db_portfolio.proofs.ResourceStatements.{counts}
-use Rattle.adr_db_portfolio.proofs.resource.count_resources.Goals as goal
-
-pub returns-clause-finds : goal.returns-clause-finds
-returns-clause-finds g c = count_finds resource_map g.S.Store c.args.tx.now.conn.now c.count_of.new.tx.conn.now _ _ counts c.count_of.ensures.shows

@@ -1,0 +1,23 @@
+use Rattle.std.proofs.Common.{ap, sym, subst, arith}
+use Rattle.std.proofs.lemmas.Result.{IfErr-weaker}
+use Rattle.adr_db.proofs.Common.{state, HasCleanDisk, number_in, IsRefusalOf}
+use Rattle.adr_db.specs.Bases.{kept_beside}
+use Rattle.adr_db.proofs.Results.{ok_then}
+use Rattle.adr_counted.proofs.Decided.{carried_as}
+use Rattle.adr_counted.proofs.Known.{found_there}
+use Rattle.adr_subs.specs.Found.{removed}
+use Rattle.adr_subs.proofs.posting.delete.Goals as goal
+
+pub returns-clause-carries : goal.returns-clause-carries
+returns-clause-carries g c clean =
+    let early : HasCleanDisk (state g.S.Store c.sub_with_id.new.tx.conn.now) = omega (arith, c.remove_found.ensures.lent.stays.crash.clean) in
+    ok_then c.remove_found.result (λ x carries beside base was same.
+    let found = c.in_ok-found.ensures.finds early (kept_beside beside base) was in
+    carried_as (carries beside base found.1 same (found_there base.portfolio.subs (number_in 115 c.args.id.now) c.in_ok-found.found found.0)) (ap (λ found. removed c.args.sight found) (sym found.0))) (c.remove_found.ensures.carries clean)
+
+pub returns-clause-refuses : goal.returns-clause-refuses
+returns-clause-refuses g c clean =
+    let early : HasCleanDisk (state g.S.Store c.sub_with_id.new.tx.conn.now) = omega (arith, clean, c.remove_found.ensures.lent.stays.crash.clean) in
+    IfErr-weaker c.remove_found.result _ _ (λ e refuses beside base was same.
+    let found = c.in_ok-found.ensures.finds early (kept_beside beside base) was in
+    subst (λ found. IsRefusalOf e (removed c.args.sight found)) found.0 (refuses beside base found.1 same)) (c.remove_found.ensures.refuses clean)
