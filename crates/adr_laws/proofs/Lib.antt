@@ -20,3 +20,4 @@ pub mod WaitLemmas
 pub mod OutboxLemmas
 pub mod ApartLemmas
 pub mod TallyLemmas
+pub mod EnrolmentLemmas

@@ -154,14 +154,14 @@ module _ (first : Base) where
   run_whole settings = run_keeps (step_at settings) (λ s. Whole s.base) (step_whole settings)
 
 -- the state after a run from an empty start
-abbrev after : Settings → List (ℕ × Command) → State
+abbrev pub after : Settings → List (ℕ × Command) → State
 after settings cs = state_of (step_at settings) empty cs
 
 -- nothing is there at first
 pub none_whole : Whole empty.base empty.base
 none_whole = ((none_own, (λ r none. absurd (omega (arith, none.1)), λ s none. absurd (omega (arith, none.1)), λ s none. absurd (omega (arith, none.1))), no_reports), no_subs)
 
-whole_after : (settings : Settings) (cs : List (ℕ × Command)) → Whole empty.base (after settings cs).base
+pub whole_after : (settings : Settings) (cs : List (ℕ × Command)) → Whole empty.base (after settings cs).base
 whole_after settings cs = run_whole empty.base settings empty cs none_whole
 
 -- no two rows of those of one kind have one name

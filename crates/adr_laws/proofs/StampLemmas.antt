@@ -39,7 +39,7 @@ unfolding view
 nothing_stamped = refl
 
 -- the serial is not shown
-same_view : (base : Base) (serial : ℕ) → view (record base { serial = serial }) ≡ view base
+pub same_view : (base : Base) (serial : ℕ) → view (record base { serial = serial }) ≡ view base
 unfolding view
 same_view base serial = refl
 

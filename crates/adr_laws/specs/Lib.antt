@@ -6,3 +6,4 @@ pub mod Reported
 pub mod Laws
 pub mod Refusals
 pub mod Entries
+pub mod Enrolment

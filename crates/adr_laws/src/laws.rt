@@ -1,6 +1,7 @@
 //! Laws over whole runs.
 ghost use Rattle.adr_laws.specs.Laws.{MirrorIsGreatest, PortfolioIsWhole, RowsStandInOrder, ParticipantsLackNone, ShownPartsSumUp, ShownPartsSumUpAfterRuns, OnlyLiveEventsAreShown, ObjectsLackNone, ShownIsTold, ReportsAreAnswered, ReportsAreAnsweredAfterRuns, NumbersAreOwn, RevisionsAreOwn, NumbersAreDrawnOnce, StampsAreOfTheView, StampsAreInTime, RunsAreOfTheStepsThatStand};
 ghost use Rattle.adr_laws.specs.Entries.{EntriesAreCounted, EntriesHaveNumbers, EntriesAreNumberedOnce, LeasedAreFirst, EntriesLeaveInOrder, OthersLeaveWithTheirSubscription};
+ghost use Rattle.adr_laws.specs.Enrolment.{EnrolmentShowsNothing};
 ghost use Rattle.adr_laws.specs.Reported.{ReportsAreWrittenAsSent, ReportsAreLastWritten, RemovedReportsAreGone, ReportsNeverReturn, LatestIsLastReported, RollupsAreOfTheLast};
 
 use adr_state::Limits;
@@ -120,6 +121,12 @@ pub fn entries_leave_in_order()
     ensures leased { LeasedAreFirst }
     ensures order { EntriesLeaveInOrder }
     ensures others { OthersLeaveWithTheirSubscription }
+{}
+
+/// After any run from an empty start, a new ven and a new resource change nothing of what is shown: nothing is told of
+/// them, and they are never refused for want of room in the outbox, though `OutboxFull` stands in their lists.
+pub fn enrolment_shows_nothing()
+    ensures { EnrolmentShowsNothing }
 {}
 
 /// Of whatever a run over a desk answers, the answers that stand are the machine's over the commands that
