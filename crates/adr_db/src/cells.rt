@@ -75,7 +75,7 @@ fn kind_of(number: u32) -> Result<Kind, Refusal>
 }
 
 /// A value that no call on the tables wrote is the store's refusal, and want of memory is itself.
-pub(crate) fn as_stored<T>(read: Result<T, Refusal>) -> Result<T, Refusal>
+pub fn as_stored<T>(read: Result<T, Refusal>) -> Result<T, Refusal>
     ensures same { result ≡ as_stored read }
     ensures refused { IfErr result IsOfStore }
 {

@@ -8,7 +8,7 @@ use Rattle.adr_db.specs.Rows.{shown_key_row, shown_columns, shown_row}
 use Rattle.adr_db.specs.ReadBack.{number_of, text_of}
 use Rattle.adr_db.proofs.Tables.{shown}
 use Rattle.adr_db.proofs.KeptMaps.{read_back}
-use Rattle.adr_db_shown.specs.declared.shown.TheConstants.{PUT, REMOVE, READ_OF}
+use Rattle.adr_db_shown.specs.declared.shown.TheConstants.{PUT, REMOVE, READ_ONE, READ_OF}
 use Rattle.adr_db_shown.specs.Entries.{ReadsShownEntry}
 
 pub puts : (e : ShownKey × ShownColumns) → IsUpsertText schema 12 shown PUT.now (shown_row e) (shown_row e)
@@ -22,10 +22,17 @@ pub removes : IsRemoveText schema 12 shown end (equalities 0 2) REMOVE.now
 unfolding understood everything
 removes = record { command = refl; alone = (refl, refl); flat = refl; joins = refl }
 
+abbrev columns : List (List ℕ)
+columns = codes "event" ∷ codes "resource" ∷ codes "program" ∷ codes "ven" ∷ codes "ven_name" ∷ codes "resource_name" ∷ codes "body" ∷ []
+
+pub reads_one : IsSelectText schema shown (whole_rows 2 shown) end READ_ONE.now
+unfolding understood everything
+reads_one = record { names = columns; command = refl; alone = (refl, refl); unlisted = refl; from = refl; order = refl; ungrouped = refl; undistinct = refl; joins = refl; sorts = refl; shows = refl }
+
 pub reads_of : IsSelectText schema shown (whole_rows 1 shown) end READ_OF.now
 unfolding understood everything
 reads_of = record {
-  names = codes "event" ∷ codes "resource" ∷ codes "program" ∷ codes "ven" ∷ codes "ven_name" ∷ codes "resource_name" ∷ codes "body" ∷ [];
+  names = columns;
   command = refl;
   alone = (refl, refl);
   unlisted = refl;
@@ -43,7 +50,7 @@ reads_of = record {
 key_kept : (j k : ShownKey) → shown_key_row j ≡ shown_key_row k → j ≡ k
 key_kept j k h = λ i. record { event = text_of (column (h i) 0); resource = number_of (column (h i) 1) }
 
-columns_kept : (a b : ShownColumns) → shown_columns a ≡ shown_columns b → a ≡ b
+pub columns_kept : (a b : ShownColumns) → shown_columns a ≡ shown_columns b → a ≡ b
 columns_kept a b h = λ i. record { program = text_of (column (h i) 0); ven = number_of (column (h i) 1); ven_name = text_of (column (h i) 2); resource_name = text_of (column (h i) 3); body = text_of (column (h i) 4) }
 
 pub shown_read : (es read : List (ShownKey × ShownColumns)) → AllZip ReadsShownEntry (map shown_row es) read → read ≡ es

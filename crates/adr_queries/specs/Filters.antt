@@ -3,7 +3,6 @@ use Rattle.std.specs.Prelude.{ℕ, Bool, true, false, ◌&&◌, List, filter, Op
 use Rattle.std.specs.List.{list_any}
 use Rattle.std.specs.Option.{option_map_or}
 use Rattle.std.specs.Str.{bytes_eq}
-use Rattle.adr_objects.specs.declared.shown.ShownEvent.{ShownEvent}
 use Rattle.adr_queries.specs.declared.answer.Object.{Object}
 use Rattle.adr_queries.specs.declared.answer.Object.TheVariants as object
 use Rattle.adr_queries.specs.declared.filter.EventFilter.{EventFilter}
@@ -20,16 +19,22 @@ abbrev pub is_among_all : Option (List (List ℕ)) → List ℕ → Bool
 is_among_all None text = true
 is_among_all (Some texts) text = is_among texts text
 
--- whether an event is of the ven, or of the resource, of one of the names; no event has a target of another type
-abbrev pub has_target : TargetFilter → ShownEvent → Bool
-has_target Any event = true
-has_target (VenName names) event = is_among names event.ven_name
-has_target (ResourceName names) event = is_among names event.resource_name
-has_target Other event = false
+-- whether an event of a ven and of a resource of these names is of one of the names that are wanted; no event has a target of
+-- another type
+abbrev pub has_target : TargetFilter → List ℕ → List ℕ → Bool
+has_target Any ven_name resource_name = true
+has_target (VenName names) ven_name resource_name = is_among names ven_name
+has_target (ResourceName names) ven_name resource_name = is_among names resource_name
+has_target Other ven_name resource_name = false
 
--- whether an object is an event of the programs and of the target that are wanted, where any are asked for
+-- whether an event of this program, and of a ven and of a resource of these names, is of the programs and of the target that
+-- are wanted, where any are asked for
+abbrev pub wants : EventFilter → List ℕ → List ℕ → List ℕ → Bool
+wants f program ven_name resource_name = is_among_all f.programs program && has_target f.target ven_name resource_name
+
+-- whether an object is an event that is wanted
 abbrev pub is_wanted : EventFilter → Object → Bool
-is_wanted f (object.Event e) = is_among_all f.programs e.shown.program && has_target f.target e.shown
+is_wanted f (object.Event e) = wants f e.shown.program e.shown.ven_name e.shown.resource_name
 is_wanted f _ = false
 
 -- the events among objects that are wanted, in their order

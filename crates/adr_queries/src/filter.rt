@@ -1,9 +1,8 @@
 //! Which events, which reports and which subscriptions are wanted.
 ghost use Rattle.std.specs.Prelude.{◌≡◌, IfOk};
-ghost use Rattle.adr_queries.specs.Filters.{is_among, is_among_all, has_target, is_wanted, wanted_of, is_wanted_report, wanted_reports, is_about, is_wanted_sub, wanted_subs};
+ghost use Rattle.adr_queries.specs.Filters.{is_among, is_among_all, has_target, wants, is_wanted, wanted_of, is_wanted_report, wanted_reports, is_about, is_wanted_sub, wanted_subs};
 
 use crate::answer::Object;
-use adr_objects::ShownEvent;
 use adr_text::{Name, ObjectId, Rows};
 use std::alloc::{AllocError, Global};
 
@@ -87,15 +86,27 @@ fn is_of(programs: &Option<Rows<ObjectId>>, program: &ObjectId) -> bool
     }
 }
 
-fn has_target(target: &TargetFilter, event: &ShownEvent) -> bool
-    ensures { result ≡ has_target target.now event.now }
+fn has_target(target: &TargetFilter, ven_name: &Name, resource_name: &Name) -> bool
+    ensures { result ≡ has_target target.now ven_name.now resource_name.now }
 {
     match target {
         TargetFilter::Any => true,
-        TargetFilter::VenName(names) => is_named(names, &event.ven_name),
-        TargetFilter::ResourceName(names) => is_named(names, &event.resource_name),
+        TargetFilter::VenName(names) => is_named(names, ven_name),
+        TargetFilter::ResourceName(names) => is_named(names, resource_name),
         TargetFilter::Other => false,
     }
+}
+
+/// Whether an event of this program, and of a ven and of a resource of these names, is wanted.
+pub fn wants(
+    filter: &EventFilter,
+    program: &ObjectId,
+    ven_name: &Name,
+    resource_name: &Name,
+) -> bool
+    ensures { result ≡ wants filter.now program.now ven_name.now resource_name.now }
+{
+    is_of(&filter.programs, program) && has_target(&filter.target, ven_name, resource_name)
 }
 
 /// Whether the object is an event that is wanted.
@@ -105,7 +116,13 @@ fn is_wanted(filter: &EventFilter, object: &Object) -> bool
     let Object::Event(event) = object else {
         return false;
     };
-    is_of(&filter.programs, &event.shown.program) && has_target(&filter.target, &event.shown)
+    let shown = &event.shown;
+    wants(
+        filter,
+        &shown.program,
+        &shown.ven_name,
+        &shown.resource_name,
+    )
 }
 
 /// The events among the objects that are wanted, in their order.

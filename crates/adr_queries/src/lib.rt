@@ -19,7 +19,9 @@ mod subscribed;
 mod ven;
 
 pub use answer::{Answer, Object};
-pub use filter::{EventFilter, ReportFilter, TargetFilter, wanted_of, wanted_reports, wanted_subs};
+pub use filter::{
+    EventFilter, ReportFilter, TargetFilter, wanted_of, wanted_reports, wanted_subs, wants,
+};
 pub use page::page_of;
 pub use query::{Page, Query};
 pub use replies::reply;

@@ -7,5 +7,6 @@ mod posting;
 mod rolled_up;
 mod sight;
 
+pub use on::{resource_named, resource_with_id};
 pub use posting::{delete, post, put};
 pub use rolled_up::rollup;

@@ -26,7 +26,8 @@ fn numbered(number: Number, found: Option<Resource>) -> Option<(Number, Resource
     }
 }
 
-fn resource_with_id<S: Alter>(
+/// The resource of an id with its number, where it is there.
+pub fn resource_with_id<S: Alter>(
     alloc: Global,
     tx: &mut Transaction<'_, S>,
     id: &ObjectId,
@@ -43,7 +44,7 @@ fn resource_with_id<S: Alter>(
 }
 
 /// The resource whose id the text is, with its number.
-pub(crate) fn resource_named<S: Alter>(
+pub fn resource_named<S: Alter>(
     alloc: Global,
     tx: &mut Transaction<'_, S>,
     text: &str,

@@ -26,7 +26,7 @@ fn numbered(number: Number, found: Option<Sub>) -> Option<(Number, Sub)>
 }
 
 /// The subscription of an id with its number, where it is there.
-pub(crate) fn sub_with_id<S: Alter>(
+pub fn sub_with_id<S: Alter>(
     alloc: Global,
     tx: &mut Transaction<'_, S>,
     id: &ObjectId,
@@ -43,7 +43,7 @@ pub(crate) fn sub_with_id<S: Alter>(
 }
 
 /// The one that was found, where who sees this much sees it.
-pub(crate) fn in_sight(sight: Sight, found: Option<(Number, Sub)>) -> Result<(Number, Sub), Refusal>
+pub fn in_sight(sight: Sight, found: Option<(Number, Sub)>) -> Result<(Number, Sub), Refusal>
     ensures gives { result ≡ in_sight sight found }
     ensures refused { IfErr result (IsOneOf (NotFound ∷ Forbidden ∷ [])) }
 {

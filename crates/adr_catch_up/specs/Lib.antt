@@ -1,0 +1,5 @@
+pub mod Upstream
+pub mod QuietScans
+pub mod Examples
+pub mod Needed
+pub mod Laws
