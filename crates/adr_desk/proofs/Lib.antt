@@ -5,6 +5,7 @@ pub mod Applied
 pub mod Created
 pub mod DecisionLemmas
 pub mod ListedLemmas
+pub mod AskLemmas
 pub mod AnswerLemmas
 pub mod CoverLemmas
 pub mod StepLemmas

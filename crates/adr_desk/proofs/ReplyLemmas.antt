@@ -8,40 +8,9 @@ use Rattle.adr_queries.specs.declared.role.Role.{Role}
 use Rattle.adr_queries.specs.Reported.{rollup_told, rollup_reply}
 use Rattle.adr_queries.specs.Roles.{is_operator}
 use Rattle.adr_text.specs.Refusals.{◌>>=◌}
-use Rattle.adr_state.specs.declared.state.State.{State}
-use Rattle.adr_held.specs.Held.{kept_of}
-use Rattle.adr_held.proofs.HeldLemmas.{image_again}
 use Rattle.adr_queries.specs.declared.answer.Answer.TheVariants as answer
-use Rattle.adr_queries.specs.declared.query.Query.{Query}
-use Rattle.adr_queries.specs.declared.query.Query.TheVariants.{Programs, Program, Events, Event, Vens, Ven, Resources, Resource, Shares, Reports, Report, Rollup, Subs, Sub, Outbox, Probes}
-use Rattle.adr_queries.specs.Replies.{reply, probes_reply}
+use Rattle.adr_queries.specs.Replies.{probes_reply}
 use Rattle.adr_mirror.specs.Missed.{missed}
-use Rattle.adr_delivery.specs.Outboxes.{no_entries}
-use Rattle.adr_desk.specs.Asks.{shown_alone, state_for}
-
--- what is read without the outbox
-shown_again : (held : State) → shown_alone (kept_of held) ≡ record held { outbox = no_entries }
-shown_again held = ap (λ (s : State). let alone : State = record s { outbox = no_entries } in alone) (image_again held)
-
--- the reply by what a query asks for is the reply
-pub reply_for : (query : Query) (held : State) → reply (state_for query (kept_of held)) query ≡ reply held query
-unfolding reply
-reply_for (Programs role page) held = ap (λ (s : State). reply s (Programs role page)) (shown_again held)
-reply_for (Program role id) held = ap (λ (s : State). reply s (Program role id)) (shown_again held)
-reply_for (Events role filter page) held = ap (λ (s : State). reply s (Events role filter page)) (shown_again held)
-reply_for (Event role id) held = ap (λ (s : State). reply s (Event role id)) (shown_again held)
-reply_for (Vens role page) held = refl
-reply_for (Ven role id) held = refl
-reply_for (Resources role ven page) held = refl
-reply_for (Resource role ven id) held = refl
-reply_for (Shares role program) held = refl
-reply_for (Subs role filter page) held = refl
-reply_for (Sub role id) held = refl
-reply_for (Outbox role) held = ap (λ (s : State). reply s (Outbox role)) (image_again held)
-reply_for (Reports role filter page) held = ap (λ (s : State). reply s (Reports role filter page)) (shown_again held)
-reply_for (Report role id) held = ap (λ (s : State). reply s (Report role id)) (shown_again held)
-reply_for (Rollup role event) held = ap (λ (s : State). reply s (Rollup role event)) (shown_again held)
-reply_for (Probes limit) held = ap (λ (s : State). reply s (Probes limit)) (shown_again held)
 
 -- the first keys that an open scan missed are told so
 pub missed_told : (limit : ℕ) (base : Base) → probes_reply limit base base.scan ≡ (missed (Some limit) base >>= λ keys. Ok (answer.Probes keys))

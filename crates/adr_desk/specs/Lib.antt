@@ -1,8 +1,6 @@
 pub mod Transactions
 pub mod Steps
 pub mod Decisions
-pub mod Asks
-pub mod Sights
 pub mod Answered
 pub mod Told
 pub mod Since

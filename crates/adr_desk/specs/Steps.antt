@@ -92,9 +92,13 @@ LeftStepped step held trees = (answer : Answer) × (after : State) × (step held
 
 -- ---- a query
 
--- after Ok, the answer is the reply in each state that the tables held
+-- after Ok, the answer is what is looked for in each state that the tables held
+abbrev pub LooksUp : {A : Type 0} → (State → Result A Refusal) → sql.State → sql.State → Result A Refusal → Type 0
+LooksUp look old new result = HasCleanDisk new → IfOk result (λ answer. (held : State) → HoldsState held old → look held ≡ Ok answer)
+
+-- so of a reply
 abbrev pub TellsTables : (State → Result Answer Refusal) → sql.State → sql.State → Result Answer Refusal → Type 0
-TellsTables reply old new result = HasCleanDisk new → IfOk result (λ answer. (held : State) → HoldsState held old → reply held ≡ Ok answer)
+TellsTables reply old new result = LooksUp reply old new result
 
 -- ---- refusals
 

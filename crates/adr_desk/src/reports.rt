@@ -14,7 +14,7 @@ ghost use Rattle.adr_queries.specs.Listed.{IsListed};
 ghost use Rattle.adr_machine.specs.Listed.{listed};
 ghost use Rattle.adr_desk.specs.Decisions.{CarriesOut, IsAnswered};
 
-use crate::sight::sight_in;
+use adr_answers::sight_in;
 use adr_db::Meta;
 use adr_kept_view::OldObject;
 use adr_machine::{Outcome, Role};

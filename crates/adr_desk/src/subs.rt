@@ -8,8 +8,8 @@ ghost use Rattle.adr_queries.specs.Listed.{IsListed};
 ghost use Rattle.adr_machine.specs.Listed.{listed};
 ghost use Rattle.adr_desk.specs.Decisions.{CarriesOut, IsAnswered, sub_made, sub_put_again};
 
-use crate::sight::sight_in;
 use crate::sites::along;
+use adr_answers::sight_in;
 use adr_db::Meta;
 use adr_machine::told::of_sub;
 use adr_machine::{Outcome, Role, settled_copy};

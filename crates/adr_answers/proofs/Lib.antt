@@ -1,0 +1,7 @@
+pub mod Behind
+pub mod Sighted
+pub mod ToldLemmas
+pub mod ProgramLemmas
+pub mod KeyLemmas
+pub mod UnionLemmas
+pub mod ListedLemmas

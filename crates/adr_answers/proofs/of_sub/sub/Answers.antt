@@ -1,0 +1,20 @@
+use Rattle.std.proofs.Common.{arith}
+use Rattle.adr_state.specs.Subs.{sub_with_id}
+use Rattle.adr_answers.specs.Told.{sub_told}
+use Rattle.adr_answers.proofs.Sighted.{unseen_refused, seen_finds, seen_refuses}
+use Rattle.adr_answers.proofs.of_sub.sub.Goals as goal
+
+pub returns-in_err-sight-clause-refuses : goal.returns-in_err-sight-clause-refuses
+returns-in_err-sight-clause-refuses g c =
+    unseen_refused g.S.Store c.args.tx.now.conn.now c.sight_in.new.tx.conn.now c.sight_in.new.tx.conn.now c.args.role.now (λ kept sight. sub_told sight (sub_with_id c.args.id.now kept.portfolio))
+    c.from_residual.result c.in_err-sight.field-0.0 c.from_residual.ensures.1 c.in_err-sight.ensures.refuses
+
+pub returns-clause-finds : goal.returns-clause-finds
+returns-clause-finds g c =
+    seen_finds g.S.Store c.args.tx.now.conn.now c.sight_in.new.tx.conn.now c.sub_seen.new.tx.conn.now c.args.role.now (λ kept sight. sub_told sight (sub_with_id c.args.id.now kept.portfolio))
+    (λ clean. omega (arith, clean, c.sub_seen.ensures.lent.stays.crash.clean)) c.in_ok-sight.sight c.in_ok-sight.ensures.finds c.sub_seen.result c.sub_seen.ensures.finds
+
+pub returns-clause-refuses : goal.returns-clause-refuses
+returns-clause-refuses g c =
+    seen_refuses g.S.Store c.args.tx.now.conn.now c.sight_in.new.tx.conn.now c.sub_seen.new.tx.conn.now c.args.role.now (λ kept sight. sub_told sight (sub_with_id c.args.id.now kept.portfolio))
+    (λ clean. omega (arith, clean, c.sub_seen.ensures.lent.stays.crash.clean)) c.in_ok-sight.sight c.in_ok-sight.ensures.finds c.sub_seen.result c.sub_seen.ensures.refuses

@@ -1,0 +1,24 @@
+//! The answers to queries of one object, and to short listings, each from its own rows in the tables, on a lent transaction.
+#![tactic(auto)]
+
+mod found;
+mod of_program;
+mod of_programs;
+mod of_report;
+mod of_reports;
+mod of_resource;
+mod of_share;
+mod of_sub;
+mod of_ven;
+mod sight;
+mod told;
+
+pub use of_program::program;
+pub use of_programs::programs;
+pub use of_report::report;
+pub use of_reports::reports;
+pub use of_resource::{resource, resources};
+pub use of_share::shares;
+pub use of_sub::{sub, subs};
+pub use of_ven::{ven, vens};
+pub use sight::sight_in;

@@ -1,0 +1,5 @@
+pub mod Texts
+pub mod Streams
+pub mod Cuts
+pub mod Queries
+pub mod Pages

@@ -1,0 +1,4 @@
+pub mod Texts
+pub mod Lent
+pub mod Selections
+pub mod Pages

@@ -1,0 +1,10 @@
+//! Rows of the tables, lent one at a time by a borrowed connection, and pages of what is kept of shown events.
+#![tactic(auto)]
+
+mod page;
+mod shown;
+mod stream;
+
+pub use page::shown_page;
+pub use shown::{lend_shown, lend_shown_to};
+pub use stream::{lend, next_of};
