@@ -1,0 +1,5 @@
+mod NextLemmas
+mod LeaseLemmas
+mod ChangeLemmas
+mod ToldLemmas
+mod GivenLemmas

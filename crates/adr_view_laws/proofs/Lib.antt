@@ -1,0 +1,6 @@
+mod Rooms
+mod LimitLemmas
+mod IdLemmas
+mod KeptIdLemmas
+mod ProgramLemmas
+mod ListedLemmas

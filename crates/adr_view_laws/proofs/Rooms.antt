@@ -1,0 +1,159 @@
+-- What a decision puts has a row of its key, or there is room for one more.
+use Rattle.std.proofs.Common.{◌≡◌, ℕ, ◌<◌, true, false, ◌==◌, ◌&&◌, ◌⊎◌, inl, inr, List, [], ◌∷◌, length, Option, Some, None, Result, Ok, Err, IfOk, Ordering, refl, ap}
+use Rattle.std.specs.Prelude.{nat_lt, is_none, is_some, IsSome, IfSome}
+use Rattle.std.specs.Ordering.{nat_cmp}
+use Rattle.std.proofs.lemmas.Bool.{and_cases, cond_both, leb-false}
+use Rattle.adr_text.specs.Refusals.{◌>>=◌}
+use Rattle.adr_text.specs.declared.refusal.Refusal.{Refusal}
+use Rattle.adr_text.specs.declared.refusal.Refusal.TheVariants as refusal
+use Rattle.adr_objects.specs.declared.site.ReportIn.{ReportIn}
+use Rattle.adr_state.specs.declared.base.Base.{Base}
+use Rattle.adr_state.specs.declared.base.Mark.{Mark}
+use Rattle.adr_state.specs.declared.base.Mark.TheVariants.{Dead}
+use Rattle.adr_state.specs.declared.keys.MirrorKey.{MirrorKey}
+use Rattle.adr_state.specs.declared.keys.ShareKey.{ShareKey}
+use Rattle.adr_state.specs.declared.limits.Limits.{Limits}
+use Rattle.adr_state.specs.declared.portfolio.Portfolio.{Portfolio}
+use Rattle.adr_state.specs.BaseChanges.{BaseChange, ChangePortfolio, JoinMarks, SetScan}
+use Rattle.adr_state.specs.Evidence.{adds_beyond, joining, open_scan, scan_end, scan_with}
+use Rattle.adr_state.specs.Keys.{at, share_cmp}
+use Rattle.adr_state.specs.Mirror.{evidence_of, joined}
+use Rattle.adr_state.specs.Names.{is_full, is_taken, is_taken_by_another, resource_name, ven_name}
+use Rattle.adr_state.specs.Portfolios.{PortfolioChange, PutVen, PutResource, PutShare, DropShare, PutReport, PutSub}
+use Rattle.adr_state.specs.Resources.{is_under, putting_resource, resource_at, resource_under, resource_with_id}
+use Rattle.adr_state.specs.Shares.{is_beyond, share_of, weight_set}
+use Rattle.adr_state.specs.Stamping.{fresh, modified_at}
+use Rattle.adr_state.specs.Subs.{sub_post}
+use Rattle.adr_state.specs.Vens.{putting_ven, ven_at, ven_with_id}
+use Rattle.adr_state.specs.Weights.{most_weight}
+use Rattle.adr_subscription.specs.Callbacks.{settled}
+use Rattle.adr_view.specs.Reports.{kept_report, may_change, may_report, putting_report, report_made, report_on, report_removed, report_replaced, report_with_id}
+use Rattle.adr_view.specs.Sights.{owner_in}
+use Rattle.adr_view.specs.Subs.{sub_delete, sub_in_sight, sub_put}
+use Rattle.adr_queries.specs.Roles.{sight_of}
+use Rattle.adr_machine.specs.declared.command.Command.{Command}
+use Rattle.adr_machine.specs.declared.command.Command.TheVariants.{Evidence, Gone, ScanBegin, ScanEnd, VenAdd, VenPut, VenRemove, ResourceAdd, ResourcePut, ResourceRemove, ShareSet, ReportPost, ReportPut, ReportDelete, SubPost, SubPut, SubDelete, Lease, Sent, Failed}
+use Rattle.adr_machine.specs.declared.outcome.Outcome.{Outcome}
+use Rattle.adr_machine.specs.Edits.{Decision, counted, decided, of_portfolio, sub_outcome}
+use Rattle.adr_machine.proofs.EditLemmas.{allowed_then, first_then, found_then, free_then, new_then, tested, whatever}
+use Rattle.adr_machine.proofs.Found.{IsFound, IsReportOf, IsSubOf, in_sight_there, number_there, passing, report_there, resource_there, ven_there}
+
+-- a row of the key is there, or there is room for one more
+abbrev pub HasRoom : {K V : Type 0} → (K → K → Ordering) → ℕ → List (K × V) → K → Type 0
+HasRoom cmp limit rows k = IsSome (at cmp k rows) ⊎ (length rows < limit)
+
+-- for what a change of the portfolio puts
+abbrev pub SitesHaveRoom : Limits → Portfolio → PortfolioChange → Type 0
+SitesHaveRoom limits p (PutVen n ven) = HasRoom nat_cmp limits.vens p.vens n
+SitesHaveRoom limits p (PutResource n resource) = HasRoom nat_cmp limits.resources p.resources n
+SitesHaveRoom limits p (PutShare key weight) = HasRoom share_cmp limits.shares p.shares key
+SitesHaveRoom limits p (PutReport n report) = HasRoom nat_cmp limits.reports p.reports n
+SitesHaveRoom limits p (PutSub n sub) = HasRoom nat_cmp limits.subs p.subs n
+SitesHaveRoom limits p _ = Unit {0}
+
+-- and for what any change does
+abbrev pub BaseHasRoom : Limits → Base → BaseChange → Type 0
+BaseHasRoom limits base (JoinMarks marks scan) = adds_beyond limits.keys base.mirror (joined base.mirror marks) ≡ false
+BaseHasRoom limits base (SetScan scan) = Unit {0}
+BaseHasRoom limits base (ChangePortfolio change) = SitesHaveRoom limits base.portfolio change
+
+some_there : {A : Type 0} (o : Option A) → is_none o ≡ false → IsSome o
+some_there None h = absurd (let no : true ≡ false = h in cc)
+some_there (Some x) h = refl
+
+module _ (limits : Limits) (now next : ℕ) (base : Base) where
+  abbrev p : Portfolio
+  p = base.portfolio
+
+  abbrev Room : Decision → Type 0
+  Room d = BaseHasRoom limits base d.change
+
+  abbrev Puts : {A : Type 0} → A × PortfolioChange → Type 0
+  Puts d = SitesHaveRoom limits p d.1
+
+  new_room : {V : Type 0} (limit n : ℕ) (rows : List (ℕ × V)) → is_full limit rows ≡ false → HasRoom nat_cmp limit rows n
+  new_room limit n rows room = inr (leb-false limit (length rows) room)
+
+  joining_room : (marks : List (MirrorKey × Mark)) (scan : Option (List MirrorKey)) → IfOk (joining limits base marks scan) (BaseHasRoom limits base)
+  joining_room marks scan = tested (BaseHasRoom limits base) (adds_beyond limits.keys base.mirror (joined base.mirror marks)) refusal.LimitReached (Ok (JoinMarks marks scan)) (λ within. within)
+
+  counted_room : (r : Result BaseChange Refusal) → IfOk r (BaseHasRoom limits base) → IfOk (r >>= λ change. Ok (counted change)) Room
+  counted_room r h = first_then Room (BaseHasRoom limits base) r (λ change. Ok (counted change)) h (λ change room. room)
+
+  sites_room : {A : Type 0} (comes : A → Outcome) (r : Result (A × PortfolioChange) Refusal) → IfOk r Puts → IfOk (of_portfolio comes r) Room
+  sites_room comes (Ok d) h = h
+  sites_room comes (Err e) h = tt
+
+  under_there : (ven id : List ℕ) → IfSome (resource_under ven id p) (λ r. IsFound p.resources r.0)
+  under_there ven id = passing (λ r. IsFound p.resources r.0) (λ r. IsFound p.resources r.0) (λ r. is_under ven p r.1) (resource_with_id id p) (resource_there id p) (λ r there under. there)
+
+  share_room : (key : ShareKey) (weight : ℕ) → IfOk (share_of limits key weight p) Puts
+  share_room key weight =
+      let fits : PortfolioChange → Type 0 = SitesHaveRoom limits p in
+      tested Puts (nat_lt most_weight weight) refusal.BadShare _ (λ small.
+      first_then Puts fits (weight_set limits key weight p) _
+      (cond_both (weight == 0) (Ok (DropShare key)) _ (λ r. IfOk r fits) (λ none. tt) (λ some. tested fits (is_beyond limits key p.shares) refusal.LimitReached (Ok (PutShare key weight)) (λ within.
+      elim (and_cases (is_none (at share_cmp key p.shares)) (is_full limits.shares p.shares) within) [
+        | inl there ↦ inl (some_there (at share_cmp key p.shares) there)
+        | inr room ↦ inr (leb-false limits.shares (length p.shares) room)
+      ]))) (λ change h. h))
+
+  made_room : (sent : ReportIn) → IfOk (report_made limits next sent base.mirror p) Puts
+  made_room sent =
+      first_then Puts (λ on. Unit {0}) (report_on sent base.mirror p) _ (whatever (report_on sent base.mirror p))
+      (λ on h. tested Puts (is_full limits.reports p.reports) refusal.LimitReached (Ok (putting_report next (kept_report next on sent))) (λ room. new_room limits.reports next p.reports room))
+
+  replaced_room : (id : List ℕ) (sent : ReportIn) → IfOk (report_replaced next id sent base.mirror p) Puts
+  replaced_room id sent =
+      found_then Puts (IsReportOf id p) refusal.NotFound (report_with_id id p) _ (report_there id p) (λ old is.
+      first_then Puts (λ on. Unit {0}) (report_on sent base.mirror p) _ (whatever (report_on sent base.mirror p)) (λ on h. inl (ap is_some is.1)))
+
+  removed_room : (id : List ℕ) → IfOk (report_removed id p) Puts
+  removed_room id = found_then Puts (IsReportOf id p) refusal.NotFound (report_with_id id p) _ (report_there id p) (λ old is. tt)
+
+  pub decided_room : (c : Command) → IfOk (decided limits now next base c) Room
+  decided_room (Evidence founds polled) = counted_room _ (joining_room (evidence_of founds) (scan_with base.scan founds polled))
+  decided_room (Gone kind id) = counted_room _ (joining_room ((record { kind = kind; id = id }, Dead) ∷ []) base.scan)
+  decided_room ScanBegin = tt
+  decided_room ScanEnd =
+      first_then Room (λ d. BaseHasRoom limits base d.1) (scan_end base) _
+      (first_then (λ d. BaseHasRoom limits base d.1) (λ polled. Unit {0}) (open_scan base.scan) _ (whatever (open_scan base.scan)) (λ polled h. tt))
+      (λ d h. h)
+  decided_room (VenAdd role ven) =
+      sites_room _ _ (new_then Puts (is_taken ven_name ven.name p.vens) (is_full limits.vens p.vens) (putting_ven next (record { name = ven.name; stamps = fresh now })) (λ free room. new_room limits.vens next p.vens room))
+  decided_room (VenPut role id ven) =
+      sites_room _ _ (found_then Puts (λ v. IsFound p.vens v.0) refusal.NotFound (ven_with_id id p) _ (ven_there id p) (λ v there.
+      free_then Puts (is_taken_by_another ven_name v.0 ven.name p.vens) (putting_ven v.0 (record { name = ven.name; stamps = modified_at now v.1.stamps })) (λ free. inl there)))
+  decided_room (VenRemove role id) = sites_room _ _ (found_then Puts (λ v. IsFound p.vens v.0) refusal.NotFound (ven_with_id id p) _ (ven_there id p) (λ v there. tt))
+  decided_room (ResourceAdd role ven resource) =
+      sites_room _ _ (found_then Puts (IsFound p.vens) refusal.NotFound (ven_at ven p) _ (number_there p.vens (ven_with_id ven p) (ven_there ven p)) (λ v there.
+      new_then Puts (is_taken resource_name resource.name p.resources) (is_full limits.resources p.resources) (putting_resource next (record { ven = v; name = resource.name; stamps = fresh now })) (λ free room. new_room limits.resources next p.resources room)))
+  decided_room (ResourcePut role ven id resource) =
+      sites_room _ _ (found_then Puts (λ r. IsFound p.resources r.0) refusal.NotFound (resource_under ven id p) _ (under_there ven id) (λ r there.
+      free_then Puts (is_taken_by_another resource_name r.0 resource.name p.resources) (putting_resource r.0 (record { ven = r.1.ven; name = resource.name; stamps = modified_at now r.1.stamps })) (λ free. inl there)))
+  decided_room (ResourceRemove role ven id) = sites_room _ _ (found_then Puts (λ r. IsFound p.resources r.0) refusal.NotFound (resource_under ven id p) _ (under_there ven id) (λ r there. tt))
+  decided_room (ShareSet role program resource share) =
+      sites_room _ _ (found_then Puts (IsFound p.resources) refusal.NotFound (resource_at resource p) _ (number_there p.resources (resource_with_id resource p) (resource_there resource p)) (λ n there.
+      share_room (record { program = program; resource = n }) share.share))
+  decided_room (ReportPost role sent) =
+      first_then Room (λ sight. Unit {0}) (sight_of base role) _ (whatever (sight_of base role)) (λ sight h.
+      sites_room _ _ (allowed_then Puts (may_report sight sent p) refusal.Forbidden (report_made limits next sent base.mirror p) (made_room sent)))
+  decided_room (ReportPut role id sent) =
+      first_then Room (λ sight. Unit {0}) (sight_of base role) _ (whatever (sight_of base role)) (λ sight h.
+      sites_room _ _ (allowed_then Puts (may_change sight id p && may_report sight sent p) refusal.Forbidden (report_replaced next id sent base.mirror p) (replaced_room id sent)))
+  decided_room (ReportDelete role id) =
+      first_then Room (λ sight. Unit {0}) (sight_of base role) _ (whatever (sight_of base role)) (λ sight h.
+      sites_room _ _ (allowed_then Puts (may_change sight id p) refusal.Forbidden (report_removed id p) (removed_room id)))
+  decided_room (SubPost role sub) =
+      first_then Room (λ body. Unit {0}) (settled sub) _ (whatever (settled sub)) (λ body h. first_then Room (λ sight. Unit {0}) (sight_of base role) _ (whatever (sight_of base role)) (λ sight h.
+      sites_room sub_outcome (sub_post limits now next (owner_in sight) body p) (tested Puts (is_full limits.subs p.subs) refusal.LimitReached _ (λ room. new_room limits.subs next p.subs room))))
+  decided_room (SubPut role id sub) =
+      first_then Room (λ body. Unit {0}) (settled sub) _ (whatever (settled sub)) (λ body h. first_then Room (λ sight. Unit {0}) (sight_of base role) _ (whatever (sight_of base role)) (λ sight h.
+      sites_room sub_outcome (sub_put sight now id body p) (first_then Puts (IsSubOf id p) (sub_in_sight sight id p) _ (in_sight_there sight id p) (λ s there. inl (ap is_some there.1)))))
+  decided_room (SubDelete role id) =
+      first_then Room (λ sight. Unit {0}) (sight_of base role) _ (whatever (sight_of base role)) (λ sight h.
+      sites_room sub_outcome (sub_delete sight id p) (first_then Puts (λ s. Unit {0}) (sub_in_sight sight id p) _ (whatever (sub_in_sight sight id p)) (λ s there. tt)))
+  -- what is about an entry leaves the base
+  decided_room Lease = tt
+  decided_room (Sent entry lease remote) = tt
+  decided_room (Failed entry lease forget) = tt

@@ -1,0 +1,4 @@
+pub mod ReadIds
+pub mod ShownPrograms
+pub mod ListedReports
+pub mod KeptLimits

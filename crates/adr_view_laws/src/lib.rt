@@ -1,0 +1,4 @@
+//! Laws of what is read, shown, listed and kept.
+#![tactic(auto)]
+
+pub mod laws;
