@@ -3,3 +3,4 @@ mod LeaseLemmas
 mod ChangeLemmas
 mod ToldLemmas
 mod GivenLemmas
+mod CountLemmas

@@ -1,3 +1,4 @@
 pub mod Next
 pub mod Leases
 pub mod Told
+pub mod Counts

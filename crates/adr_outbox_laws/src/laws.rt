@@ -1,6 +1,7 @@
-//! Laws of the outbox over whole runs: leases, what settles an entry, which entry leaves next, and what is told of changes.
+//! Laws of the outbox over whole runs: leases, what settles an entry, which entry leaves next, what each count counts, and what is told of changes.
 ghost use Rattle.adr_outbox_laws.specs.Leases.{OneLeaseEach, LeasedHadNoLease, LeaseIsRefusedAtTheLimit, SettledByItsLease, EarlierLeasesAreLost};
 ghost use Rattle.adr_outbox_laws.specs.Next.{NextIsFirst, NextIsFirstAfterRuns};
+ghost use Rattle.adr_outbox_laws.specs.Counts.{EachCountTells};
 ghost use Rattle.adr_outbox_laws.specs.Told.{ChangesAreWhatHappens, DeliveriesTellNothing, EachChangeIsTold, EachChangeIsToldAfterRuns};
 
 /// Of entries whose numbers rise the next one at a moment is exactly the one of least number among those that wait, are
@@ -56,4 +57,12 @@ pub fn each_change_is_told()
     ensures changes { EachChangeIsTold }
     ensures run { EachChangeIsToldAfterRuns }
     ensures deliveries { DeliveriesTellNothing }
+{}
+
+/// Whatever the state, an accepted `Sent` raises the count of what was sent by one, and no other command changes it; what was
+/// given up is changed by `Failed` alone; what was dropped is raised by a command that is not about an entry, by as many as
+/// waited for a subscription that is not there after it, and left by any other; and what was made is changed by no command
+/// about an entry. What is raised stops at what a count stops at.
+pub fn each_count_tells()
+    ensures { EachCountTells }
 {}

@@ -4,3 +4,7 @@ mod IdLemmas
 mod KeptIdLemmas
 mod ProgramLemmas
 mod ListedLemmas
+mod ThereLemmas
+mod ToldStampLemmas
+mod NamedLemmas
+mod StayLemmas

@@ -58,10 +58,11 @@ use Rattle.adr_machine.specs.Steps.{answered_by, committed, delivery_step, edit_
 use Rattle.adr_machine.specs.Steps as steps
 use Rattle.adr_machine.proofs.EditLemmas.{first_then, found_then, tested, whatever}
 use Rattle.adr_machine.proofs.Made.{IsUntried, made_untried}
-use Rattle.adr_view_laws.proofs.Rooms.{BaseHasRoom, HasRoom, SitesHaveRoom, decided_room}
+use Rattle.adr_view_laws.proofs.Rooms.{BaseHasRoom, HasRoom, IsFit, SitesHaveRoom, decided_room}
 use Rattle.adr_laws.specs.Entries.{reached}
 use Rattle.adr_laws.proofs.RunLemmas.{run_keeps}
 use Rattle.adr_machine.specs.Runs.{state_after, step_at}
+use Rattle.adr_view_laws.specs.KeptReports.{NamesReport}
 use Rattle.adr_view_laws.specs.KeptLimits.{AreSitesWithin, AreEntriesWithin, IsWithin, LimitsAreKept, StatesFit}
 use Rattle.adr_machine.proofs.Sizes.{found_size, put_size, removed_size}
 
@@ -276,7 +277,7 @@ module _ (settings : Settings) (s : State) (h : IsWithin settings.limits s) wher
   unfolding edit
   edit_fits now c =
       cond_both (is_allowed c) (edit_of settings.limits now s.base c) (Err refusal.Forbidden) (λ r. IfOk r (EditFits settings.limits))
-      (λ allowed. first_then (EditFits settings.limits) (λ d. BaseHasRoom settings.limits s.base d.change) (decided settings.limits now (s.base.serial + 1) s.base c) _ (decided_room settings.limits now (s.base.serial + 1) s.base c) (λ d room. numbered_fits (draws_number c) d room))
+      (λ allowed. first_then (EditFits settings.limits) (λ d. IsFit settings.limits now (s.base.serial + 1) s.base (NamesReport c) d.change) (decided settings.limits now (s.base.serial + 1) s.base c) _ (decided_room settings.limits now (s.base.serial + 1) s.base (NamesReport c) c (λ n named. named)) (λ d fit. numbered_fits (draws_number c) d fit.0))
       (λ forbidden. tt)
 
   -- ---- its commit

@@ -1,8 +1,11 @@
-//! Laws of ids, of programs that are shown, of reports that are listed, and of limits.
+//! Laws of ids, of programs that are shown, of reports that are listed, written and kept, of stamps, and of limits.
 ghost use Rattle.adr_view_laws.specs.ReadIds.{IdsReadBack, RowsAreFoundByIds, EachIsFoundByItsId, ShownIdsReadBack};
 ghost use Rattle.adr_view_laws.specs.ShownPrograms.{ProgramsAreShown, ProgramsAreShownAfterRuns};
 ghost use Rattle.adr_view_laws.specs.ListedReports.{ReportsLackNone, ReportsLackNoneAfterRuns, ReportsAreSeenByTheirOwn, NoFilterAsksForAll};
 ghost use Rattle.adr_view_laws.specs.KeptLimits.{LimitsAreKept, StatesFit};
+ghost use Rattle.adr_view_laws.specs.WrittenReports.{WrittenReportsAreThere};
+ghost use Rattle.adr_view_laws.specs.KeptReports.{ReportsStay};
+ghost use Rattle.adr_view_laws.specs.ToldStamps.{StampsAreTold};
 
 /// An id that is written of a number is read back as that number by the letter of its kind, exactly where the number is from
 /// 1 to 9·10^15; by another letter it is read as none; and no other text is read as that number by its letter. So the ven,
@@ -41,4 +44,23 @@ pub fn reports_lack_none()
 pub fn limits_are_kept()
     ensures own { LimitsAreKept }
     ensures largest { StatesFit }
+{}
+
+/// Whatever the state, the report that an accepted post or replacement is answered is there after it, under the number that
+/// is answered, and says what is answered.
+pub fn written_reports_are_there()
+    ensures { WrittenReportsAreThere }
+{}
+
+/// After any run from an empty start and one more command, a report that was there is there as it was, unless that command
+/// replaces or removes it by an id that is read as its number, or its resource is not there then.
+pub fn reports_stay()
+    ensures { ReportsStay }
+{}
+
+/// Whatever the state, of what is shown after an accepted command both stamps are of its moment where nothing was shown at
+/// the key before; where something else was shown there, that had stamps, the modified stamp is of that moment and the
+/// created one stays; and where the same was, that had stamps, both stay.
+pub fn stamps_are_told()
+    ensures { StampsAreTold }
 {}

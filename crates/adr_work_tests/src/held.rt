@@ -202,13 +202,14 @@ fn puts_none<L: Ledger, R: Wait>(
     Ok(queue.take(rt, &mut seat).is_none())
 }
 
-// How many steps two dispatches take over a queue that holds one job, while nobody takes it.
+// How many steps two dispatches take over a queue that holds one job and may be closed, while nobody takes it.
 fn steps_of_two<L: Ledger, R: Wait>(
     rt: &R,
     alloc: Global,
     blank: Blank,
     desk: PlainDesk,
     at: Moment,
+    is_closed: bool,
 ) -> Result<u64, Refusal>
     requires { (blank.name ≡ L.name) × (blank.parts ≡ L.parts) × (blank.parts ≡ 1) }
 {
@@ -217,6 +218,9 @@ fn steps_of_two<L: Ledger, R: Wait>(
         unreachable!()
     };
     let (queue, mut seat) = JobQueue::new(alloc, 1)?;
+    if is_closed {
+        queue.close(rt);
+    }
     let clock = Still(at);
     let mut steps = Steps::new();
     dispatch(
@@ -246,8 +250,20 @@ fn nothing_is_leased_for_a_full_queue(rt: HostRuntime) -> Result<(), Fail> {
     let alloc = rt.alloc();
     let desk = desk_of_jobs(alloc, 3)?;
     assert_eq!(rt;
-        steps_of_two::<Brand, _>(&rt, alloc, Blank::new(1), desk, ten()?)?,
+        steps_of_two::<Brand, _>(&rt, alloc, Blank::new(1), desk, ten()?, false)?,
         1
+    );
+    Ok(())
+}
+
+/// A job that is leased and not put would wait for the end of its lease.
+#[test]
+fn nothing_is_leased_for_a_closed_queue(rt: HostRuntime) -> Result<(), Fail> {
+    let alloc = rt.alloc();
+    let desk = desk_of_jobs(alloc, 1)?;
+    assert_eq!(rt;
+        steps_of_two::<Brand, _>(&rt, alloc, Blank::new(1), desk, ten()?, true)?,
+        0
     );
     Ok(())
 }

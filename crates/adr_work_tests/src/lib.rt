@@ -18,6 +18,8 @@ mod enrolling;
 #[cfg(test)]
 mod failing;
 #[cfg(test)]
+mod fetches;
+#[cfg(test)]
 mod halting;
 #[cfg(test)]
 mod held;

@@ -23,16 +23,17 @@ use std::time;
 const TO_EVENTS: &str =
     "{\"clientName\":\"ops\",\"objectOperations\":[{\"objects\":[\"EVENT\"],\"operations\":[\"POST\",\"PUT\",\"DELETE\"],\"callbackUrl\":\"http://127.0.0.1:9000/n\"}]}";
 
-const BOTH: &str =
+/// A page with two events.
+pub const BOTH: &str =
     "[{\"id\":\"e1\",\"modificationDateTime\":\"2024-07-01T09:00:00Z\",\"programID\":\"p1\",\"intervals\":[{\"id\":0,\"payloads\":[{\"type\":\"DISPATCH_SETPOINT\",\"values\":[100]}]}]},{\"id\":\"e5\",\"modificationDateTime\":\"2024-07-01T09:00:00Z\",\"programID\":\"p1\",\"intervals\":[{\"id\":0,\"payloads\":[{\"type\":\"DISPATCH_SETPOINT\",\"values\":[100]}]}]}]";
 
 /// The utility at some time: its first page of events, how many are on it, and whether its pages of events fail.
 #[derive(Clone, Copy, Drop)]
-struct Upstreams {
-    alloc: Global,
-    events: &'static str,
-    behind: &'static str,
-    fails: bool,
+pub struct Upstreams {
+    pub alloc: Global,
+    pub events: &'static str,
+    pub behind: &'static str,
+    pub fails: bool,
 }
 
 // What the utility is asked for, in full.
@@ -70,20 +71,20 @@ impl Peer for Upstreams {
     }
 }
 
-// The desk with three resources, and a subscription to events.
-fn enrolled_and_subscribed(alloc: Global) -> Result<PlainDesk, Refusal> {
+/// The desk with three resources, and a subscription to events.
+pub fn enrolled_and_subscribed(alloc: Global) -> Result<PlainDesk, Refusal> {
     let mut desk = enrolled(alloc)?;
     desk.apply(ten()?, &subscription(alloc, TO_EVENTS)?)?;
     Ok(desk)
 }
 
 /// What a round ended with, and how many entries there are then.
-fn round<L: Ledger, R: Wait + time::Clock>(
+pub fn round<L: Ledger, U: Peer + Drop, R: Wait + time::Clock>(
     rt: &R,
     alloc: Global,
     office: &Office<PlainDesk, L>,
     pass: &mut Pass<L>,
-    utility: Upstreams,
+    utility: U,
 ) -> Result<(PollEnd, OutboxCounts), Refusal> {
     let peers = peers(alloc)?;
     let clock = Still(ten()?);
@@ -104,7 +105,8 @@ fn round<L: Ledger, R: Wait + time::Clock>(
     Ok((end, counts(rt, office, pass)?))
 }
 
-fn made(round: &(PollEnd, OutboxCounts)) -> (PollEnd, u64) {
+/// What it ended with, and how many entries were made by then.
+pub fn made(round: &(PollEnd, OutboxCounts)) -> (PollEnd, u64) {
     (round.0, round.1.made)
 }
 

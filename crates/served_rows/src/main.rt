@@ -22,7 +22,6 @@ mod case;
 mod file;
 mod grants;
 mod run;
-mod served;
 
 use crate::file::File;
 use anyhow::Result;

@@ -2,14 +2,13 @@
 use crate::case::Case;
 use crate::file::{File, read_file};
 use crate::grants::copies_of;
-use crate::served::{Front, serve, take_lines};
 use adr_desk::MemoryDesk;
 use adr_http::{Roles, Routes};
 use adr_machine::{Desk, PlainDesk};
 use adr_state::{Limits, Settings};
 use adr_text::{Moment, Name};
 use anyhow::Result;
-use row_desks::{DiskDesk, Stop, is_kept, new_desk};
+use row_desks::{DiskDesk, Front, Stop, is_kept, new_desk, serve, take_lines};
 use std::alloc::Global;
 use table_files::{Pieces, Table};
 

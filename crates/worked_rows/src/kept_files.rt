@@ -4,7 +4,6 @@ ghost use Rattle.std.specs.Prelude.{IsTrue};
 
 use crate::participants::ven;
 use crate::play::play;
-use crate::row::{Row, read_row};
 use crate::settings_of;
 use adr_db::statement::run;
 use adr_db::{Meta, create, put_meta};
@@ -12,7 +11,7 @@ use adr_desk::{SqlDesk, Start};
 use adr_state::{Limits, Serial};
 use adr_text::Refusal;
 use anyhow::{Context, Result, bail};
-use row_desks::{Disks, Stop, bytes_of, new_disks, open};
+use row_desks::{Disks, Row, Stop, bytes_of, new_disks, open, read_row};
 use sqlite::{Alter, Connection, FileStore, Transaction};
 use sqlite_disk::{Disk, Fuse, Memory};
 use std::alloc::Global;

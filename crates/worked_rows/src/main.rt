@@ -29,7 +29,6 @@ mod participants;
 mod play;
 mod reader;
 mod report;
-mod row;
 mod site_reports;
 mod stops;
 mod texts;
@@ -40,7 +39,6 @@ use crate::kept_files::run_kept_files;
 use crate::participants::run_participants;
 use crate::play::play;
 use crate::report::{report, report_both, report_part};
-use crate::row::{Row, read_row};
 use crate::site_reports::run_reports;
 use crate::stops::run_stops;
 use crate::texts::{Texts, read_texts, run_texts};
@@ -51,7 +49,7 @@ use adr_machine::{Desk, PlainDesk};
 use adr_state::{Limits, Settings};
 use adr_text::Name;
 use anyhow::Result;
-use row_desks::{DiskDesk, Stop, is_kept, new_desk};
+use row_desks::{DiskDesk, Row, Stop, is_kept, new_desk, read_row};
 use std::alloc::Global;
 use std::process::ExitCode;
 use std::rt::{Env, Files};
@@ -128,17 +126,22 @@ fn run_file<R: Print + AllocGlobal>(rt: &R, row: &Row) -> Result<bool> {
     report_part(rt, row, "file", passed)
 }
 
-impl Table for Row {
-    fn read(alloc: Global, bytes: &[u8]) -> Result<Row> {
-        read_row(alloc, bytes)
+/// A row file as a table.
+#[derive(Drop)]
+struct RowTable(Row);
+
+impl Table for RowTable {
+    fn read(alloc: Global, bytes: &[u8]) -> Result<RowTable> {
+        Ok(RowTable(read_row(alloc, bytes)?))
     }
 
     fn run<R: Print + AllocGlobal>(&self, rt: &R) -> Result<bool> {
-        let plain = run_plain(rt, self)?;
-        let tables = run_tables(rt, self)?;
-        let both = run_both(rt, self)?;
-        let file = run_file(rt, self)?;
-        let stops = !self.stop_everywhere || run_stops(rt, self)?;
+        let row = &self.0;
+        let plain = run_plain(rt, row)?;
+        let tables = run_tables(rt, row)?;
+        let both = run_both(rt, row)?;
+        let file = run_file(rt, row)?;
+        let stops = !row.stop_everywhere || run_stops(rt, row)?;
         Ok(plain && tables && both && file && stops)
     }
 }
@@ -155,7 +158,7 @@ impl Table for Texts {
 
 fn run_all<R: Env + Files + Print + AllocGlobal + Clone + Drop>(rt: &R) -> Result<bool> {
     let folder = folder(rt)?;
-    let rows = run_each::<Row, R>(rt, folder.as_str(), ".row")?;
+    let rows = run_each::<RowTable, R>(rt, folder.as_str(), ".row")?;
     let texts = run_each::<Texts, R>(rt, folder.as_str(), ".texts")?;
     let participants = run_participants(rt)?;
     let reports = run_reports(rt)?;

@@ -1,10 +1,10 @@
 //! A row, run on a desk.
 ghost use Rattle.std.specs.Prelude.{◌≡◌, ◌<◌};
 
-use crate::row::Row;
 use adr_machine::Desk;
 use adr_script::{ScriptFault, run_script};
 use adr_text::{Reader, Writer};
+use row_desks::Row;
 use std::alloc::Global;
 use std::io::{Read, Write};
 use std::marker::Brand;

@@ -1,7 +1,7 @@
 //! How a row went, in one line.
 use crate::play::{Played, count_lines};
-use crate::row::Row;
 use anyhow::Result;
+use row_desks::Row;
 
 /// How many lines two texts begin alike with.
 fn like_lines(given: &[u8], wanted: &[u8]) -> u64 {

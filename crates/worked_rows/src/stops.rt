@@ -3,7 +3,6 @@
 //! the line in progress, or the one after it.
 use crate::play::play_script;
 use crate::report::report_part;
-use crate::row::Row;
 use crate::settings;
 use adr_desk::restart::crash;
 use adr_desk::{SqlDesk, Start};
@@ -11,7 +10,7 @@ use adr_machine::{Desk, PlainDesk};
 use adr_state::{Image, Settings};
 use adr_text::Refusal;
 use anyhow::{Context, Result, bail};
-use row_desks::{DiskDesk, Disks, Stop, holds, new_desk, opened_again};
+use row_desks::{DiskDesk, Disks, Row, Stop, holds, new_desk, opened_again};
 use sqlite::{Connection, FileStore};
 use sqlite_disk::{Fuse, Memory};
 use std::alloc::{AllocError, Global};

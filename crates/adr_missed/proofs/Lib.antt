@@ -1,0 +1,4 @@
+pub mod Limits
+pub mod Queries
+pub mod Keys
+pub mod Told

@@ -1,0 +1,4 @@
+pub mod Taken
+pub mod Unseen
+pub mod Shut
+pub mod Laws

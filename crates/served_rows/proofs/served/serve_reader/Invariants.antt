@@ -1,4 +1,0 @@
-use Rattle.served_rows.proofs.served.serve_reader.Given as goal
-
-abbrev pub ghosts-serve_from : goal.ghosts-serve_from
-ghosts-serve_from g a = record { name = a.writes.name; parts = a.writes.parts }
