@@ -22,7 +22,7 @@ fn is_enough(limit: Option<u32>, count: usize) -> bool
     }
 }
 
-/// The rows of a query at its start, read: all of them, or with a limit at most so many. No row is read past the last one that
+/// The rows of a query at its start, read: all of them, or with a limit at most so many. No row is lent past the last one that
 /// is wanted.
 pub(crate) fn first_of<T: FromRow, S: Alter>(
     alloc: Global,

@@ -34,7 +34,7 @@ pub fn lend_unseen<'conn, S: Alter>(
     lend(conn, READ_UNSEEN, &[])
 }
 
-/// The first of them where there is a limit, at most so many, and else all. No row is read past the last one that is wanted.
+/// The first of them where there is a limit, at most so many, and else all.
 pub fn unseen_keys<S: Alter>(
     alloc: Global,
     conn: &mut Connection<S>,
