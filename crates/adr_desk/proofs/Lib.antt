@@ -19,3 +19,5 @@ pub mod Soundness
 pub mod Since
 pub mod Readied
 pub mod Restarts
+pub mod ShutLemmas
+pub mod DroppedLemmas

@@ -10,14 +10,13 @@ ghost use Rattle.adr_desk.specs.Transactions.{IsDropped};
 
 use crate::frame::begin;
 use crate::listing::events;
+use crate::scans::first_missed;
 use crate::totals::counted;
 use adr_answers::{
     program, programs, report, reports, resource, resources, shares, sight_in, sub, subs, ven, vens,
 };
-use adr_db::read_meta;
 use adr_db_state::read_state;
 use adr_machine::{Answer, Query, Role, is_operator, reply, rollup_told};
-use adr_mirror::probes;
 use adr_pages::event;
 use adr_reports::rollup;
 use adr_text::{ObjectId, Refusal};
@@ -55,21 +54,6 @@ fn one_event<S: Alter>(
     event(alloc, tx, sight, id)
 }
 
-/// The first keys that an open scan missed, or `NoScan`.
-fn missed<S: Alter>(
-    alloc: Global,
-    tx: &mut Transaction<'_, S>,
-    limit: u32,
-) -> Result<Answer, Refusal>
-    ensures lent { LeavesLent S.Store tx.old.conn tx.new.conn result }
-    ensures tells { TellsTables (λ held. reply held (query.Probes limit)) (state S.Store tx.old.conn.now) (state S.Store tx.new.conn.now) result }
-    ensures refuses { RefusesAs (λ held. reply held (query.Probes limit)) (state S.Store tx.old.conn.now) (state S.Store tx.new.conn.now) result }
-    ensures listed { IfErr result (IsListed (Unit {0}) (listed_for (query.Probes limit))) }
-{
-    let meta = read_meta(tx)?;
-    Ok(Answer::Probes(probes(alloc, tx, &meta, Some(limit))?))
-}
-
 // The same id again.
 fn copy_of(id: &ObjectId) -> Result<ObjectId, AllocError>
     ensures { IfOk result (λ copy. copy ≡ id.now) }
@@ -95,8 +79,8 @@ fn rolled_up<S: Alter>(
     rollup_told(copy_of(event)?, found)
 }
 
-/// The reply to a query, on a lent transaction, by the rows of what is asked for. A listing of events, which `ask_in` answers
-/// in another way, is answered by all there is.
+/// The reply to a query, on a lent transaction, by the rows of what is asked for. A listing of events and the keys that a scan
+/// missed, which `ask_in` answers in another way, are answered by all there is.
 fn asked<S: Alter>(
     alloc: Global,
     tx: &mut Transaction<'_, S>,
@@ -123,7 +107,7 @@ fn asked<S: Alter>(
         Query::Subs { role, filter, page } => subs(alloc, tx, role, filter, *page),
         Query::Sub { role, id } => sub(alloc, tx, role, id),
         Query::Outbox { role } => counted(tx, role),
-        Query::Probes { limit } => missed(alloc, tx, *limit),
+        Query::Probes { .. } => replied(alloc, tx, query),
     }
 }
 
@@ -157,6 +141,7 @@ pub(crate) fn ask_in<S: Alter>(
 {
     match query {
         Query::Events { role, filter, page } => events(alloc, conn, role, filter, *page),
+        Query::Probes { limit } => first_missed(alloc, conn, *limit),
         _ => asked_at_once(alloc, conn, query),
     }
 }

@@ -17,6 +17,7 @@ ghost use Rattle.adr_desk.specs.Steps.{step_of, step_by, EditsTables, CommitsTab
 use crate::answered::{answered, stamps_of};
 use crate::decided::carry_out;
 use crate::deliver::delivered;
+use crate::ended::end_scan;
 use crate::frame::{begin, commit};
 use crate::told::tell;
 use adr_db::{Meta, put_meta, read_meta};
@@ -29,7 +30,7 @@ use sqlite::{Alter, Connection, Transaction};
 use std::alloc::Global;
 
 // The numbers of the node are put, where they differ from those that are kept.
-fn put_changed<S: Alter>(
+pub(crate) fn put_changed<S: Alter>(
     tx: &mut Transaction<'_, S>,
     before: &Meta,
     after: &Meta,
@@ -129,8 +130,8 @@ fn stepped<S: Alter>(
     after(put_changed(tx, &before, &meta), answer)
 }
 
-/// The command in a transaction of its own: all of it is committed, or nothing is left of it.
-pub(crate) fn apply_in<S: Alter>(
+// The command in a transaction of its own: all of it is committed, or nothing is left of it.
+fn apply_at_once<S: Alter>(
     alloc: Global,
     conn: &mut Connection<S>,
     settings: &Settings,
@@ -151,4 +152,29 @@ pub(crate) fn apply_in<S: Alter>(
     let answer = stepped(alloc, &mut tx, settings, now, command)?;
     let ended = commit(tx);
     after(ended, answer)
+}
+
+/// The command: all of it is committed, or nothing is left of it. What a scan missed is read row by row, before the transaction
+/// begins in which the scan is closed.
+pub(crate) fn apply_in<S: Alter>(
+    alloc: Global,
+    conn: &mut Connection<S>,
+    settings: &Settings,
+    now: Moment,
+    command: &Command,
+) -> Result<Answer, Refusal>
+    requires { conn.old.in_transaction ≡ false }
+    ensures whole { Commits S.Store conn.old conn.new
+        (λ s. (held : State) → HoldsState held (state S.Store conn.old) → HoldsStepped (step_by settings.now now command.now) held s)
+        (λ trees. (held : State) → HoldsState held (state S.Store conn.old) → LeftStepped (step_by settings.now now command.now) held trees)
+        result }
+    ensures makes { StepsTables (step_by settings.now now command.now) (state S.Store conn.old) (state S.Store conn.new) result }
+    ensures refuses { RefusesAs (step_by settings.now now command.now) (state S.Store conn.old) (state S.Store conn.new) result }
+    ensures listed { IfErr result (IsListed (Unit {0}) (listed command.now)) }
+    ensures unchanged { HasCleanDisk (state S.Store conn.new) → IsTrue (state S.Store conn.new).is_open → OnErr result ((state S.Store conn.new).now ≡ (state S.Store conn.old).now) }
+{
+    match command {
+        Command::ScanEnd => end_scan(alloc, conn, settings, now),
+        _ => apply_at_once(alloc, conn, settings, now, command),
+    }
 }

@@ -39,7 +39,8 @@ pub fn shown_parts_sum_up()
     ensures run { ShownPartsSumUpAfterRuns }
 {}
 
-/// Where upstream keys stand in order, nothing is shown of an event that is not live upstream.
+/// Where upstream keys stand in order, an event is shown only where it is live upstream. A report that names one which is
+/// not stays shown.
 pub fn only_live_events_are_shown()
     ensures { OnlyLiveEventsAreShown }
 {}

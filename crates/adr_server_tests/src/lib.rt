@@ -10,6 +10,8 @@ mod days;
 #[cfg(test)]
 mod ending;
 #[cfg(test)]
+mod halting;
+#[cfg(test)]
 mod jobs;
 #[cfg(test)]
 mod large;

@@ -36,7 +36,7 @@ pub const CUT: &[u8] =
 
 /// A clock that stands still.
 #[derive(Clone, Copy, Drop)]
-struct Still(Moment);
+pub struct Still(pub Moment);
 
 impl Clock for Still {
     ghost use Rattle.std.specs.Prelude.{◌≡◌};

@@ -1,7 +1,6 @@
 //! Workers over a store that refuses one call: with a flag to set they set it and end, and without one they go on.
 ghost use Rattle.std.specs.Prelude.{◌≡◌};
 
-use crate::ailing::{Ailing, Refused};
 use crate::clock::Still;
 use crate::day::{Day, MOST_NAPS, Meanwhile, UntilNoneWaits, counts, run_with};
 use crate::desk::{desk_of_jobs, empty_desk, ten};
@@ -12,6 +11,7 @@ use adr_link::{HttpReply, LinkFault};
 use adr_machine::Desk;
 use adr_text::Refusal;
 use adr_work::{Halt, Polled, Request, Steps, poll_loop};
+use ailing_desk::{Ailing, Refused};
 use std::alloc::Global;
 use std::marker::Brand;
 use std::sync::atomic::{AtomicBool, AtomicU64, Ordering};

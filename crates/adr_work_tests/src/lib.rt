@@ -4,8 +4,6 @@
 #![tactic(auto)]
 
 #[cfg(test)]
-mod ailing;
-#[cfg(test)]
 mod clock;
 #[cfg(test)]
 mod day;

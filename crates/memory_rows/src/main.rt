@@ -52,7 +52,11 @@ fn play_on<D: Desk>(alloc: Global, desk: &mut D, row: &Row, by_requests: bool) -
 }
 
 fn play_row(alloc: Global, row: &Row, desk: &str, way: &str) -> Result<Counts> {
-    let by_requests = way == "requests";
+    let by_requests = match way {
+        "lines" => false,
+        "requests" => true,
+        _ => bail!("no such way: {way}"),
+    };
     match desk {
         "plain" => {
             let mut desk = PlainDesk::new(alloc, settings(alloc, row)?);

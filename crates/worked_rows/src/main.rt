@@ -1,13 +1,6 @@
 //! Runs the worked rows: each row file of the folder that it is given, or where it runs, is a script with the lines
 //! that it has to print. Over which desks it is run, and which rows are tests in other crates, stands in
-//! `data/README.md`. A row file is `NAME.row`, of these lines:
-//!
-//! - `# TEXT` and an empty line say nothing;
-//! - `row NAME` names the row;
-//! - `set NAME=NUMBER` sets a limit;
-//! - `stop everywhere` has it stopped at each call of its disks too;
-//! - `> LINE` is a line of the script;
-//! - `< LINE` is a line that the script prints.
+//! `data/README.md`; what the lines of a row file `NAME.row` are, at `read_row` of `row_desks`.
 //!
 //! A table of texts is `NAME.texts`, of these lines:
 //!

@@ -1,4 +1,6 @@
-//! A desk over a store that refuses.
+//! A desk over a store that refuses, for tests: over plain maps, and the first call of a kind is refused.
+#![tactic(auto)]
+
 ghost use Rattle.std.specs.Prelude.{◌≡◌, ⊤};
 
 use adr_machine::{Answer, Command, Desk, Image, PlainDesk, Query, Settings};
@@ -15,6 +17,8 @@ pub enum Refused {
     Sent,
     /// Beginnings of scans.
     Scans,
+    /// New vens, which nothing but requests makes.
+    Vens,
 }
 
 impl Refused {
@@ -23,6 +27,7 @@ impl Refused {
             Command::Lease => self == Refused::Leases,
             Command::Sent { .. } => self == Refused::Sent,
             Command::ScanBegin => self == Refused::Scans,
+            Command::VenAdd { .. } => self == Refused::Vens,
             _ => false,
         }
     }
