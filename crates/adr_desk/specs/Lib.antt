@@ -8,3 +8,4 @@ pub mod Desks
 pub mod Laws
 pub mod Preparing
 pub mod Restarts
+pub mod Ends
