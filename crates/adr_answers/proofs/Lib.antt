@@ -3,5 +3,4 @@ pub mod Sighted
 pub mod ToldLemmas
 pub mod ProgramLemmas
 pub mod KeyLemmas
-pub mod UnionLemmas
 pub mod ListedLemmas

@@ -1,7 +1,6 @@
 -- What is told of rows is what is told of all that is kept.
-use Rattle.std.proofs.Common.{◌≡◌, ℕ, Bool, true, false, cond, List, filter, map, Option, Some, None, Less, Result, Ok, Err, refl, sym, ap, ◌∙◌}
+use Rattle.std.proofs.Common.{◌≡◌, ℕ, Bool, true, false, cond, List, filter, map, Option, Some, None, Less, Result, Ok, Err, refl, sym, ap}
 use Rattle.std.specs.Prelude.{not, ◌==◌, option_map}
-use Rattle.std.specs.List.{list_any}
 use Rattle.std.specs.Option.{option_map_or, option_to_list}
 use Rattle.adr_text.specs.Refusals.{◌>>=◌}
 use Rattle.adr_text.specs.declared.refusal.Refusal.{Refusal}
@@ -14,7 +13,7 @@ use Rattle.adr_state.specs.declared.portfolio.Resource.{Resource}
 use Rattle.adr_state.specs.declared.portfolio.Ven.{Ven}
 use Rattle.adr_state.specs.declared.keys.ViewKey.TheVariants as key
 use Rattle.adr_state.specs.declared.state.State.{State}
-use Rattle.adr_state.specs.Portfolios.{is_sub_of, reported_on}
+use Rattle.adr_state.specs.Portfolios.{is_sub_of}
 use Rattle.adr_state.specs.Subs.{sub_object}
 use Rattle.adr_state.specs.Vens.{ven_object}
 use Rattle.adr_view.specs.declared.sight.Sight.{Sight}
@@ -27,12 +26,10 @@ use Rattle.adr_queries.specs.declared.answer.Object.{Object}
 use Rattle.adr_queries.specs.declared.answer.Object.TheVariants as object
 use Rattle.adr_queries.specs.declared.query.Page.{Page}
 use Rattle.adr_queries.specs.Listings.{page_of, resource_told, resources_of, resources_told, vens_in_sight}
-use Rattle.adr_queries.specs.Reported.{sees_report}
-use Rattle.adr_queries.specs.Shown.{object_at, sees_owned, told}
+use Rattle.adr_queries.specs.Shown.{object_at, told}
 use Rattle.adr_queries.specs.Subscribed.{subs_in_sight}
 use Rattle.adr_answers.specs.Told.{resource_in_sight, resource_under, ven_in_sight}
 use Rattle.adr_answers.proofs.KeyLemmas.{all_pass, one_row}
-use Rattle.adr_answers.proofs.UnionLemmas.{is_one_of}
 
 -- a resource is told where it is in sight and under the ven that is named
 pub resource_is : (base : Base) (ven : List ℕ) (sight : Sight) (found : Option (ℕ × Resource)) → resource_told base ven sight found ≡ (resource_in_sight sight found >>= resource_under ven base.portfolio)
@@ -91,15 +88,3 @@ own_subs_seen p ven = λ i. map as_sub (filter (λ s. own_alike ven s i) p.subs)
 -- a report, where it is in sight
 abbrev pub report_by : State → ℕ → ReportBody → Bool → Result Answer Refusal
 report_by s n body sees = cond sees (told (object_at s.stamps (key.Report n, content.Report body))) (Err Forbidden)
-
--- a ven sees those on its own resources
-own_resource : (base : Base) (ven n : ℕ) → IsAscending (λ a b. nat_cmp a.0 b.0 ≡ Less) base.portfolio.resources → list_any (λ m. n == m) (map (λ r. r.0) (filter (λ r. r.1.ven == ven) base.portfolio.resources)) ≡ sees_owned base (Of ven) n
-own_resource base ven n up = is_one_of (λ (r : Resource). r.ven == ven) n base.portfolio.resources up ∙ by (at nat_cmp n base.portfolio.resources)
-  where
-    by : (o : Option Resource) → option_map_or (λ r. r.ven == ven) o false ≡ option_map_or (λ owner. owner == ven) (option_map (λ r. r.ven) o) false
-    by None = refl
-    by (Some r) = refl
-
-pub own_reports_seen : (base : Base) (ven : ℕ) → IsAscending (λ a b. nat_cmp a.0 b.0 ≡ Less) base.portfolio.resources
-    → filter (λ r. list_any (λ n. reported_on r == n) (map (λ r. r.0) (filter (λ r. r.1.ven == ven) base.portfolio.resources))) base.portfolio.reports ≡ filter (sees_report base (Of ven)) base.portfolio.reports
-own_reports_seen base ven up = λ i. filter (λ r. own_resource base ven (reported_on r) up i) base.portfolio.reports

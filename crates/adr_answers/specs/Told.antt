@@ -1,6 +1,5 @@
 -- What is told of what was read, each by its own rows.
-use Rattle.std.specs.Prelude.{ℕ, false, not, ◌==◌, List, filter, Option, None, Some, option_map, Result, Ok, Err, if◌then◌else◌}
-use Rattle.std.specs.List.{list_any}
+use Rattle.std.specs.Prelude.{ℕ, false, not, ◌==◌, List, Option, None, Some, option_map, Result, Ok, Err, if◌then◌else◌}
 use Rattle.std.specs.Option.{option_map_or}
 use Rattle.adr_text.specs.Refusals.{◌>>=◌, or_else}
 use Rattle.adr_text.specs.declared.refusal.Refusal.{Refusal}
@@ -17,11 +16,9 @@ use Rattle.adr_state.specs.declared.keys.MirrorKey.{MirrorKey}
 use Rattle.adr_state.specs.declared.keys.ViewKey.{ViewKey}
 use Rattle.adr_state.specs.declared.keys.ViewKey.TheVariants as key
 use Rattle.adr_state.specs.declared.portfolio.Portfolio.{Portfolio}
-use Rattle.adr_state.specs.declared.portfolio.Report.{Report}
 use Rattle.adr_state.specs.declared.portfolio.Resource.{Resource}
 use Rattle.adr_state.specs.declared.state.State.{State}
 use Rattle.adr_state.specs.Keys.{mirror_cmp, at}
-use Rattle.adr_state.specs.Portfolios.{reported_on}
 use Rattle.adr_state.specs.Resources.{resource_object}
 use Rattle.adr_state.specs.Subs.{sub_object}
 use Rattle.adr_state.specs.Vens.{ven_at}
@@ -62,10 +59,6 @@ sub_told sight found = (or_else NotFound found >>= λ s. if sees_owner sight s.1
 -- what a report says, by its number, where the resource that it is on is in sight, and else 8
 abbrev pub body_told : State → Sight → ℕ → ReportBody → Result Answer Refusal
 body_told s sight n body = if sees_owned s.base sight body.head.resource then told (object_at s.stamps (key.Report n, content.Report body)) else Err Forbidden
-
--- of reports, those on one of these resources
-unfoldable pub reports_on_any : List ℕ → List (ℕ × Report) → List (ℕ × Report)
-reports_on_any resources reports = filter (λ r. list_any (λ n. reported_on r == n) resources) reports
 
 -- ---- programs
 

@@ -43,7 +43,7 @@ pub(crate) fn ven_with_id<S: Alter>(
 }
 
 /// The number of the ven of an id, where it is there.
-pub(crate) fn ven_at<S: Alter>(
+pub fn ven_at<S: Alter>(
     alloc: Global,
     tx: &mut Transaction<'_, S>,
     id: &ObjectId,

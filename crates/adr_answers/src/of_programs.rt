@@ -1,4 +1,4 @@
-//! The programs, by the rows of the mirror, each with its stamps.
+//! The programs, by their rows of the mirror, each with its stamps.
 ghost use Rattle.std.specs.Prelude.{◌≡◌, [], ◌∷◌, Ok, IfOk, IfErr};
 ghost use Rattle.std.specs.List.{filter_map};
 ghost use Rattle.adr_text.specs.declared.refusal.Refusal.TheVariants.{Forbidden};
@@ -19,11 +19,11 @@ ghost use Rattle.adr_answers.specs.Told.{program_in};
 use crate::of_program::{program_object, program_stamps};
 use crate::sight::sight_in;
 use crate::told::listed;
-use adr_db_mirror::read_mirror;
+use adr_db_mirror::read_kind;
 use adr_objects::{Body, Kind};
 use adr_queries::{Answer, Object, Page, Role};
 use adr_state::{Mark, MirrorKey, push_some};
-use adr_text::{Name, ObjectId, Refusal, Table};
+use adr_text::{Name, ObjectId, Refusal, Rows};
 use adr_view::Sight;
 use sqlite::{Alter, Transaction};
 use std::alloc::{AllocError, Global};
@@ -40,16 +40,16 @@ fn program_in(key: &MirrorKey, mark: &Mark) -> Result<Option<(ObjectId, Name)>, 
     }
 }
 
-// The programs that are live, by id.
+// The programs among what is known of upstream keys that are live, in their order.
 fn programs_in(
     alloc: Global,
-    mirror: &Table<MirrorKey, Mark>,
+    known: Rows<(MirrorKey, Mark)>,
 ) -> Result<Vec<(ObjectId, Name)>, AllocError>
-    ensures { IfOk result (λ all. all.items ≡ filter_map program_in mirror.now) }
+    ensures { IfOk result (λ all. all.items ≡ filter_map program_in known) }
 {
     let mut all = Vec::new(alloc);
-    for (key, mark) in mirror.iter() {
-        push_some(&mut all, program_in(key, mark)?)?;
+    'known: for row in known.into_vec() {
+        push_some(&mut all, program_in(&row.0, &row.1)?)?;
     }
     Ok(all)
 }
@@ -81,8 +81,8 @@ fn objects_in_sight<S: Alter>(
     ensures finds { Finds S.Store tx.old.conn.now tx.new.conn.now (λ kept all. (sight : Sight) → all.items ≡ objects_in_sight (image_kept kept) kind.Program sight) result }
     ensures refused { IfErr result IsOfStore }
 {
-    let mirror = read_mirror(alloc, tx)?;
-    let programs = programs_in(alloc, &mirror)?;
+    let known = read_kind(alloc, tx, Kind::Program)?;
+    let programs = programs_in(alloc, known)?;
     with_stamps(alloc, tx, programs)
 }
 
@@ -102,8 +102,8 @@ fn programs_seen<S: Alter>(
     Ok(listed(alloc, page, found)?)
 }
 
-/// One page of the programs, which whoever sees anything sees, or `Forbidden`. The mirror is read for it, and of the rest
-/// the stamps of programs alone.
+/// One page of the programs, which whoever sees anything sees, or `Forbidden`. Of the mirror the rows of programs are read for
+/// it, and of the rest the stamps of programs alone.
 pub fn programs<S: Alter>(
     alloc: Global,
     tx: &mut Transaction<'_, S>,

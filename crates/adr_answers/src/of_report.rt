@@ -55,12 +55,8 @@ fn sees_owned<S: Alter>(
     Ok(is_of(ven, resource))
 }
 
-/// What a report says, with the stamps of its key, where it has some.
-pub(crate) fn report_object(
-    number: Number,
-    body: ReportBody,
-    stamps: Option<Stamps>,
-) -> Option<Object>
+// What a report says, with the stamps of its key, where it has some.
+fn report_object(number: Number, body: ReportBody, stamps: Option<Stamps>) -> Option<Object>
     ensures { result ≡ option_and_then (object_of (key.Report number) (content.Report body)) stamps }
 {
     match stamps {
@@ -73,8 +69,8 @@ pub(crate) fn report_object(
     }
 }
 
-/// What a report says, once more.
-pub(crate) fn copy_of(body: &ReportBody) -> Result<ReportBody, AllocError>
+// What a report says, once more.
+fn copy_of(body: &ReportBody) -> Result<ReportBody, AllocError>
     ensures { IfOk result (λ copy. copy ≡ body.now) }
 {
     body.clone()

@@ -1,10 +1,10 @@
 //! The table `mirror`: what is known of each upstream key.
-ghost use Rattle.std.specs.Prelude.{◌≡◌, ⊤, [], option_map, IfOk, OnOk, IfErr};
+ghost use Rattle.std.specs.Prelude.{◌≡◌, ◌==◌, ⊤, [], ◌∷◌, filter, option_map, IfOk, OnOk, IfErr};
 ghost use Rattle.sqlite.specs.Values.{bound_value};
 ghost use Rattle.sqlite_value.specs.Value.{owned};
 ghost use Rattle.adr_state.specs.Keys.{mirror_cmp, at};
 ghost use Rattle.adr_sql.specs.Calls.{LeavesLent};
-ghost use Rattle.adr_db.specs.Rows.{key_row, mark_columns, mark_row, columns_row, program_cell};
+ghost use Rattle.adr_db.specs.Rows.{number, kind_number, key_row, mark_columns, mark_row, columns_row, program_cell};
 ghost use Rattle.adr_db.specs.Kept.{IsMark, with_mark};
 ghost use Rattle.adr_db.specs.Calls.{LeavesKept, Finds, IsOfStore};
 ghost use Rattle.adr_db.specs.Refusals.{RefusesToPut, RefusesToPutText, RefusesToShow, CannotReadFirst, CannotReadAll};
@@ -14,9 +14,9 @@ use adr_db::MarkColumns;
 use adr_db::cells::{kind_number, number};
 use adr_db::reading::{all_of, first_in, first_of, table_of};
 use adr_db::statement::{rows_of, run};
-use adr_objects::{Body, canonical};
+use adr_objects::{Body, Kind, canonical};
 use adr_state::{Mark, MirrorKey};
-use adr_text::{Refusal, Table};
+use adr_text::{Refusal, Rows, Table};
 use sqlite::types::{ToSql, ValueRef};
 use sqlite::{Alter, Transaction};
 use std::alloc::{AllocError, Global};
@@ -26,6 +26,9 @@ const PUT: &str =
 
 const READ_ONE: &str =
     "SELECT kind, id, state, moment, body, program FROM mirror WHERE kind = ?1 AND id = ?2 ORDER BY kind, id";
+
+const READ_OF: &str =
+    "SELECT kind, id, state, moment, body, program FROM mirror WHERE kind = ?1 ORDER BY kind, id";
 
 const READ_ALL: &str =
     "SELECT kind, id, state, moment, body, program FROM mirror ORDER BY kind, id";
@@ -136,6 +139,20 @@ pub fn read_known<S: Alter>(
         READ_ONE,
         &[kind_number(key.kind).to_sql(), key.id.as_str().to_sql()],
     )
+}
+
+/// What is known of the keys of one kind, in the order of their ids. No row of the other kind is read.
+pub fn read_kind<S: Alter>(
+    alloc: Global,
+    tx: &mut Transaction<'_, S>,
+    kind: Kind,
+) -> Result<Rows<(MirrorKey, Mark)>, Refusal>
+    ensures lent { LeavesLent S.Store tx.old.conn tx.new.conn result }
+    ensures finds { Finds S.Store tx.old.conn.now tx.new.conn.now (λ kept marks. marks ≡ filter (λ m. kind_number m.0.kind == kind_number kind) kept.mirror) result }
+    ensures refused { IfErr result IsOfStore }
+    ensures fails { RefusesToShow S.Store tx.old.conn.now tx.new.conn.now READ_OF.now (number (kind_number kind) ∷ []) (CannotReadAll IsEntry ReadsEntry) result }
+{
+    all_of(alloc, tx, READ_OF, &[kind_number(kind).to_sql()])
 }
 
 /// The whole mirror as the map that it is.

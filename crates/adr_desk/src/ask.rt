@@ -10,10 +10,11 @@ ghost use Rattle.adr_desk.specs.Transactions.{IsDropped};
 
 use crate::frame::begin;
 use crate::listing::events;
+use crate::report_listing::reports;
 use crate::scans::first_missed;
 use crate::totals::counted;
 use adr_answers::{
-    program, programs, report, reports, resource, resources, shares, sight_in, sub, subs, ven, vens,
+    program, programs, report, resource, resources, shares, sight_in, sub, subs, ven, vens,
 };
 use adr_db_state::read_state;
 use adr_machine::{Answer, Query, Role, is_operator, reply, rollup_told};
@@ -79,8 +80,8 @@ fn rolled_up<S: Alter>(
     rollup_told(copy_of(event)?, found)
 }
 
-/// The reply to a query, on a lent transaction, by the rows of what is asked for. A listing of events and the keys that a scan
-/// missed, which `ask_in` answers in another way, are answered by all there is.
+/// The reply to a query, on a lent transaction, by the rows of what is asked for. Listings of events and of reports and the keys
+/// that a scan missed, which `ask_in` answers in another way, are answered by all there is.
 fn asked<S: Alter>(
     alloc: Global,
     tx: &mut Transaction<'_, S>,
@@ -101,7 +102,7 @@ fn asked<S: Alter>(
         Query::Resources { role, ven, page } => resources(alloc, tx, role, ven, *page),
         Query::Resource { role, ven, id } => resource(alloc, tx, role, ven, id),
         Query::Shares { role, program } => shares(alloc, tx, role, program),
-        Query::Reports { role, filter, page } => reports(alloc, tx, role, filter, *page),
+        Query::Reports { .. } => replied(alloc, tx, query),
         Query::Report { role, id } => report(alloc, tx, role, id),
         Query::Rollup { role, event } => rolled_up(alloc, tx, role, event),
         Query::Subs { role, filter, page } => subs(alloc, tx, role, filter, *page),
@@ -141,6 +142,7 @@ pub(crate) fn ask_in<S: Alter>(
 {
     match query {
         Query::Events { role, filter, page } => events(alloc, conn, role, filter, *page),
+        Query::Reports { role, filter, page } => reports(alloc, conn, role, filter, *page),
         Query::Probes { limit } => first_missed(alloc, conn, *limit),
         _ => asked_at_once(alloc, conn, query),
     }

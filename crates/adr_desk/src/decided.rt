@@ -21,8 +21,8 @@ use adr_touched::Touched;
 use sqlite::{Alter, Transaction};
 use std::alloc::Global;
 
-/// What the command decides, where that is the next number, what comes of it, and what it touched. The numbers of the node are handed in, and
-/// are left as they have to be put; a number that is drawn is not drawn yet.
+/// What the command decides, where that is the next number, what comes of it, and what it touched. The numbers of the node are
+/// handed in, and are left as they have to be put; a number that is drawn is not drawn yet.
 pub(crate) fn carry_out<S: Alter>(
     alloc: Global,
     tx: &mut Transaction<'_, S>,

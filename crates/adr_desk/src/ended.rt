@@ -25,7 +25,8 @@ use adr_touched::Touched;
 use sqlite::{Alter, Connection, Transaction};
 use std::alloc::Global;
 
-// The end of a scan that missed these keys, but for the numbers of the node, which are handed in, and are left as they have to be put.
+// The end of a scan that missed these keys, but for the numbers of the node, which are handed in, and are left as they have to
+// be put.
 fn shut<S: Alter>(
     alloc: Global,
     tx: &mut Transaction<'_, S>,

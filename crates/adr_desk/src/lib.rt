@@ -16,6 +16,7 @@ mod kept;
 pub mod laws;
 mod listing;
 pub mod ready;
+mod report_listing;
 mod reports;
 pub mod restart;
 mod scans;

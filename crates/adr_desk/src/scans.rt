@@ -59,8 +59,8 @@ fn keys_of<S: Alter>(
     probes(alloc, conn, meta, limit)
 }
 
-/// The first keys that an open scan missed, or `NoScan`. They are read row by row, as far as the limit goes. Whatever is begun on the way is
-/// dropped.
+/// The first keys that an open scan missed, or `NoScan`. They are read row by row, as far as the limit goes. Whatever is begun on
+/// the way is dropped.
 pub(crate) fn first_missed<S: Alter>(
     alloc: Global,
     conn: &mut Connection<S>,

@@ -45,8 +45,8 @@ pub(crate) fn put_changed<S: Alter>(
     put_meta(tx, after)
 }
 
-/// What the command decides is carried out, and a number drawn where one is wanted; with what it touched. The numbers of the node are handed in,
-/// and are left as they have to be put.
+/// What the command decides is carried out, and a number drawn where one is wanted; with what it touched. The numbers of the
+/// node are handed in, and are left as they have to be put.
 fn numbered<S: Alter>(
     alloc: Global,
     tx: &mut Transaction<'_, S>,

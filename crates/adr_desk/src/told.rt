@@ -15,9 +15,9 @@ use adr_touched::Touched;
 use sqlite::{Alter, Transaction};
 use std::alloc::Global;
 
-// The entries of subscriptions that are not there are dropped, behind a command by which one may have gone. Behind another none is
-// looked for: where each entry had its own before, it has it still. The numbers of the node are handed in, and are left as they have
-// to be put.
+// The entries of subscriptions that are not there are dropped, behind a command by which one may have gone. Behind another none
+// is looked for: where each entry had its own before, it has it still. The numbers of the node are handed in, and are left as
+// they have to be put.
 fn drop_gone<S: Alter>(
     alloc: Global,
     tx: &mut Transaction<'_, S>,

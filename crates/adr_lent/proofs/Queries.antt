@@ -1,7 +1,8 @@
 -- What the queries on the table `shown` are, and what they select.
 use Rattle.std.proofs.Common.{◌≡◌, ℕ, Bool, List, [], ◌∷◌, ◌++◌, Some, None, codes, map, filter, refl, ap, ◌∙◌}
-use Rattle.sqlite_sql.specs.Query.{Query}
+use Rattle.sqlite_sql.specs.Query.{Join, Query}
 use Rattle.adr_db.proofs.Common.{Null, Row, end, Ghosts, Held, state, State, Shown, understood, everything, IsSelectText, whole_rows, first_columns, first_runs, passes, is_text, filter-map, map-map, cells}
+use Rattle.adr_sql.proofs.Common.{Table}
 use Rattle.adr_sql.proofs.KeyedMaps.{read_all_runs}
 use Rattle.adr_db.specs.Tables.{schema}
 use Rattle.adr_db.specs.Kept.{Kept, Keeps, contents_of}
@@ -16,9 +17,9 @@ use Rattle.adr_lent.specs.Pages.{ShownEntry, rows_for}
 use Rattle.adr_lent.proofs.Streams.{lent_begin}
 
 -- a query that shows this, of whatever is kept, selects it
-module _ {S : Type 0} (g : Ghosts S) (sql : List ℕ) (params : Row) (q : Query) (selection : Kept → List Row) (text : IsSelectText schema shown q end sql)
+module _ {S : Type 0} (g : Ghosts S) (sql : List ℕ) (params : Row) {table : Table} {rest : Join} (q : Query) (selection : Kept → List Row) (text : IsSelectText schema table q rest sql)
     (means : (old new : State) (rows : List Row) (kept : Kept) → Shown sql params old new rows → Keeps kept old → rows ≡ selection kept) where
-  selects : (before : Held S) → Selects g sql params selection before
+  pub selects : (before : Held S) → Selects g sql params selection before
   selects before = record {
     begins = λ kept was now lent h.
         let it = lent_begin g sql params before now lent schema q text.names was.rows.has text.command h in

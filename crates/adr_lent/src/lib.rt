@@ -1,10 +1,13 @@
-//! Rows of the tables, lent one at a time by a borrowed connection, and pages of what is kept of shown events.
+//! Rows of the tables, lent one at a time by a borrowed connection, pages of those that are wanted, and pages of what is kept
+//! of shown events.
 #![tactic(auto)]
 
+mod cut;
 mod page;
 mod shown;
 mod stream;
 
+pub use cut::{Wanting, lent_page, offer};
 pub use page::shown_page;
 pub use shown::{lend_shown, lend_shown_to};
 pub use stream::{lend, next_of};

@@ -1,9 +1,8 @@
 -- The rows that are kept of shown events tell what the view does.
-use Rattle.std.proofs.Common.{◌≡◌, ℕ, ◌==◌, Bool, true, false, cond, ◌&&◌, List, [], ◌∷◌, ◌++◌, map, filter, take, drop, Option, Some, None, Ok, Err, refl, sym, ap, ap₂, subst, ◌∙◌}
+use Rattle.std.proofs.Common.{◌≡◌, ℕ, ◌==◌, Bool, true, false, cond, ◌&&◌, List, [], ◌∷◌, ◌++◌, filter, Option, Some, None, Ok, Err, refl, sym, ap, ap₂, subst, ◌∙◌}
 use Rattle.std.specs.Prelude.{is_some, option_map, option_and_then, Result}
 use Rattle.std.specs.List.{All, Contains, filter_map, cons_option}
 use Rattle.std.specs.Option.{option_map_or}
-use Rattle.std.proofs.lemmas.List.{take-map, drop-map}
 use Rattle.std.proofs.lemmas.List.Elements.{All-append, All-cons, All-contains, All-filter, All-head, All-nil, All-tail, filter-append, filter_map-append}
 use Rattle.sqlite.specs.State as sql
 use Rattle.adr_text.specs.declared.refusal.Refusal.{Refusal}
@@ -49,33 +48,9 @@ use Rattle.adr_kept_view.proofs.RowLemmas.{at-shown_rows}
 use Rattle.adr_held.specs.Held.{kept_of, HoldsState}
 use Rattle.adr_held.proofs.HeldLemmas.{held_keeps}
 use Rattle.adr_lent.specs.Pages.{kept_for, wants_row}
+use Rattle.adr_lent.proofs.Cuts.{Makes, part_made}
 use Rattle.adr_pages.specs.Objects.{event_key, object_read, object_kept, shown_kept, event_shown, event_told, event_named}
 use Rattle.adr_pages.specs.Laws.{EventsAreTheirRows, EventIsItsRow}
-
--- ---- lists of what is there
-
-somes_back : {A : Type 0} (xs : List A) → filter_map (λ (o : Option A). o) (map Some xs) ≡ xs
-somes_back [] = refl
-somes_back (x ∷ xs) = ap (λ ys. x ∷ ys) (somes_back xs)
-
--- where something is made of each, what is made of a part is that part of what is made of all
-module _ {A B : Type 0} (g : A → Option B) where
-  abbrev Makes : A → Type 0
-  Makes x = is_some (g x) ≡ true
-
-  each_made : (xs : List A) → All Makes xs → map Some (filter_map g xs) ≡ map g xs
-  each_made [] all = refl
-  each_made (x ∷ xs) all = by (g x) (All-head Makes x xs all) (each_made xs (All-tail Makes x xs all))
-    where
-      by : (o : Option B) → is_some o ≡ true → map Some (filter_map g xs) ≡ map g xs → map Some (cons_option o (filter_map g xs)) ≡ o ∷ map g xs
-      by None is rest = absurd cc
-      by (Some y) is rest = ap (λ (os : List (Option B)). Some y ∷ os) rest
-
-  pub part_made : (skip limit : ℕ) (xs : List A) (ys : List B) → All Makes xs → map Some ys ≡ map g (take limit (drop skip xs)) → take limit (drop skip (filter_map g xs)) ≡ ys
-  part_made skip limit xs ys all are =
-      sym (somes_back (take limit (drop skip (filter_map g xs))))
-      ∙ ap (filter_map (λ (o : Option B). o)) (sym (take-map Some limit (drop skip (filter_map g xs))) ∙ ap (take limit) (sym (drop-map Some skip (filter_map g xs)) ∙ ap (drop skip) (each_made xs all) ∙ drop-map g skip xs) ∙ take-map g limit (drop skip xs) ∙ sym are)
-      ∙ somes_back ys
 
 kept_for_both : (ven : Option ℕ) (xs ys : List (ShownKey × ShownColumns)) → kept_for ven (xs ++ ys) ≡ kept_for ven xs ++ kept_for ven ys
 kept_for_both None xs ys = refl

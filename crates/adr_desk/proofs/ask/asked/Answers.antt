@@ -4,7 +4,7 @@ use Rattle.adr_db.proofs.Common.{Forbidden}
 use Rattle.adr_text.specs.declared.refusal.Refusal.TheVariants.{NotFound}
 use Rattle.adr_queries.specs.Listings.{vens_reply, ven_reply, resources_reply, resource_reply, shares_reply}
 use Rattle.adr_queries.specs.Replies.{reply}
-use Rattle.adr_queries.specs.Reported.{reports_reply, report_reply}
+use Rattle.adr_queries.specs.Reported.{report_reply}
 use Rattle.adr_queries.specs.Shown.{programs_reply, program_reply}
 use Rattle.adr_queries.specs.Subscribed.{subs_reply, sub_reply}
 use Rattle.adr_desk.proofs.AskLemmas.{looked_up, refused_up, each_listed}
@@ -43,10 +43,6 @@ returns-in-Resource-clause-tells g c = rw c.in-Resource.is (looked_up g.S.Store 
 pub returns-in-Shares-clause-tells : goal.returns-in-Shares-clause-tells
 unfolding reply
 returns-in-Shares-clause-tells g c = rw c.in-Shares.is (looked_up g.S.Store c.args.tx.now.conn.now c.shares.new.tx.conn.now (λ s. shares_reply s.base c.in-Shares.role c.in-Shares.program) c.shares.result c.shares.ensures.finds)
-
-pub returns-in-Reports-clause-tells : goal.returns-in-Reports-clause-tells
-unfolding reply
-returns-in-Reports-clause-tells g c = rw c.in-Reports.is (looked_up g.S.Store c.args.tx.now.conn.now c.reports.new.tx.conn.now (λ s. reports_reply s c.in-Reports.role c.in-Reports.filter c.in-Reports.page) c.reports.result c.reports.ensures.finds)
 
 pub returns-in-Report-clause-tells : goal.returns-in-Report-clause-tells
 unfolding reply
@@ -89,10 +85,6 @@ returns-in-Resource-clause-refuses g c = rw c.in-Resource.is (refused_up g.S.Sto
 pub returns-in-Shares-clause-refuses : goal.returns-in-Shares-clause-refuses
 unfolding reply
 returns-in-Shares-clause-refuses g c = rw c.in-Shares.is (refused_up g.S.Store c.args.tx.now.conn.now c.shares.new.tx.conn.now (λ s. shares_reply s.base c.in-Shares.role c.in-Shares.program) c.shares.result c.shares.ensures.refuses)
-
-pub returns-in-Reports-clause-refuses : goal.returns-in-Reports-clause-refuses
-unfolding reply
-returns-in-Reports-clause-refuses g c = rw c.in-Reports.is (refused_up g.S.Store c.args.tx.now.conn.now c.reports.new.tx.conn.now (λ s. reports_reply s c.in-Reports.role c.in-Reports.filter c.in-Reports.page) c.reports.result c.reports.ensures.refuses)
 
 pub returns-in-Report-clause-refuses : goal.returns-in-Report-clause-refuses
 unfolding reply

@@ -1,0 +1,4 @@
+pub mod Queries
+pub mod UnionLemmas
+pub mod OwnLemmas
+pub mod ReportLemmas

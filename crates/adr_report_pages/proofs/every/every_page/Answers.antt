@@ -1,0 +1,34 @@
+use Rattle.std.proofs.Common.{◌≡◌, take, drop, IfOk, rules}
+use Rattle.adr_view.specs.declared.sight.Sight.TheVariants.{All}
+use Rattle.adr_db.proofs.Common.{state, State, HasCleanDisk}
+use Rattle.adr_db.specs.Admitted.{ReadsReportEntry}
+use Rattle.adr_db.specs.Kept.{Kept, Keeps}
+use Rattle.adr_db.proofs.Results.{ok_then}
+use Rattle.adr_lent.proofs.Streams.{clean_before, once_dropped}
+use Rattle.adr_lent.proofs.Pages.{paged}
+use Rattle.adr_report_pages.specs.Columns.{columns_in_sight, wants_columns, wanted_among}
+use Rattle.adr_report_pages.proofs.Queries.{columns_row, every_selected, one_read}
+use Rattle.adr_report_pages.proofs.every.every_page.Goals as goal
+
+pub returns-clause-finds : goal.returns-clause-finds
+returns-clause-finds g c clean =
+    let old = c.args.conn.now in
+    let now = c.lent_page.new.rows.conn.now in
+    let begun = c.in-Ok.rows.conn.now in
+    let f = c.args.filter.now in
+    let page = c.args.page in
+    let late : HasCleanDisk (state g.S.Store now) = search rules in
+    let first = c.in-Ok.ensures.begun.lent (clean_before (state g.S.Store begun) (state g.S.Store now) _ c.lent_page.ensures.stands.crash late) in
+    once_dropped (λ (s : State). IfOk c.lent_page.result (λ rows. (kept : Kept) → Keeps kept (state g.S.Store old) → (rows ≡ take page.limit (drop page.skip (wanted_among f (columns_in_sight kept All)))) × Keeps kept s)) (state g.S.Store now) _
+    (ok_then c.lent_page.result
+    (λ rows lends. paged ReadsReportEntry columns_row one_read g.S.Store (λ e. wants_columns f e.1) page (λ kept. columns_in_sight kept All) old begun now rows first (every_selected g.S.Store _ _ old c.in-Ok.ensures.selects) lends)
+    (c.lent_page.ensures.lends late))
+    (search rules)
+
+pub returns-clause-was_open : goal.returns-clause-was_open
+returns-clause-was_open g c clean =
+    let now = c.lent_page.new.rows.conn.now in
+    let begun = c.in-Ok.rows.conn.now in
+    let late : HasCleanDisk (state g.S.Store now) = search rules in
+    let first = c.in-Ok.ensures.begun.lent (clean_before (state g.S.Store begun) (state g.S.Store now) _ c.lent_page.ensures.stands.crash late) in
+    ok_then c.lent_page.result (λ rows lends. first.same.0.was_open) (c.lent_page.ensures.lends late)
