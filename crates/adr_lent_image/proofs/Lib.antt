@@ -1,0 +1,4 @@
+pub mod Gathered
+pub mod Queries
+pub mod ReadLemmas
+pub mod MergeLemmas

@@ -1,0 +1,54 @@
+-- The rows of each table, in the order of its key.
+use Rattle.std.specs.Prelude.{List, [], ◌∷◌, map}
+use Rattle.std.specs.List.{flat_map}
+use Rattle.sqlite.specs.Order.{Row}
+use Rattle.adr_db.specs.Kept.{Kept}
+use Rattle.adr_db.specs.Rows.{meta_columns, mark_row, key_row, ven_row, resource_row, share_row, stamp_row, report_row, value_rows, sub_row, remote_row, entry_row}
+
+-- the one row of the numbers of the node
+abbrev pub rows_of_meta : Kept → List Row
+rows_of_meta kept = meta_columns kept.meta ∷ []
+
+-- those of what is known of upstream keys
+abbrev pub rows_of_marks : Kept → List Row
+rows_of_marks kept = map mark_row kept.mirror
+
+-- those of the keys that were polled
+abbrev pub rows_of_polled : Kept → List Row
+rows_of_polled kept = map key_row kept.polled
+
+-- those of the vens
+abbrev pub rows_of_vens : Kept → List Row
+rows_of_vens kept = map ven_row kept.portfolio.vens
+
+-- those of the resources
+abbrev pub rows_of_resources : Kept → List Row
+rows_of_resources kept = map resource_row kept.portfolio.resources
+
+-- those of the shares
+abbrev pub rows_of_shares : Kept → List Row
+rows_of_shares kept = map share_row kept.portfolio.shares
+
+-- those of the stamps of what is shown
+abbrev pub rows_of_stamps : Kept → List Row
+rows_of_stamps kept = map stamp_row kept.stamps
+
+-- those of the reports, without their intervals
+abbrev pub rows_of_reports : Kept → List Row
+rows_of_reports kept = map report_row kept.portfolio.reports
+
+-- those of the intervals of all reports, by the numbers of the reports and then by their places
+abbrev pub rows_of_intervals : Kept → List Row
+rows_of_intervals kept = flat_map value_rows kept.portfolio.reports
+
+-- those of the subscriptions
+abbrev pub rows_of_subs : Kept → List Row
+rows_of_subs kept = map sub_row kept.portfolio.subs
+
+-- those of the utility's ids of reports
+abbrev pub rows_of_remotes : Kept → List Row
+rows_of_remotes kept = map remote_row kept.remotes
+
+-- those of the entries that wait
+abbrev pub rows_of_entries : Kept → List Row
+rows_of_entries kept = map entry_row kept.entries

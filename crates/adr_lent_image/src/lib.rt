@@ -1,0 +1,26 @@
+//! The whole state of the tables, each table read row by row as its rows are lent, one table after another.
+#![tactic(auto)]
+
+mod gathering;
+mod groups;
+mod image;
+mod intervals;
+mod marks;
+mod numbers;
+mod reports;
+mod sites;
+mod stamps;
+mod subs;
+mod waits;
+
+pub use gathering::{Gathering, gather_all, lent_table};
+pub use groups::Waiting;
+pub use image::{image_of, lent_base, lent_outbox, lent_portfolio};
+pub use intervals::{lend_intervals, lent_intervals};
+pub use marks::{lend_marks, lend_polled, lent_marks, lent_polled};
+pub use numbers::{lend_meta, lent_meta};
+pub use reports::{lend_reports, lent_reports};
+pub use sites::{lend_resources, lend_shares, lend_vens, lent_resources, lent_shares, lent_vens};
+pub use stamps::{lend_stamps, lent_stamps};
+pub use subs::{lend_subs, lent_subs};
+pub use waits::{lend_entries, lend_remotes, lent_entries, lent_remotes};

@@ -1,0 +1,4 @@
+pub mod Pages
+pub mod Queries
+pub mod NumberLemmas
+pub mod SiteLemmas
