@@ -135,8 +135,33 @@ function missing(rollup) {
   return rollup.resources[0].intervals.map((it) => ({ id: it.id, used: valueOf(it, "USAGE"), names: it.payloads.find((one) => one.type === "MISSING_RESOURCES")?.values ?? [] }));
 }
 
+// Asks whether something is to be done, which that word names.
+async function sure(what, word = "Remove") {
+  const box = by("ask");
+  box.querySelector("p").textContent = what;
+  box.querySelector("[value=yes]").textContent = word;
+  box.showModal();
+  await new Promise((done) => box.addEventListener("close", done, { once: true }));
+  return box.returnValue === "yes";
+}
+
+// Who takes part in an event as it is kept, or what keeps it.
+function keeping(event, kept, room) {
+  if (kept) return table("Fixed: these take part with these shares, whatever shares, names and targets say later", ["Resource", "Share"], kept.shares.map((it) => [it.resourceID, it.share]), [1]);
+  return make("button", { type: "button", className: "fix", onclick: async () => {
+    const name = event.name ?? event.id;
+    if (!(await sure(`Fix who takes part in ${name}, and with which shares? Nothing undoes it but another event.`, "Fix"))) return;
+    const fixed = await attempt("", () => ask("PUT", `/frozen/${text(event.id)}`, {}));
+    if (!fixed) return;
+    tell(`The shares of ${many(fixed.shares.length, "resource")} are kept for ${name}.`);
+    while (room.childElementCount > 1) room.lastElementChild.remove();
+    await attempt("", () => showEvent(event, room));
+  } }, "Fix its shares");
+}
+
 async function showEvent(event, room) {
   const rollup = await ask("GET", `/rollups/${text(event.id)}`).catch(() => null);
+  const kept = await ask("GET", `/frozen/${text(event.id)}`).catch(() => null);
   const totals = event.intervals.map((_, at) => sum(event.parts.map((it) => it.values[at])));
   const canvas = make("canvas", { role: "img" });
   canvas.setAttribute("aria-label", `Parts of ${event.parts.length} resources in ${event.intervals.length} intervals; the table below has them all`);
@@ -149,6 +174,7 @@ async function showEvent(event, room) {
     make("div", { className: "chart" }, canvas),
     table("Setpoint and usage", ["Interval", "Setpoint", "Usage reported", "Missing", "Who"], facts, [0, 1, 2, 3]),
     table("Parts", ["Resource", "Name", ...event.intervals.map((it) => `interval ${it.id}`)], event.parts.map((it) => [it.resource, it.name, ...it.values.map((one) => one ?? "")]), event.intervals.map((_, at) => at + 2)),
+    keeping(event, kept, room),
   );
   draw(canvas, bars(event, rollup));
 }
@@ -174,15 +200,6 @@ async function readEvents() {
 }
 
 // ---- portfolio
-
-// Asks whether something is to go.
-async function sure(what) {
-  const box = by("ask");
-  box.querySelector("p").textContent = what;
-  box.showModal();
-  await new Promise((done) => box.addEventListener("close", done, { once: true }));
-  return box.returnValue === "yes";
-}
 
 function rename(name, work) {
   const field = make("input", { value: name, required: true, maxLength: 128, ariaLabel: `New name of ${name}` });

@@ -1,45 +1,19 @@
--- Rows by number: that of one number among all, and those of some numbers.
+-- Rows by number: those of some numbers among all.
 use Rattle.std.proofs.Common.{◌≡◌, ℕ, Bool, true, false, cond, List, [], ◌∷◌, ◌++◌, map, filter, Option, Some, None, Less, refl, sym, ap, ap₂, ◌∙◌, arith}
-use Rattle.std.specs.Prelude.{◌==◌, option_map}
+use Rattle.std.specs.Prelude.{option_map}
 use Rattle.std.specs.List.{cons_option, filter_map, AllByRecursion}
 use Rattle.std.specs.Option.{option_to_list}
 use Rattle.std.specs.Ordering.{nat_cmp, is_eq}
-use Rattle.std.proofs.lemmas.Bool.{eqb-true}
 use Rattle.std.proofs.lemmas.Bool.Decides.{nat_tests}
 use Rattle.std.proofs.lemmas.List.Elements.{filter_map-append}
 use Rattle.std.proofs.lemmas.Cmp.{nat_cmp_total, tied_itself}
 use Rattle.adr_db.proofs.Common.{IsAscending, at}
 
--- numbers that are one, and numbers of which one stands before the other
-alike : (n m : ℕ) → (m == n) ≡ true → is_eq (nat_cmp n m) ≡ true
-alike n m is = grind (arith, nat_tests)
-
-unlike : (n m : ℕ) → (m == n) ≡ false → is_eq (nat_cmp n m) ≡ false
-unlike n m is = grind (arith, nat_tests)
-
-before : (n m : ℕ) → nat_cmp n m ≡ Less → (m == n) ≡ false
-before n m is = grind (arith, nat_tests)
-
+-- numbers of which one stands before the other
 behind : (n m : ℕ) → nat_cmp n m ≡ Less → is_eq (nat_cmp m n) ≡ false
 behind n m is = grind (arith, nat_tests)
 
 module _ {V : Type 0} where
-  -- none of those behind a number has it
-  none_has : (n : ℕ) (es : List (ℕ × V)) → AllByRecursion (λ e. nat_cmp n e.0 ≡ Less) es → filter (λ e. e.0 == n) es ≡ []
-  none_has n [] h = refl
-  none_has n (e ∷ es) h = rw (before n e.0 h.0) (none_has n es h.1)
-
-  -- the row of a number is the one that has it
-  pub one_row : (n : ℕ) (es : List (ℕ × V)) → IsAscending (λ a b. nat_cmp a.0 b.0 ≡ Less) es → filter (λ e. e.0 == n) es ≡ option_to_list (option_map (λ v. (n, v)) (at nat_cmp n es))
-  one_row n [] up = refl
-  one_row n (e ∷ es) up = by (e.0 == n) refl (one_row n es up.1)
-    where
-      by : (b : Bool) → (e.0 == n) ≡ b → filter (λ x. x.0 == n) es ≡ option_to_list (option_map (λ v. (n, v)) (at nat_cmp n es)) → cond b (e ∷ filter (λ x. x.0 == n) es) (filter (λ x. x.0 == n) es) ≡ option_to_list (option_map (λ v. (n, v)) (cond (is_eq (nat_cmp n e.0)) (Some e.1) (at nat_cmp n es)))
-      by true is rest =
-          let same : e.0 ≡ n = eqb-true e.0 n is in
-          rw (alike n e.0 is) (ap₂ ◌∷◌ (λ i. (same i, e.1)) (ap (λ m. filter (λ x. x.0 == m) es) (sym same) ∙ none_has e.0 es up.0))
-      by false is rest = rw (unlike n e.0 is) rest
-
   -- rows that stand behind another are found behind it
   later : (e : ℕ × V) (all es : List (ℕ × V)) → AllByRecursion (λ x. nat_cmp e.0 x.0 ≡ Less) es → AllByRecursion (λ x. at nat_cmp x.0 all ≡ Some x.1) es → AllByRecursion (λ x. at nat_cmp x.0 (e ∷ all) ≡ Some x.1) es
   later e all [] rest found = tt
@@ -61,11 +35,6 @@ module _ {V : Type 0} where
     -- the rows of the numbers of those that pass are those that pass
     pub rows_of_numbers : (es : List (ℕ × V)) → IsAscending (λ a b. nat_cmp a.0 b.0 ≡ Less) es → filter_map (λ n. option_map (λ v. tell (n, v)) (at nat_cmp n es)) (map (λ e. e.0) (filter passes es)) ≡ map tell (filter passes es)
     rows_of_numbers es up = by_numbers es es (each_found es up)
-
-  -- all pass
-  pub all_pass : (es : List (ℕ × V)) → filter (λ e. true) es ≡ es
-  all_pass [] = refl
-  all_pass (e ∷ es) = ap (λ rest. e ∷ rest) (all_pass es)
 
 -- one more is pushed to what was made of those so far, where something is made of it
 pub pushed : {X Y : Type 0} (h : X → Option Y) (xs : List X) (x : X) (before after : List Y) (made : Option Y) → after ≡ before ++ option_to_list made → before ≡ filter_map h xs → made ≡ h x → after ≡ filter_map h (xs ++ x ∷ [])

@@ -24,10 +24,12 @@ use Rattle.adr_state.specs.Subs.{sub_object}
 use Rattle.adr_state.specs.Vens.{ven_at}
 use Rattle.adr_view.specs.declared.sight.Sight.{Sight}
 use Rattle.adr_view.specs.declared.view.Content.TheVariants as content
+use Rattle.adr_view.specs.Frozen.{frozen_pairs}
 use Rattle.adr_view.specs.Sights.{sees_ven, sees_owner}
 use Rattle.adr_queries.specs.declared.answer.Answer.{Answer}
 use Rattle.adr_queries.specs.declared.answer.Answer.TheVariants as answer
 use Rattle.adr_queries.specs.declared.answer.Object.TheVariants as object
+use Rattle.adr_queries.specs.Frozen.{frozen_object}
 use Rattle.adr_queries.specs.Shown.{object_at, sees_owned, told}
 
 -- ---- resources
@@ -44,10 +46,6 @@ resource_of ven r = if option_map_or (λ n. n == r.1.ven) ven false then Ok (ans
 abbrev pub resource_under : List ℕ → Portfolio → ℕ × Resource → Result Answer Refusal
 resource_under ven p r = resource_of (ven_at ven p) r
 
--- the number of the ven that was found: one that isn't there is 6, and one that is out of sight 8
-abbrev pub ven_in_sight : Sight → Option ℕ → Result ℕ Refusal
-ven_in_sight sight found = or_else NotFound found >>= λ n. if sees_ven sight n then Ok n else Err Forbidden
-
 -- ---- subscriptions
 
 -- the subscription that was found: one that isn't there is 6, and one that is out of sight 8
@@ -59,6 +57,12 @@ sub_told sight found = (or_else NotFound found >>= λ s. if sees_owner sight s.1
 -- what a report says, by its number, where the resource that it is on is in sight, and else 8
 abbrev pub body_told : State → Sight → ℕ → ReportBody → Result Answer Refusal
 body_told s sight n body = if sees_owned s.base sight body.head.resource then told (object_at s.stamps (key.Report n, content.Report body)) else Err Forbidden
+
+-- ---- frozen events
+
+-- what is kept for the event of an id, as it is told, and 6 where it was never frozen
+abbrev pub frozen_told : List ℕ → Portfolio → Result Answer Refusal
+frozen_told event p = frozen_pairs event p >>= λ pairs. Ok (answer.Frozen (frozen_object event pairs))
 
 -- ---- programs
 

@@ -2,6 +2,7 @@
 #![tactic(auto)]
 
 mod found;
+mod of_frozen;
 mod of_program;
 mod of_programs;
 mod of_report;
@@ -13,11 +14,12 @@ mod sight;
 mod told;
 
 pub use found::ven_at;
+pub use of_frozen::frozen;
 pub use of_program::program;
 pub use of_programs::programs;
 pub use of_report::report;
-pub use of_resource::{resource, resources};
+pub use of_resource::resource;
 pub use of_share::shares;
-pub use of_sub::{sub, subs};
-pub use of_ven::{ven, vens};
+pub use of_sub::sub;
+pub use of_ven::ven;
 pub use sight::sight_in;

@@ -1,34 +1,26 @@
-//! A resource, by its own row and that of the ven that is named with it, and the resources of a ven, each by its row.
-ghost use Rattle.std.specs.Prelude.{◌≡◌, ◌==◌, false, [], ◌∷◌, option_map, Ok, IfOk, IfErr};
-ghost use Rattle.std.specs.List.{filter_map};
+//! A resource, by its own row and that of the ven that is named with it.
+ghost use Rattle.std.specs.Prelude.{◌≡◌, ◌==◌, false, [], ◌∷◌, Ok, IfOk, IfErr};
 ghost use Rattle.std.specs.Option.{option_map_or};
-ghost use Rattle.std.specs.Ordering.{nat_cmp};
 ghost use Rattle.adr_text.specs.Refusals.{IsRefusalOf};
 ghost use Rattle.adr_text.specs.declared.refusal.Refusal.TheVariants.{Forbidden, NotFound};
-ghost use Rattle.adr_state.specs.Keys.{at};
-ghost use Rattle.adr_state.specs.Resources.{resource_with_id, resource_object};
-ghost use Rattle.adr_state.specs.Vens.{ven_at};
-ghost use Rattle.adr_queries.specs.declared.answer.Answer.TheVariants as answer;
-ghost use Rattle.adr_queries.specs.declared.answer.Object.TheVariants as object;
-ghost use Rattle.adr_queries.specs.Listings.{page_of, resource_told, resource_reply, resources_of, resources_told, resources_reply};
+ghost use Rattle.adr_state.specs.Resources.{resource_with_id};
+ghost use Rattle.adr_queries.specs.Listings.{resource_told, resource_reply};
 ghost use Rattle.adr_sql.specs.Calls.{LeavesLent};
-ghost use Rattle.adr_db.specs.Calls.{Finds, IsOfStore, IsOneOf};
+ghost use Rattle.adr_db.specs.Calls.{IsOneOf};
 ghost use Rattle.adr_db.specs.BaseCalls.{Refuses};
 ghost use Rattle.adr_db.specs.Images.{image_kept};
 ghost use Rattle.adr_answers.specs.Calls.{FindsOr};
-ghost use Rattle.adr_answers.specs.Told.{resource_in_sight, resource_of, resource_under, ven_in_sight};
+ghost use Rattle.adr_answers.specs.Told.{resource_in_sight, resource_of, resource_under};
 
 use crate::found::{resource_with_id, ven_at};
 use crate::sight::sight_in;
-use crate::told::listed;
-use adr_db_portfolio::{read_resource, read_resources_of};
 use adr_objects::Number;
-use adr_queries::{Answer, Object, Page, Role};
-use adr_state::{Resource, push_some};
-use adr_text::{ObjectId, Refusal, Rows};
+use adr_queries::{Answer, Object, Role};
+use adr_state::Resource;
+use adr_text::{ObjectId, Refusal};
 use adr_view::{Sight, resource_object, sees_ven};
 use sqlite::{Alter, Transaction};
-use std::alloc::{AllocError, Global};
+use std::alloc::Global;
 
 // The resource that was found, where who sees this much sees it.
 fn resource_in_sight(
@@ -135,129 +127,4 @@ pub fn resource<S: Alter>(
 {
     let sight = sight_in(alloc, tx, role)?;
     resource_seen(alloc, tx, sight, ven, id)
-}
-
-// ---- lists of them
-
-// The number of the ven that was found, where who sees this much sees it.
-fn ven_in_sight(sight: Sight, found: Option<Number>) -> Result<Number, Refusal>
-    ensures gives { result ≡ ven_in_sight sight found }
-    ensures listed { IfErr result (IsOneOf (Forbidden ∷ NotFound ∷ [])) }
-{
-    let Some(number) = found else {
-        return Err(Refusal::NotFound);
-    };
-    if !sees_ven(sight, number) {
-        return Err(Refusal::Forbidden);
-    }
-    Ok(number)
-}
-
-// A resource of a number, where it is there.
-fn as_object(number: Number, found: Option<Resource>) -> Result<Option<Object>, AllocError>
-    ensures { IfOk result (λ o. o ≡ option_map (λ r. object.Resource (resource_object (number, r))) found) }
-{
-    match found {
-        Some(resource) => Ok(Some(Object::Resource(resource_object(number, &resource)?))),
-        None => Ok(None),
-    }
-}
-
-// The resources of these numbers, each by its own row.
-fn resources_at<S: Alter>(
-    alloc: Global,
-    tx: &mut Transaction<'_, S>,
-    numbers: Rows<Number>,
-) -> Result<Vec<Object>, Refusal>
-    ensures lent { LeavesLent S.Store tx.old.conn tx.new.conn result }
-    ensures finds { Finds S.Store tx.old.conn.now tx.new.conn.now (λ kept all. all.items ≡ filter_map (λ n. option_map (λ r. object.Resource (resource_object (n, r))) (at nat_cmp n kept.portfolio.resources)) numbers) result }
-    ensures refused { IfErr result IsOfStore }
-{
-    let mut all = Vec::new(alloc);
-    'numbers: for number in numbers.into_vec() {
-        let found = read_resource(alloc, tx, number)?;
-        push_some(&mut all, as_object(number, found)?)?;
-    }
-    Ok(all)
-}
-
-// The resources of the ven of a number, by number. No resource of another ven is read.
-fn resources_of<S: Alter>(
-    alloc: Global,
-    tx: &mut Transaction<'_, S>,
-    ven: Number,
-) -> Result<Vec<Object>, Refusal>
-    ensures lent { LeavesLent S.Store tx.old.conn tx.new.conn result }
-    ensures finds { Finds S.Store tx.old.conn.now tx.new.conn.now (λ kept all. all.items ≡ resources_of (image_kept kept).base ven) result }
-    ensures refused { IfErr result IsOfStore }
-{
-    let numbers = read_resources_of(alloc, tx, ven)?;
-    resources_at(alloc, tx, numbers)
-}
-
-// One page of the resources of the ven of a number.
-fn resources_listed<S: Alter>(
-    alloc: Global,
-    tx: &mut Transaction<'_, S>,
-    ven: Number,
-    page: Page,
-) -> Result<Answer, Refusal>
-    ensures lent { LeavesLent S.Store tx.old.conn tx.new.conn result }
-    ensures finds { FindsOr S.Store tx.old.conn.now tx.new.conn.now (λ kept. Ok (answer.List (page_of page (resources_of (image_kept kept).base ven)))) result }
-    ensures refuses { Refuses S.Store tx.old.conn.now tx.new.conn.now (λ kept. Ok (answer.List (page_of page (resources_of (image_kept kept).base ven)))) result }
-    ensures refused { IfErr result IsOfStore }
-{
-    let found = resources_of(alloc, tx, ven)?;
-    Ok(listed(alloc, page, found)?)
-}
-
-// The number of the ven of an id, where who sees this much sees it.
-fn read_ven_in_sight<S: Alter>(
-    alloc: Global,
-    tx: &mut Transaction<'_, S>,
-    sight: Sight,
-    ven: &ObjectId,
-) -> Result<Number, Refusal>
-    ensures lent { LeavesLent S.Store tx.old.conn tx.new.conn result }
-    ensures finds { FindsOr S.Store tx.old.conn.now tx.new.conn.now (λ kept. ven_in_sight sight (ven_at ven.now kept.portfolio)) result }
-    ensures refuses { Refuses S.Store tx.old.conn.now tx.new.conn.now (λ kept. ven_in_sight sight (ven_at ven.now kept.portfolio)) result }
-    ensures listed { IfErr result (IsOneOf (Forbidden ∷ NotFound ∷ [])) }
-{
-    let found = ven_at(alloc, tx, ven)?;
-    ven_in_sight(sight, found)
-}
-
-// One page of the resources of the ven of an id, by who sees this much.
-fn resources_seen<S: Alter>(
-    alloc: Global,
-    tx: &mut Transaction<'_, S>,
-    sight: Sight,
-    ven: &ObjectId,
-    page: Page,
-) -> Result<Answer, Refusal>
-    ensures lent { LeavesLent S.Store tx.old.conn tx.new.conn result }
-    ensures finds { FindsOr S.Store tx.old.conn.now tx.new.conn.now (λ kept. resources_told (image_kept kept).base page sight (ven_at ven.now kept.portfolio)) result }
-    ensures refuses { Refuses S.Store tx.old.conn.now tx.new.conn.now (λ kept. resources_told (image_kept kept).base page sight (ven_at ven.now kept.portfolio)) result }
-    ensures listed { IfErr result (IsOneOf (Forbidden ∷ NotFound ∷ [])) }
-{
-    let number = read_ven_in_sight(alloc, tx, sight, ven)?;
-    resources_listed(alloc, tx, number, page)
-}
-
-/// One page of the resources of the ven of an id; `NotFound` where the ven isn't there, `Forbidden` where it is out of
-/// sight. No resource of another ven is read.
-pub fn resources<S: Alter>(
-    alloc: Global,
-    tx: &mut Transaction<'_, S>,
-    role: &Role,
-    ven: &ObjectId,
-    page: Page,
-) -> Result<Answer, Refusal>
-    ensures lent { LeavesLent S.Store tx.old.conn tx.new.conn result }
-    ensures finds { FindsOr S.Store tx.old.conn.now tx.new.conn.now (λ kept. resources_reply (image_kept kept).base role.now ven.now page) result }
-    ensures refuses { Refuses S.Store tx.old.conn.now tx.new.conn.now (λ kept. resources_reply (image_kept kept).base role.now ven.now page) result }
-    ensures listed { IfErr result (IsOneOf (Forbidden ∷ NotFound ∷ [])) }
-{
-    let sight = sight_in(alloc, tx, role)?;
-    resources_seen(alloc, tx, sight, ven, page)
 }

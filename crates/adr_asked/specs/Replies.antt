@@ -4,6 +4,7 @@ use Rattle.std.specs.List.{flat_map}
 use Rattle.adr_text.specs.declared.refusal.Refusal.{Refusal}
 use Rattle.adr_written.specs.Objects.{program_text, event_text, ven_text, resource_text, share_text}
 use Rattle.adr_written.specs.Counts.{counts_text}
+use Rattle.adr_written.specs.WrittenFrozen.{frozen_text}
 use Rattle.adr_written.specs.WrittenReports.{report_text, rollup_text}
 use Rattle.adr_written.specs.WrittenSubs.{sub_text}
 use Rattle.adr_machine.specs.declared.command.Command.{Command}
@@ -46,6 +47,7 @@ answer_text client (answer.Changes n) = codes "{}"
 answer_text client (answer.Object o) = object_text o
 answer_text client (answer.List objects) = list_text objects
 answer_text client (answer.Share s) = share_text s
+answer_text client (answer.Frozen f) = frozen_text f
 answer_text client (answer.Counts counts) = counts_text counts
 answer_text client (answer.Job job) = codes "{}"
 answer_text client (answer.Rollup event rollup) = rollup_text (record { client = client; event = event; rollup = rollup })

@@ -2,7 +2,7 @@
 use Rattle.std.specs.Prelude.{ℕ, List, [], ◌∷◌, false, codes, Option, Some, None, option_and_then, unwrap_or, bytes_eq, Result, Ok, Err, if◌then◌else◌}
 use Rattle.adr_text.specs.Refusals.{◌>>=◌}
 use Rattle.adr_text.specs.declared.refusal.Refusal.{Refusal}
-use Rattle.adr_schema.specs.Sites.{ven_of, resource_of, share_of}
+use Rattle.adr_schema.specs.Sites.{ven_of, resource_of, share_of, anything_of}
 use Rattle.adr_schema.specs.Reports.{report_of}
 use Rattle.adr_subscription.specs.Subscriptions.{sub_of}
 use Rattle.adr_text.specs.declared.refusal.Refusal.TheVariants.{Forbidden}
@@ -11,8 +11,8 @@ use Rattle.adr_schema.specs.declared.notice.NoticeIn.TheVariants as notice
 use Rattle.adr_schema.specs.Notices.{notice_of}
 use Rattle.adr_queries.specs.declared.role.Role.{Role}
 use Rattle.adr_queries.specs.declared.role.Role.TheVariants.{Utility}
-use Rattle.adr_machine.specs.declared.command.Command.TheVariants.{Evidence, Gone, VenAdd, VenPut, VenRemove, ResourceAdd, ResourcePut, ResourceRemove, ShareSet, ReportPost, ReportPut, ReportDelete, SubPost, SubPut, SubDelete}
-use Rattle.adr_queries.specs.declared.query.Query.TheVariants.{Programs, Program, Events, Event, Vens, Ven, Resources, Resource, Shares, Reports, Report, Rollup, Subs, Sub, Outbox}
+use Rattle.adr_machine.specs.declared.command.Command.TheVariants.{Evidence, Gone, VenAdd, VenPut, VenRemove, ResourceAdd, ResourcePut, ResourceRemove, ShareSet, Freeze, ReportPost, ReportPut, ReportDelete, SubPost, SubPut, SubDelete}
+use Rattle.adr_queries.specs.declared.query.Query.TheVariants.{Programs, Program, Events, Event, Vens, Ven, Resources, Resource, Shares, Frozen, Reports, Report, Rollup, Subs, Sub, Outbox}
 use Rattle.adr_asked.specs.declared.asked.Asked.{Asked}
 use Rattle.adr_asked.specs.declared.asked.Asked.TheVariants as asked
 use Rattle.adr_wire.specs.Cuts.{cut}
@@ -53,6 +53,7 @@ asked_by_get role (Of one.Ven id) query = Ok (Some (asked.Query (Ven role id)))
 asked_by_get role (Of one.Resources ven) query = page_asked query >>= λ page. Ok (Some (asked.Query (Resources role ven page)))
 asked_by_get role (Under two.Resource ven id) query = Ok (Some (asked.Query (Resource role ven id)))
 asked_by_get role (Of one.Shares program) query = Ok (Some (asked.Query (Shares role program)))
+asked_by_get role (Of one.Frozen event) query = Ok (Some (asked.Query (Frozen role event)))
 asked_by_get role (Under two.Share program resource) query = Ok None
 
 -- what a notification asks, if it asks anything
@@ -79,13 +80,14 @@ asked_by_post role (At root.Subs) body = sub_of body >>= λ sub. Ok (Some (asked
 asked_by_post role (Of one.Resources ven) body = resource_of body >>= λ resource. Ok (Some (asked.Command (ResourceAdd role ven resource)))
 asked_by_post role _ body = Ok None
 
--- what is put at a path
+-- what is put at a path: what a body says that freezes an event is passed over, but it is JSON
 unfoldable pub asked_by_put : Role → Path → List ℕ → Result (Option Asked) Refusal
 asked_by_put role (Of one.Ven id) body = ven_of body >>= λ ven. Ok (Some (asked.Command (VenPut role id ven)))
 asked_by_put role (Under two.Resource ven id) body = resource_of body >>= λ resource. Ok (Some (asked.Command (ResourcePut role ven id resource)))
 asked_by_put role (Of one.Report id) body = report_of body >>= λ report. Ok (Some (asked.Command (ReportPut role id report)))
 asked_by_put role (Of one.Sub id) body = sub_of body >>= λ sub. Ok (Some (asked.Command (SubPut role id sub)))
 asked_by_put role (Under two.Share program resource) body = share_of body >>= λ share. Ok (Some (asked.Command (ShareSet role program resource share)))
+asked_by_put role (Of one.Frozen event) body = anything_of body >>= λ passed_over. Ok (Some (asked.Command (Freeze role event)))
 asked_by_put role _ body = Ok None
 
 -- what is removed at a path: a share by setting it to 0

@@ -10,8 +10,8 @@ use adr_objects::{Rollup, RollupObject};
 use adr_reply::{Extra, Problem, Reply};
 use adr_text::{Name, ObjectId, Refusal};
 use adr_written::{
-    write_counts, write_event, write_program, write_report, write_resource, write_rollup,
-    write_share, write_sub, write_ven,
+    write_counts, write_event, write_frozen, write_program, write_report, write_resource,
+    write_rollup, write_share, write_sub, write_ven,
 };
 use std::alloc::{AllocError, Global};
 
@@ -75,6 +75,7 @@ fn answer_text(alloc: Global, client: &Name, answer: &Answer) -> Result<String, 
         Answer::Object(object) => object_text(alloc, object),
         Answer::List(objects) => list_text(alloc, objects.as_slice()),
         Answer::Share(share) => write_share(alloc, share),
+        Answer::Frozen(frozen) => write_frozen(alloc, frozen),
         Answer::Rollup(event, rollup) => rollup_text(alloc, client, event, rollup),
         Answer::Counts(counts) => write_counts(alloc, counts),
     }

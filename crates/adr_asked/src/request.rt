@@ -14,7 +14,9 @@ use adr_machine::{Command, Query, Role};
 use adr_objects::ShareIn;
 use adr_reply::Problem;
 use adr_routes::{Methods, One, Path, Root, Routes, Two, methods_of, place_of, text_from};
-use adr_schema::{NoticeIn, read_notice, read_report, read_resource, read_share, read_ven};
+use adr_schema::{
+    NoticeIn, read_anything, read_notice, read_report, read_resource, read_share, read_ven,
+};
 use adr_subscription::read_sub;
 use adr_text::{Refusal, Rows};
 use adr_wire::cut;
@@ -79,6 +81,7 @@ fn asked_by_get(
         Path::Of(One::Ven, id) => Query::Ven { role, id },
         Path::Under(Two::Resource, ven, id) => Query::Resource { role, ven, id },
         Path::Of(One::Shares, program) => Query::Shares { role, program },
+        Path::Of(One::Frozen, event) => Query::Frozen { role, event },
         Path::Under(Two::Share, _, _) => return Ok(None),
     };
     Ok(Some(Asked::Query(query)))
@@ -152,7 +155,7 @@ fn asked_by_post(
     }
 }
 
-/// What is put at a path.
+/// What is put at a path. What a body says that freezes an event is passed over.
 #[tactic(auto, unfolding(crate::specs::Requests::asked_by_put))]
 fn asked_by_put(
     alloc: Global,
@@ -192,6 +195,10 @@ fn asked_by_put(
                 resource,
                 share,
             }
+        }
+        Path::Of(One::Frozen, event) => {
+            read_anything(alloc, body)?;
+            Command::Freeze { role, event }
         }
         _ => return Ok(None),
     };

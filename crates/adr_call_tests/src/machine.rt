@@ -150,7 +150,7 @@ fn settings(rt: HostRuntime) -> Result<(), Fail> {
     Ok(())
 }
 
-const LIMITS: [(&str, u64, bool); 14] = [
+const LIMITS: [(&str, u64, bool); 16] = [
     ("keys", 100_000, true),
     ("keys", 100_001, false),
     ("vens", 1_000, true),
@@ -159,6 +159,8 @@ const LIMITS: [(&str, u64, bool); 14] = [
     ("resources", 10_001, false),
     ("shares", 100_000, true),
     ("reports", 100_001, false),
+    ("frozen", 100_000, true),
+    ("frozen", 100_001, false),
     ("pending", 100_000, true),
     ("serial", 9_000_000_000_000_000, true),
     ("serial", 9_000_000_000_000_001, false),

@@ -17,7 +17,7 @@ use Rattle.adr_view.specs.Views.{view}
 use Rattle.adr_view.proofs.Quiet.{nothing_changes}
 use Rattle.adr_queries.specs.Roles.{sight_of}
 use Rattle.adr_queries.specs.declared.answer.Answer.TheVariants as answer
-use Rattle.adr_machine.specs.declared.command.Command.TheVariants.{Evidence, Gone, ScanBegin, ScanEnd, VenAdd, VenPut, VenRemove, ResourceAdd, ResourcePut, ResourceRemove, ShareSet, ReportPost, ReportPut, ReportDelete, SubPost, SubPut, SubDelete, Lease, Sent, Failed}
+use Rattle.adr_machine.specs.declared.command.Command.TheVariants.{Evidence, Gone, ScanBegin, ScanEnd, VenAdd, VenPut, VenRemove, ResourceAdd, ResourcePut, ResourceRemove, ShareSet, Freeze, ReportPost, ReportPut, ReportDelete, SubPost, SubPut, SubDelete, Lease, Sent, Failed}
 use Rattle.adr_machine.specs.declared.outcome.Outcome.{Outcome}
 use Rattle.adr_machine.specs.declared.outcome.Outcome.TheVariants as outcome
 use Rattle.adr_machine.specs.Deliveries.{delivered}
@@ -66,6 +66,7 @@ module _ (limits : Limits) (now next : ℕ) (base : Base) where
   decided_leaves (ResourcePut role ven id resource) = portfolio_leaves _ _
   decided_leaves (ResourceRemove role ven id) = portfolio_leaves _ _
   decided_leaves (ShareSet role program resource share) = portfolio_leaves _ _
+  decided_leaves (Freeze role event) = portfolio_leaves _ _
   decided_leaves (ReportPost role report) = behind (sight_of base role) _ (λ sight. portfolio_leaves _ _)
   decided_leaves (ReportPut role id report) = behind (sight_of base role) _ (λ sight. portfolio_leaves _ _)
   decided_leaves (ReportDelete role id) = behind (sight_of base role) _ (λ sight. portfolio_leaves _ _)

@@ -1,2 +1,3 @@
 mod Listening
 pub mod Calling
+mod Telling

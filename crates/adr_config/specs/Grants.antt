@@ -56,7 +56,7 @@ roles_in d = objects_in d >>= each token_in >>= λ said. as_fault (roles_of (map
 
 -- the names of the limits
 abbrev pub limit_names : List (List ℕ)
-limit_names = codes "keys" ∷ codes "vens" ∷ codes "subs" ∷ codes "resources" ∷ codes "shares" ∷ codes "reports" ∷ codes "pending" ∷ codes "serial" ∷ codes "trail" ∷ []
+limit_names = codes "keys" ∷ codes "vens" ∷ codes "subs" ∷ codes "resources" ∷ codes "shares" ∷ codes "reports" ∷ codes "frozen" ∷ codes "pending" ∷ codes "serial" ∷ codes "trail" ∷ []
 
 -- the limits with that of a name, where it is said
 abbrev pub limit_said : List ℕ → Option Data → Limits → Result Limits Fault

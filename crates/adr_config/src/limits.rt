@@ -15,13 +15,14 @@ use adr_text::{Fault, member};
 use serde_json::Value;
 
 /// The names of the limits.
-pub(crate) const NAMES: [&str; 9] = [
+pub(crate) const NAMES: [&str; 10] = [
     "keys",
     "vens",
     "subs",
     "resources",
     "shares",
     "reports",
+    "frozen",
     "pending",
     "serial",
     "trail",
@@ -37,6 +38,7 @@ fn largest(name: &str) -> u64 {
         "resources" => limits.resources.get(),
         "shares" => limits.shares.get(),
         "reports" => limits.reports.get(),
+        "frozen" => limits.frozen.get(),
         "pending" => limits.pending.get(),
         "serial" => limits.serial.get(),
         _ => limits.trail.get(),

@@ -279,13 +279,14 @@ const CALLS: [(&str, &str, bool); 5] = [
 const NO_OBJECTS: [&str; 7] = ["", "{", "[]", "7", "null", "\"listen\"", "{\"poll\":1}}"];
 
 /// The limits by their names, each with its largest.
-const LARGEST: [(&str, u64); 9] = [
+const LARGEST: [(&str, u64); 10] = [
     ("keys", 100_000),
     ("vens", 1_000),
     ("subs", 1_000),
     ("resources", 10_000),
     ("shares", 100_000),
     ("reports", 100_000),
+    ("frozen", 100_000),
     ("pending", 100_000),
     ("serial", 9_000_000_000_000_000),
     ("trail", 1_000_000),

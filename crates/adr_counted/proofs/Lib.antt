@@ -3,3 +3,4 @@ pub mod Sums
 pub mod Going
 pub mod Known
 pub mod Decided
+pub mod Freezing

@@ -64,4 +64,5 @@ gone_counted gone base next before after same goes less =
     let shares = less_is after.shares before.shares (length base.portfolio.shares) (length next.shares) gone.shares less.shares (ap (λ (m : Meta). m.shares) same) goes.shares in
     let reports = less_is after.reports before.reports (length base.portfolio.reports) (length next.reports) gone.reports less.reports (ap (λ (m : Meta). m.reports) same) goes.reports in
     let subs = less_is after.subs before.subs (length base.portfolio.subs) (length next.subs) gone.subs less.subs (ap (λ (m : Meta). m.subs) same) goes.subs in
-    less.others ∙ (λ i. let now : Meta = record (same i) { vens = vens i; resources = resources i; shares = shares i; reports = reports i; subs = subs i } in now)
+    let frozen = less_is after.frozen before.frozen (length base.portfolio.frozen_shares) (length next.frozen_shares) gone.frozen less.frozen (ap (λ (m : Meta). m.frozen) same) goes.frozen in
+    less.others ∙ (λ i. let now : Meta = record (same i) { vens = vens i; resources = resources i; shares = shares i; reports = reports i; subs = subs i; frozen = frozen i } in now)

@@ -1,3 +1,4 @@
 pub mod Gone
 pub mod Along
 pub mod There
+pub mod Frozen

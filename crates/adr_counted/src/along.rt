@@ -6,30 +6,34 @@ ghost use Rattle.adr_state.specs.Portfolios.{without_ven, without_resource};
 ghost use Rattle.adr_sql.specs.Calls.{LeavesLent};
 ghost use Rattle.adr_db.specs.Calls.{Finds, IsOfStore};
 ghost use Rattle.adr_counted.specs.Gone.{IsGone};
-ghost use Rattle.adr_counted.specs.Along.{shares_of, reports_on, along_each};
+ghost use Rattle.adr_counted.specs.Along.{shares_of, reports_on, frozen_of, along_each};
 
 use crate::gone::Gone;
-use adr_db_portfolio::{read_reports_on, read_resources_of, read_shares_of, read_subs_of};
+use adr_db_portfolio::{
+    read_frozen_of, read_reports_on, read_resources_of, read_shares_of, read_subs_of,
+};
 use adr_objects::Number;
 use adr_text::Refusal;
 use sqlite::{Alter, Transaction};
 use std::alloc::Global;
 
-/// How many shares and reports go along with resources.
+/// How many shares, reports and frozen shares go along with resources.
 #[derive(Clone, Copy)]
 pub(crate) struct Along {
     pub shares: u64,
     pub reports: u64,
+    pub frozen: u64,
 }
 
 // Both together.
 fn together(a: Along, b: Along) -> Result<Along, Refusal>
-    ensures sum { IfOk result (λ all. all ≡ record { shares = a.shares + b.shares; reports = a.reports + b.reports }) }
+    ensures sum { IfOk result (λ all. all ≡ record { shares = a.shares + b.shares; reports = a.reports + b.reports; frozen = a.frozen + b.frozen }) }
     ensures refused { IfErr result IsOfStore }
 {
     Ok(Along {
         shares: a.shares.checked_add(b.shares).ok_or(Refusal::Store)?,
         reports: a.reports.checked_add(b.reports).ok_or(Refusal::Store)?,
+        frozen: a.frozen.checked_add(b.frozen).ok_or(Refusal::Store)?,
     })
 }
 
@@ -40,14 +44,16 @@ fn along_one<S: Alter>(
     resource: Number,
 ) -> Result<Along, Refusal>
     ensures lent { LeavesLent S.Store tx.old.conn tx.new.conn result }
-    ensures finds { Finds S.Store tx.old.conn.now tx.new.conn.now (λ kept along. along ≡ record { shares = shares_of kept.portfolio resource; reports = reports_on kept.portfolio resource }) result }
+    ensures finds { Finds S.Store tx.old.conn.now tx.new.conn.now (λ kept along. along ≡ record { shares = shares_of kept.portfolio resource; reports = reports_on kept.portfolio resource; frozen = frozen_of kept.portfolio resource }) result }
     ensures refused { IfErr result IsOfStore }
 {
     let shares = read_shares_of(alloc, tx, resource)?;
     let reports = read_reports_on(alloc, tx, resource)?;
+    let frozen = read_frozen_of(alloc, tx, resource)?;
     Ok(Along {
         shares: shares.len() as u64,
         reports: reports.len() as u64,
+        frozen: frozen.len() as u64,
     })
 }
 
@@ -64,6 +70,7 @@ fn along_each<S: Alter>(
     let mut all = Along {
         shares: 0,
         reports: 0,
+        frozen: 0,
     };
     'resources: for resource in resources {
         let one = along_one(alloc, tx, *resource)?;
@@ -89,6 +96,7 @@ pub(crate) fn gone_with_resource<S: Alter>(
         shares: along.shares,
         reports: along.reports,
         subs: 0,
+        frozen: along.frozen,
     })
 }
 
@@ -111,5 +119,6 @@ pub(crate) fn gone_with_ven<S: Alter>(
         shares: along.shares,
         reports: along.reports,
         subs: subs.len() as u64,
+        frozen: along.frozen,
     })
 }

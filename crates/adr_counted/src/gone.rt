@@ -15,6 +15,7 @@ pub(crate) struct Gone {
     pub shares: u64,
     pub reports: u64,
     pub subs: u64,
+    pub frozen: u64,
 }
 
 /// No more than a share, where it is there.
@@ -27,6 +28,7 @@ pub(crate) fn one_share(is_there: bool) -> Gone
         shares: if is_there { 1 } else { 0 },
         reports: 0,
         subs: 0,
+        frozen: 0,
     }
 }
 
@@ -40,6 +42,7 @@ pub(crate) fn one_report() -> Gone
         shares: 0,
         reports: 1,
         subs: 0,
+        frozen: 0,
     }
 }
 
@@ -53,6 +56,7 @@ pub(crate) fn one_sub() -> Gone
         shares: 0,
         reports: 0,
         subs: 1,
+        frozen: 0,
     }
 }
 
@@ -66,5 +70,6 @@ pub(crate) fn count_gone(meta: &mut Meta, gone: Gone) -> Result<(), Refusal>
     meta.shares = left(meta.shares, gone.shares)?;
     meta.reports = left(meta.reports, gone.reports)?;
     meta.subs = left(meta.subs, gone.subs)?;
+    meta.frozen = left(meta.frozen, gone.frozen)?;
     Ok(())
 }

@@ -5,6 +5,7 @@ pub mod KeptMaps
 pub mod Maps
 pub mod Rises
 pub mod Creating
+pub mod FirstVersion
 pub mod MetaStatements
 pub mod Reports
 pub mod Calls

@@ -1,17 +1,19 @@
 -- The tables that are maps.
-use Rattle.std.proofs.Common.{ℕ, List, map, refl, sym}
+use Rattle.std.proofs.Common.{ℕ, List, [], map, refl, sym}
 use Rattle.adr_db.proofs.Common.{nat_cmp, map-map, Mark, Ven, Resource, Report, Sub, Stamps, MirrorKey, ShareKey, ViewKey, id_cmp, mirror_cmp, share_cmp, view_cmp, with_table, keys_alone}
 use Rattle.adr_delivery.specs.declared.entry.Entry.{Entry}
 use Rattle.adr_db.specs.declared.shown.RollupColumns.{RollupColumns}
 use Rattle.adr_db.specs.declared.shown.ShownColumns.{ShownColumns}
 use Rattle.adr_db.specs.declared.shown.ShownKey.{ShownKey}
 use Rattle.adr_db.specs.ShownKeys.{shown_cmp}
-use Rattle.adr_db.specs.Rows.{mark_row, key_row, number_row, ven_row, ven_columns, resource_row, resource_columns, share_row, share_key_row, stamp_row, view_key_row, report_row, report_columns, sub_row, sub_columns, event_key_row, remote_row, entry_row, entry_columns, head_row, shown_row, shown_key_row, rollup_row, rollup_columns}
+use Rattle.adr_state.specs.declared.keys.FrozenKey.{FrozenKey}
+use Rattle.adr_state.specs.Keys.{frozen_cmp}
+use Rattle.adr_db.specs.Rows.{mark_row, key_row, number_row, ven_row, ven_columns, resource_row, resource_columns, share_row, share_key_row, frozen_share_row, frozen_key_row, stamp_row, view_key_row, report_row, report_columns, sub_row, sub_columns, event_key_row, remote_row, entry_row, entry_columns, head_row, shown_row, shown_key_row, rollup_row, rollup_columns}
 use Rattle.adr_db.specs.Kept.{contents_of}
-use Rattle.adr_db.proofs.Rows.{mirror_codec, polled_codec, number_codec, share_codec, stamp_codec, remote_codec, shown_codec, text_codec}
+use Rattle.adr_db.proofs.Rows.{mirror_codec, polled_codec, number_codec, share_codec, frozen_share_codec, stamp_codec, remote_codec, shown_codec, text_codec}
 use Rattle.adr_sql.proofs.KeyedMaps.{KeyedMap}
 use Rattle.adr_db.specs.Tables.{schema}
-use Rattle.adr_db.proofs.Tables.{mirror, mirror_keyed, polled, polled_keyed, ven, ven_keyed, resource, resource_keyed, share, share_keyed, stamp, stamp_keyed, report, report_keyed, sub, sub_keyed, remote, remote_keyed, outbox, outbox_keyed, shown, shown_keyed, rollup, rollup_keyed, head, head_keyed}
+use Rattle.adr_db.proofs.Tables.{mirror, mirror_keyed, polled, polled_keyed, ven, ven_keyed, resource, resource_keyed, share, share_keyed, stamp, stamp_keyed, report, report_keyed, sub, sub_keyed, remote, remote_keyed, outbox, outbox_keyed, shown, shown_keyed, rollup, rollup_keyed, head, head_keyed, frozen, frozen_keyed, frozen_share, frozen_share_keyed}
 use Rattle.adr_db.proofs.KeptMaps.{KeptMap, StoredMap}
 
 abbrev pub mirror_map : KeptMap MirrorKey Mark
@@ -56,6 +58,25 @@ share_map = record {
   rows = record { at = 5; table = share; keyed = share_keyed; cmp = share_cmp; row_of = share_row; key_of = share_key_row; codec = share_codec };
   entries = λ kept. kept.portfolio.shares;
   with_entries = λ es kept. record kept { portfolio = record kept.portfolio { shares = es } };
+  stored = λ kept. refl;
+  changed = λ es kept. refl;
+}
+
+-- the set of the frozen events is a map to nothing
+abbrev pub frozen_map : KeptMap (List ℕ) (Unit {0})
+frozen_map = record {
+  rows = record { at = 15; table = frozen; keyed = frozen_keyed; cmp = id_cmp; row_of = λ e. event_key_row e.0; key_of = event_key_row; codec = text_codec (λ _. []) };
+  entries = λ kept. kept.portfolio.frozen;
+  with_entries = λ es kept. record kept { portfolio = record kept.portfolio { frozen = es } };
+  stored = λ kept. refl;
+  changed = λ es kept. refl;
+}
+
+abbrev pub frozen_share_map : KeptMap FrozenKey ℕ
+frozen_share_map = record {
+  rows = record { at = 16; table = frozen_share; keyed = frozen_share_keyed; cmp = frozen_cmp; row_of = frozen_share_row; key_of = frozen_key_row; codec = frozen_share_codec };
+  entries = λ kept. kept.portfolio.frozen_shares;
+  with_entries = λ es kept. record kept { portfolio = record kept.portfolio { frozen_shares = es } };
   stored = λ kept. refl;
   changed = λ es kept. refl;
 }

@@ -8,11 +8,11 @@ use Rattle.adr_state.specs.declared.base.Base.{Base}
 use Rattle.adr_sql.proofs.Stored.{contents_again}
 use Rattle.adr_db.specs.declared.meta.Meta.{Meta}
 use Rattle.adr_db.specs.Tables.{schema}
-use Rattle.adr_db.specs.Rows.{key_row, ven_row, resource_row, share_row, stamp_row, remote_row, entry_row, shown_row, rollup_row}
+use Rattle.adr_db.specs.Rows.{key_row, ven_row, resource_row, share_row, stamp_row, remote_row, entry_row, shown_row, rollup_row, event_key_row, frozen_share_row}
 use Rattle.adr_db.specs.Kept.{Kept, Keeps, contents_of}
 use Rattle.adr_db.specs.Bases.{keys_polled, with_base, Beside, kept_beside}
 use Rattle.adr_db.specs.Images.{base_of, image_kept}
-use Rattle.adr_db.specs.ReadBack.{key_in, numbered_in, ven_in, resource_in, share_in, stamped_in, remote_in, waiting_in, shown_in, rollup_in, kept_from, kept_in, state_in}
+use Rattle.adr_db.specs.ReadBack.{key_in, numbered_in, ven_in, resource_in, share_in, stamped_in, remote_in, waiting_in, shown_in, rollup_in, frozen_in, frozen_share_in, kept_from, kept_in, state_in}
 use Rattle.adr_db.proofs.Rows.{meta_again, key_again, view_key_again}
 use Rattle.adr_db.proofs.Marks.{marks_again}
 use Rattle.adr_db.proofs.Subs.{subs_again}
@@ -37,6 +37,8 @@ from_rows kept texts up = λ i. record {
     shares = map_back share_row share_in (λ _. refl) kept.portfolio.shares i;
     reports = reports_again kept.portfolio.reports up i;
     subs = subs_again kept.portfolio.subs texts.1 i;
+    frozen = map_back (λ e. event_key_row e.0) frozen_in (λ _. refl) kept.portfolio.frozen i;
+    frozen_shares = map_back frozen_share_row frozen_share_in (λ _. refl) kept.portfolio.frozen_shares i;
   };
   stamps = map_back stamp_row stamped_in stamped_again kept.stamps i;
   remotes = map_back remote_row remote_in (λ _. refl) kept.remotes i;

@@ -5,7 +5,9 @@ use Rattle.std.specs.Cmp.{int_cmp_is}
 use Rattle.std.proofs.lemmas.Int.{ints}
 use Rattle.adr_objects.specs.declared.kind.Kind.{Kind}
 use Rattle.adr_objects.specs.declared.kind.Kind.TheVariants.{Program, Event}
+use Rattle.adr_state.specs.declared.keys.FrozenKey.{FrozenKey}
 use Rattle.adr_state.specs.declared.keys.ViewKey.TheVariants as view
+use Rattle.adr_state.specs.Keys.{frozen_cmp}
 use Rattle.adr_sql.specs.Codecs.{IsCodec}
 use Rattle.adr_objects.specs.declared.report.ReportHead.{ReportHead}
 use Rattle.adr_objects.specs.declared.report.UsageInterval.{UsageInterval}
@@ -13,8 +15,8 @@ use Rattle.adr_db.specs.declared.meta.Meta.{Meta}
 use Rattle.adr_db.specs.declared.report_columns.ReportColumns.{ReportColumns}
 use Rattle.adr_db.specs.declared.shown.ShownKey.{ShownKey}
 use Rattle.adr_db.specs.ShownKeys.{shown_cmp}
-use Rattle.adr_db.specs.Rows.{number, kind_number, meta_columns, meta_row, key_row, mark_columns, known_columns, mark_row, number_row, ven_columns, resource_columns, share_key_row, share_row, stamps_columns, view_kind, view_id, view_number, view_key_row, stamp_row, participant_row, name_cell, head_columns, report_columns_row, usage_cell, interval_columns, owner_cell, flag_cell, event_key_row, remote_row, shown_key_row, shown_columns, shown_row}
-use Rattle.adr_db.specs.ReadBack.{number_of, text_of, integer_of, name_of, usage_of, owner_of, flag_of, kind_of, meta_in, key_in, ven_in, resource_in, share_key_in, view_key_in, stamps_in, head_in}
+use Rattle.adr_db.specs.Rows.{number, kind_number, meta_row, key_row, mark_columns, known_columns, mark_row, number_row, ven_columns, resource_columns, share_key_row, share_row, frozen_key_row, frozen_share_row, stamps_columns, view_kind, view_id, view_number, view_key_row, stamp_row, participant_row, name_cell, head_columns, report_columns_row, usage_cell, interval_columns, owner_cell, flag_cell, event_key_row, remote_row, shown_key_row, shown_columns, shown_row}
+use Rattle.adr_db.specs.ReadBack.{number_of, text_of, integer_of, name_of, usage_of, owner_of, flag_of, kind_of, meta_in, key_in, ven_in, resource_in, share_key_in, frozen_key_in, view_key_in, stamps_in, head_in}
 
 -- ---- keys
 
@@ -102,6 +104,21 @@ share_codec = record {
   same = λ j k v e. ap (λ key. share_row (key, v)) (share_same j k e);
 }
 
+frozen_as_rows : (j k : FrozenKey) (a b : Row) → key_order 2 (Text j.event ∷ number j.resource ∷ a) (Text k.event ∷ number k.resource ∷ b) ≡ frozen_cmp j k
+frozen_as_rows j k a b = text_number_key j.event k.event (pos j.resource) (pos k.resource) a b ∙ ap (ordering_then (id_cmp j.event k.event)) (numbers_as_values j.resource k.resource)
+
+frozen_same : (j k : FrozenKey) → frozen_cmp k j ≡ Equal → k ≡ j
+frozen_same j k h =
+    let both = both_tie (id_cmp k.event j.event) (nat_cmp k.resource j.resource) h in
+    ap₂ (λ (event : List ℕ) (resource : ℕ). record { event = event; resource = resource }) (text_same j.event k.event both.0) (number_same_is k.resource j.resource both.1)
+
+pub frozen_share_codec : IsCodec 2 frozen_cmp frozen_share_row frozen_key_row
+frozen_share_codec = record {
+  named = λ k e. frozen_as_rows k e.0 [] (number e.1 ∷ []);
+  keyed = λ k v e. frozen_as_rows k e.0 (number v ∷ []) (number e.1 ∷ []);
+  same = λ j k v e. ap (λ key. frozen_share_row (key, v)) (frozen_same j k e);
+}
+
 -- ---- what is shown
 
 shown_as_rows : (j k : ShownKey) (a b : Row) → key_order 2 (Text j.event ∷ number j.resource ∷ a) (Text k.event ∷ number k.resource ∷ b) ≡ shown_cmp j k
@@ -180,8 +197,8 @@ interval_again interval = ap (λ usage. record interval { usage = usage }) (usag
 stands_for_one : {X : Type 0} (row_of : X → Row) (back : Row → X) → ((x : X) → back (row_of x) ≡ x) → (a b : X) → row_of a ≡ row_of b → a ≡ b
 stands_for_one row_of back again a b h = sym (again a) ∙ ap back h ∙ again b
 
-pub meta_kept : (a b : Meta) → meta_columns a ≡ meta_columns b → a ≡ b
-meta_kept = stands_for_one meta_columns meta_in meta_again
+pub meta_kept : (a b : Meta) → meta_row a ≡ meta_row b → a ≡ b
+meta_kept = stands_for_one meta_row meta_in meta_again
 
 pub key_kept : (j k : MirrorKey) → key_row j ≡ key_row k → j ≡ k
 key_kept = stands_for_one key_row key_in key_again
@@ -191,6 +208,9 @@ ven_kept = stands_for_one ven_columns ven_in (λ _. refl)
 
 pub resource_kept : (a b : Resource) → resource_columns a ≡ resource_columns b → a ≡ b
 resource_kept = stands_for_one resource_columns resource_in (λ _. refl)
+
+pub frozen_key_kept : (j k : FrozenKey) → frozen_key_row j ≡ frozen_key_row k → j ≡ k
+frozen_key_kept = stands_for_one frozen_key_row frozen_key_in (λ _. refl)
 
 pub share_key_kept : (j k : ShareKey) → share_key_row j ≡ share_key_row k → j ≡ k
 share_key_kept = stands_for_one share_key_row share_key_in (λ _. refl)

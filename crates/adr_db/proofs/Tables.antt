@@ -6,7 +6,7 @@ use Rattle.sqlite_value.specs.Keys.{joined}
 use Rattle.sqlite_catalog.specs.Listing.{automatic}
 use Rattle.adr_sql.proofs.References.{is_childless}
 use Rattle.adr_sql.proofs.Upserts.{IsKeyed}
-use Rattle.adr_db.specs.Tables.{schema, meta_table, mirror_table, polled_table, ven_table, resource_table, share_table, stamp_table, report_table, report_value_table, sub_table, remote_table, outbox_table, shown_table, rollup_table, head_table}
+use Rattle.adr_db.specs.Tables.{schema, first_schema, meta_table, mirror_table, polled_table, ven_table, resource_table, share_table, stamp_table, report_table, report_value_table, sub_table, remote_table, outbox_table, shown_table, rollup_table, head_table, frozen_table, frozen_share_table}
 
 -- each table with its tree
 abbrev pub meta : Table
@@ -54,10 +54,21 @@ rollup = record rollup_table { tree = 38 }
 abbrev pub head : Table
 head = record head_table { tree = 40 }
 
+abbrev pub frozen : Table
+frozen = record frozen_table { tree = 42 }
+
+abbrev pub frozen_share : Table
+frozen_share = record frozen_share_table { tree = 44 }
+
 -- each is written over by its key, also those to which references point
 pub meta_keyed : IsKeyed schema 0 meta
 unfolding same_name joined
 meta_keyed = record { place = record { found = refl; alone = refl }; unfollowed = refl; uncounted = refl; unnumbered = refl; index = automatic meta 0 meta.primary 1; aimed = refl; order = refl; places = refl }
+
+-- so it was in version 1
+pub first_meta_keyed : IsKeyed first_schema 0 meta
+unfolding same_name joined
+first_meta_keyed = record { place = record { found = refl; alone = refl }; unfollowed = refl; uncounted = refl; unnumbered = refl; index = automatic meta 0 meta.primary 1; aimed = refl; order = refl; places = refl }
 
 pub mirror_keyed : IsKeyed schema 1 mirror
 unfolding same_name joined
@@ -115,6 +126,14 @@ pub head_keyed : IsKeyed schema 14 head
 unfolding same_name joined
 head_keyed = record { place = record { found = refl; alone = refl }; unfollowed = refl; uncounted = refl; unnumbered = refl; index = automatic head 0 head.primary 41; aimed = refl; order = refl; places = refl }
 
+pub frozen_keyed : IsKeyed schema 15 frozen
+unfolding same_name joined
+frozen_keyed = record { place = record { found = refl; alone = refl }; unfollowed = refl; uncounted = refl; unnumbered = refl; index = automatic frozen 0 frozen.primary 43; aimed = refl; order = refl; places = refl }
+
+pub frozen_share_keyed : IsKeyed schema 16 frozen_share
+unfolding same_name joined
+frozen_share_keyed = record { place = record { found = refl; alone = refl }; unfollowed = refl; uncounted = refl; unnumbered = refl; index = automatic frozen_share 0 frozen_share.primary 45; aimed = refl; order = refl; places = refl }
+
 -- no reference points to these
 pub polled_childless : is_childless schema polled.tree ≡ true
 unfolding same_name joined
@@ -155,3 +174,11 @@ rollup_childless = refl
 pub head_childless : is_childless schema head.tree ≡ true
 unfolding same_name joined
 head_childless = refl
+
+pub frozen_childless : is_childless schema frozen.tree ≡ true
+unfolding same_name joined
+frozen_childless = refl
+
+pub frozen_share_childless : is_childless schema frozen_share.tree ≡ true
+unfolding same_name joined
+frozen_share_childless = refl

@@ -28,6 +28,7 @@ use Rattle.adr_delivery.specs.Tallies.{most_tally}
 use Rattle.adr_state.specs.declared.base.Mark.{Mark}
 use Rattle.adr_state.specs.declared.keys.MirrorKey.{MirrorKey}
 use Rattle.adr_state.specs.declared.keys.ShareKey.{ShareKey}
+use Rattle.adr_state.specs.declared.keys.FrozenKey.{FrozenKey}
 use Rattle.adr_state.specs.declared.keys.ViewKey.{ViewKey}
 use Rattle.adr_state.specs.declared.keys.ViewKey.TheVariants as view
 use Rattle.adr_state.specs.declared.portfolio.Ven.{Ven}
@@ -36,6 +37,7 @@ use Rattle.adr_state.specs.declared.participants.Participant.{Participant}
 use Rattle.adr_state.specs.Digits.{most_number}
 use Rattle.adr_state.specs.Weights.{is_weight}
 use Rattle.adr_db.specs.declared.meta.Meta.{Meta}
+use Rattle.adr_db.specs.declared.meta.FirstMeta.{FirstMeta}
 use Rattle.adr_db.specs.declared.known.MarkColumns.{MarkColumns}
 use Rattle.adr_db.specs.declared.outbox.RemoteRow.{RemoteRow}
 use Rattle.adr_db.specs.declared.report_columns.ReportColumns.{ReportColumns}
@@ -43,7 +45,8 @@ use Rattle.adr_db.specs.declared.shown.RollupColumns.{RollupColumns}
 use Rattle.adr_db.specs.declared.shown.ShownColumns.{ShownColumns}
 use Rattle.adr_db.specs.declared.shown.ShownKey.{ShownKey}
 use Rattle.adr_sql.specs.Keys.{cells}
-use Rattle.adr_db.specs.Rows.{number, meta_columns, key_row, columns_row, mark_from, ven_columns, resource_columns, share_key_row, view_key_row, stamps_columns, participant_row, report_columns_row, interval_columns, owner_cell, remote_row, address_of, entry_columns, shown_key_row, shown_columns, rollup_columns}
+use Rattle.adr_db.specs.Tables.{first_version}
+use Rattle.adr_db.specs.Rows.{number, versioned_row, meta_row, key_row, columns_row, mark_from, ven_columns, resource_columns, share_key_row, frozen_key_row, view_key_row, stamps_columns, participant_row, report_columns_row, interval_columns, owner_cell, remote_row, address_of, entry_columns, shown_key_row, shown_columns, rollup_columns}
 
 -- any number: nothing more is asked of it
 abbrev pub IsNumber : ℕ → Type 0
@@ -96,6 +99,10 @@ IsResource resource = IsResourceNameText resource.name × AreStamps resource.sta
 -- the key of a share: its program is an object id
 abbrev pub IsShareKey : ShareKey → Type 0
 IsShareKey key = IsIdText key.program
+
+-- the key of a frozen share: its event is an object id
+abbrev pub IsFrozenKey : FrozenKey → Type 0
+IsFrozenKey key = IsIdText key.event
 
 -- the upstream id in a key of what is shown is an object id; the key of a report has no id
 abbrev pub IsViewKey : ViewKey → Type 0
@@ -189,6 +196,10 @@ AreResources es = (length es ≤ 10_000) × AllByRecursion IsResourceEntry es
 abbrev pub IsShare : ShareKey × ℕ → Type 0
 IsShare e = IsShareKey e.0 × IsShareWeight e.1
 
+-- a frozen share: its event is an object id, and its weight is from 1 to 1,000,000
+abbrev pub IsFrozenShare : FrozenKey × ℕ → Type 0
+IsFrozenShare e = IsFrozenKey e.0 × IsShareWeight e.1
+
 -- the key of a shown event: its upstream event is an object id
 abbrev pub IsShownKey : ShownKey → Type 0
 IsShownKey key = IsIdText key.event
@@ -207,9 +218,17 @@ AreRollupColumns c = IsIdText c.program × IsUtf8 c.body
 abbrev pub ReadsNumber : Row → ℕ → Type 0
 ReadsNumber row n = number n ≡ column row 0
 
--- the row is that of these numbers of the node: 15 columns from the first on
+-- the row is that of these numbers of the node: 16 columns from the first on
 abbrev pub ReadsMeta : Row → Meta → Type 0
-ReadsMeta row meta = meta_columns meta ≡ cells 0 15 row
+ReadsMeta row meta = meta_row meta ≡ cells 0 16 row
+
+-- so it is, where the row says this version of the tables
+abbrev pub ReadsVersioned : ℕ → Row → Meta → Type 0
+ReadsVersioned n row meta = versioned_row n meta ≡ cells 0 16 row
+
+-- and where it says the first one
+abbrev pub ReadsFirst : Row → FirstMeta → Type 0
+ReadsFirst row first = ReadsVersioned first_version row first.numbers
 
 -- the first two columns are the kind and the id of this upstream key
 abbrev pub ReadsKey : Row → MirrorKey → Type 0
@@ -254,6 +273,18 @@ ReadsShareWeight row weight = number weight ≡ column row 2
 -- the row reads as this key of a share, and behind it as its weight
 abbrev pub ReadsShare : Row → ShareKey × ℕ → Type 0
 ReadsShare row e = ReadsShareKey row e.0 × ReadsShareWeight row e.1
+
+-- the first column is this id
+abbrev pub ReadsId : Row → List ℕ → Type 0
+ReadsId row id = Text id ≡ column row 0
+
+-- the first two columns are this event and this resource
+abbrev pub ReadsFrozenKey : Row → FrozenKey → Type 0
+ReadsFrozenKey row key = frozen_key_row key ≡ cells 0 2 row
+
+-- the row reads as this key of a frozen share, and behind it as its weight
+abbrev pub ReadsFrozenShare : Row → FrozenKey × ℕ → Type 0
+ReadsFrozenShare row e = ReadsFrozenKey row e.0 × ReadsShareWeight row e.1
 
 -- the first three columns are this key of what is shown: its kind, its upstream id and its number
 abbrev pub ReadsViewKey : Row → ViewKey → Type 0

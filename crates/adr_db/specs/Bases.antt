@@ -20,9 +20,9 @@ abbrev pub keys_polled : Option (List MirrorKey) → List MirrorKey
 keys_polled None = []
 keys_polled (Some keys) = keys
 
--- numbers of the node, with those of a portfolio: they say how many vens, resources, shares, reports and subscriptions there are
+-- numbers of the node, with those of a portfolio: they say how many vens, resources, shares, reports, subscriptions and frozen shares there are
 abbrev pub with_sizes : Meta → Portfolio → Meta
-with_sizes numbers p = record numbers { vens = length p.vens; resources = length p.resources; shares = length p.shares; reports = length p.reports; subs = length p.subs }
+with_sizes numbers p = record numbers { vens = length p.vens; resources = length p.resources; shares = length p.shares; reports = length p.reports; subs = length p.subs; frozen = length p.frozen_shares }
 
 -- numbers of the node, with those of a base: they say how many keys the mirror has, and the numbers of its portfolio
 abbrev pub with_base : Meta → Base → Meta

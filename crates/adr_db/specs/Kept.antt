@@ -34,7 +34,7 @@ use Rattle.adr_db.specs.declared.shown.RollupColumns.{RollupColumns}
 use Rattle.adr_db.specs.declared.shown.ShownColumns.{ShownColumns}
 use Rattle.adr_db.specs.declared.shown.ShownKey.{ShownKey}
 use Rattle.adr_db.specs.ShownKeys.{shown_cmp}
-use Rattle.adr_db.specs.Rows.{meta_row, mark_row, key_row, ven_row, resource_row, share_row, stamp_row, report_row, value_rows, sub_row, remote_row, entry_row, head_row, shown_row, rollup_row}
+use Rattle.adr_db.specs.Rows.{meta_row, mark_row, key_row, ven_row, resource_row, share_row, stamp_row, report_row, value_rows, sub_row, remote_row, entry_row, head_row, shown_row, rollup_row, event_key_row, frozen_share_row}
 
 -- what is kept: the numbers of the node, the mirror in the order of its keys, the polled keys in that order, the portfolio, the stamps of
 -- what is shown, the utility's ids of reports, the entries that wait, and what is kept of shown events and of roll-ups
@@ -73,6 +73,8 @@ contents_among reports values heads kept =
     ∷ map shown_row kept.shown
     ∷ map rollup_row kept.rollups
     ∷ heads
+    ∷ map (λ e. event_key_row e.0) kept.portfolio.frozen
+    ∷ map frozen_share_row kept.portfolio.frozen_shares
     ∷ []
 
 -- so with these in `report` and these in `report_value`: while a report is put, they are of no state
@@ -109,10 +111,10 @@ pub record Keeps (kept : Kept) (s : State) : Type 0 where
 
 -- ---- what is kept of a new node, and the changes of it
 
--- the numbers of a new node: the serial 0, no scan open, each count 0, no entry that waits, no key of the mirror, and no ven, resource, share, report
--- or subscription
+-- the numbers of a new node: the serial 0, no scan open, each count 0, no entry that waits, no key of the mirror, and no ven, resource, share, report,
+-- subscription or frozen share
 abbrev pub first_meta : Meta
-first_meta = record { serial = 0; scan = false; counts = no_counts; pending = 0; keys = 0; vens = 0; resources = 0; shares = 0; reports = 0; subs = 0 }
+first_meta = record { serial = 0; scan = false; counts = no_counts; pending = 0; keys = 0; vens = 0; resources = 0; shares = 0; reports = 0; subs = 0; frozen = 0 }
 
 -- what is kept of a new node: its numbers, and nothing else
 abbrev pub nothing_kept : Kept

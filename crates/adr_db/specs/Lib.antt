@@ -2,6 +2,7 @@ pub mod Tables
 pub mod Rows
 pub mod ShownKeys
 pub mod Kept
+pub mod FirstVersion
 pub mod Bases
 pub mod Images
 pub mod ReadBack

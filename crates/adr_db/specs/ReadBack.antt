@@ -29,6 +29,7 @@ use Rattle.adr_state.specs.declared.portfolio.Resource.{Resource}
 use Rattle.adr_state.specs.declared.portfolio.Report.{Report}
 use Rattle.adr_state.specs.declared.keys.MirrorKey.{MirrorKey}
 use Rattle.adr_state.specs.declared.keys.ShareKey.{ShareKey}
+use Rattle.adr_state.specs.declared.keys.FrozenKey.{FrozenKey}
 use Rattle.adr_state.specs.declared.keys.ViewKey.{ViewKey}
 use Rattle.adr_state.specs.declared.keys.ViewKey.TheVariants as view
 use Rattle.adr_state.specs.declared.state.State.{State}
@@ -90,6 +91,7 @@ meta_in row = record {
   shares = number_of (column row 12);
   reports = number_of (column row 13);
   subs = number_of (column row 14);
+  frozen = number_of (column row 15);
 }
 
 -- a key of the mirror
@@ -166,6 +168,18 @@ share_key_in row = record { program = text_of (column row 0); resource = number_
 abbrev pub share_in : Row → ShareKey × ℕ
 share_in row = (share_key_in row, number_of (column row 2))
 
+-- an event whose shares are frozen
+abbrev pub frozen_in : Row → List ℕ × Unit {0}
+frozen_in row = (text_of (column row 0), tt)
+
+-- a key of the frozen shares
+abbrev pub frozen_key_in : Row → FrozenKey
+frozen_key_in row = record { event = text_of (column row 0); resource = number_of (column row 1) }
+
+-- a frozen share behind its key
+abbrev pub frozen_share_in : Row → FrozenKey × ℕ
+frozen_share_in row = (frozen_key_in row, number_of (column row 2))
+
 -- a key of what is shown, from its kind, its id and its number: 2 is what a resource is shown of an event, 3 a report, 4 the roll-up of an event
 abbrev pub view_key_of : ℕ → List ℕ → ℕ → ViewKey
 view_key_of kind id n = if kind == 2 then view.Event id n else (if kind == 3 then view.Report n else (if kind == 4 then view.Rollup id else view.Program id))
@@ -234,6 +248,8 @@ kept_from all = record {
     shares = map share_in (rows_of_table all 5);
     reports = map (report_in (rows_of_table all 8)) (rows_of_table all 7);
     subs = map (numbered_in sub_in) (rows_of_table all 9);
+    frozen = map frozen_in (rows_of_table all 15);
+    frozen_shares = map frozen_share_in (rows_of_table all 16);
   };
   stamps = map stamped_in (rows_of_table all 6);
   remotes = map remote_in (rows_of_table all 10);

@@ -82,10 +82,11 @@ module _ {S : Type 0} (g : Ghosts S) (old new : Held S) where
 
   -- Rows are read: a refusal is that of the query's own error, or the store's of a parameter past what SQL counts, or it is for what was made of the
   -- rows that the query showed.
+  abbrev pub IsShowRefusal : List ℕ → Row → (List Row → Refusal → Type 0) → Refusal → Type 0
+  IsShowRefusal sql params IsUnread refusal = ((refusal ≡ Store) × HasBeyond params) ⊎ (IsRefusalFor (IsErrorOfQuery sql params) refusal ⊎ ((rows : List Row) × Shown sql params (state g old) (state g new) rows × IsUnread rows refusal))
+
   abbrev pub RefusesToShow : {T : Type 0} → List ℕ → Row → (List Row → Refusal → Type 0) → Result T Refusal → Type 0
-  RefusesToShow sql params IsUnread result =
-      HasCleanDisk (state g new)
-      → IfErr result (λ refusal. ((refusal ≡ Store) × HasBeyond params) ⊎ (IsRefusalFor (IsErrorOfQuery sql params) refusal ⊎ ((rows : List Row) × Shown sql params (state g old) (state g new) rows × IsUnread rows refusal)))
+  RefusesToShow sql params IsUnread result = HasCleanDisk (state g new) → IfErr result (IsShowRefusal sql params IsUnread)
 
 -- Statements run one after another, and then values are put: a refusal is that of the error of the first one that failed.
 abbrev pub RefusesToRunAll : {S T : Type 0} → Ghosts S → Held S → Held S → List (List ℕ) → List ℕ → Row → Result T Refusal → Type 0

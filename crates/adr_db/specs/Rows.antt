@@ -31,6 +31,7 @@ use Rattle.adr_state.specs.declared.portfolio.Resource.{Resource}
 use Rattle.adr_state.specs.declared.portfolio.Report.{Report}
 use Rattle.adr_state.specs.declared.keys.MirrorKey.{MirrorKey}
 use Rattle.adr_state.specs.declared.keys.ShareKey.{ShareKey}
+use Rattle.adr_state.specs.declared.keys.FrozenKey.{FrozenKey}
 use Rattle.adr_state.specs.declared.keys.ViewKey.{ViewKey}
 use Rattle.adr_state.specs.declared.keys.ViewKey.TheVariants as view
 use Rattle.adr_state.specs.declared.participants.Participant.{Participant}
@@ -57,33 +58,8 @@ flag_cell b = Int (if b then pos 1 else pos 0)
 abbrev pub counts_row : EntryCounts → Row
 counts_row c = number c.made ∷ number c.sent ∷ number c.given_up ∷ number c.dropped ∷ []
 
--- the numbers of the node, behind the key 1 and the version of the tables: the serial, whether a scan is open, the
--- counts made, sent, given up and dropped, how many entries wait, how many keys the mirror has, and how many vens,
--- resources, shares, reports and subscriptions there are
-abbrev pub meta_columns : Meta → Row
-meta_columns m =
-    number 1
-    ∷ number version
-    ∷ number m.serial
-    ∷ flag_cell m.scan
-    ∷ number m.counts.made
-    ∷ number m.counts.sent
-    ∷ number m.counts.given_up
-    ∷ number m.counts.dropped
-    ∷ number m.pending
-    ∷ number m.keys
-    ∷ number m.vens
-    ∷ number m.resources
-    ∷ number m.shares
-    ∷ number m.reports
-    ∷ number m.subs
-    ∷ []
-
--- the row of the numbers of the node: behind them 0, since no share is frozen
-abbrev pub meta_row : Meta → Row
-meta_row m = meta_columns m ++ number 0 ∷ []
-
--- the numbers of the node alone, as `meta_row` has them behind the key and the version
+-- the numbers of the node: the serial, whether a scan is open, the counts made, sent, given up and dropped, how many entries
+-- wait, how many keys the mirror has, and how many vens, resources, shares, reports, subscriptions and frozen shares there are
 abbrev pub meta_numbers : Meta → Row
 meta_numbers m =
     number m.serial
@@ -99,7 +75,16 @@ meta_numbers m =
     ∷ number m.shares
     ∷ number m.reports
     ∷ number m.subs
+    ∷ number m.frozen
     ∷ []
+
+-- behind the key 1 and a version of the tables
+abbrev pub versioned_row : ℕ → Meta → Row
+versioned_row n m = number 1 ∷ number n ∷ meta_numbers m
+
+-- and behind that of the tables of today
+abbrev pub meta_row : Meta → Row
+meta_row m = versioned_row version m
 
 -- 1 a program, 2 an event
 abbrev pub kind_number : Kind → ℕ
@@ -165,6 +150,14 @@ share_key_row key = Text key.program ∷ number key.resource ∷ []
 -- a share behind its key
 abbrev pub share_row : ShareKey × ℕ → Row
 share_row e = Text e.0.program ∷ number e.0.resource ∷ number e.1 ∷ []
+
+-- the key of a frozen share: the event, and then the resource
+abbrev pub frozen_key_row : FrozenKey → Row
+frozen_key_row key = Text key.event ∷ number key.resource ∷ []
+
+-- a frozen share behind its key
+abbrev pub frozen_share_row : FrozenKey × ℕ → Row
+frozen_share_row e = Text e.0.event ∷ number e.0.resource ∷ number e.1 ∷ []
 
 -- ---- reports
 

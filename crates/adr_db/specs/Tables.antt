@@ -1,5 +1,5 @@
 -- The tables of the node, in the order in which they are made. The tree of each follows from that order.
-use Rattle.std.specs.Prelude.{ℕ, pos, List, [], ◌∷◌, codes}
+use Rattle.std.specs.Prelude.{ℕ, pos, List, [], ◌∷◌, ◌++◌, codes}
 use Rattle.sqlite.specs.Kind.TheVariants.{Integer, Text}
 use Rattle.sqlite.specs.Table.{Table}
 use Rattle.sqlite.specs.Schema.{Schema}
@@ -168,10 +168,22 @@ rollup_table =
 abbrev pub head_table : Table
 head_table = table (codes "head") (column (codes "dest") Integer ∷ column (codes "entry") Integer ∷ []) ((1 ∷ []) ∷ []) (1 ∷ []) []
 
+-- the events whose shares are frozen
+abbrev pub frozen_table : Table
+frozen_table = table (codes "frozen") (column (codes "event") Text ∷ []) ((1 ∷ []) ∷ []) (1 ∷ []) []
+
+-- the shares that are kept for frozen events, which go with their resource: the second unique key is there to find them by it
+abbrev pub frozen_share_table : Table
+frozen_share_table =
+    checked_table (codes "frozen_share") (column (codes "event") Text
+    ∷ column (codes "resource") Integer
+    ∷ column (codes "weight") Integer
+    ∷ []) ((1 ∷ 2 ∷ []) ∷ (2 ∷ 1 ∷ []) ∷ []) (1 ∷ 2 ∷ []) (weight_check ∷ []) (cascades_to 2 (codes "resource") (codes "id") ∷ [])
+
 -- `meta`, `mirror`, `polled`, `ven`, `resource`, `share`, `stamp`, `report`, `report_value`, `sub`, `remote`, `outbox`,
--- `shown`, `rollup` and `head`, in this order
-abbrev pub tables : List Table
-tables =
+-- `shown`, `rollup` and `head`, in this order: the tables of version 1
+abbrev pub first_tables : List Table
+first_tables =
     meta_table
     ∷ mirror_table
     ∷ polled_table
@@ -189,10 +201,26 @@ tables =
     ∷ head_table
     ∷ []
 
+-- what version 2 has beside them: `frozen` and `frozen_share`
+abbrev pub later_tables : List Table
+later_tables = frozen_table ∷ frozen_share_table ∷ []
+
+-- the tables of today: those of version 1 and then those of version 2
+abbrev pub tables : List Table
+tables = first_tables ++ later_tables
+
+-- the schema of version 1
+abbrev pub first_schema : Schema
+first_schema = schema_of first_tables
+
 -- the schema after these tables were made, one after another, from an empty database
 abbrev pub schema : Schema
 schema = schema_of tables
 
--- the version of these tables: a file that was kept with another one is no file of this node
+-- the version of these tables: a file that was kept with another one is no file of this node, but for one of the first
+-- version, which becomes one of these
 abbrev pub version : ℕ
-version = 1
+version = 2
+
+abbrev pub first_version : ℕ
+first_version = 1

@@ -8,7 +8,7 @@ ghost use Rattle.sqlite.specs.declared.types.Value.TheVariants.{Int, Text};
 ghost use Rattle.adr_sql.specs.Keys.{cells};
 ghost use Rattle.adr_db.specs.Calls.{IsOfStore};
 ghost use Rattle.adr_db.specs.Refusals.{IsBeyond, IsMisread, CannotRead};
-ghost use Rattle.adr_db.specs.Admitted.{IsIdText, IsNameText, IsMoment, AreStamps, IsNumber, IsKey, ReadsNumber, ReadsKey};
+ghost use Rattle.adr_db.specs.Admitted.{IsIdText, IsNameText, IsMoment, AreStamps, IsNumber, IsKey, ReadsId, ReadsNumber, ReadsKey};
 ghost use Rattle.adr_state.specs.Weights.{is_weight};
 ghost use Rattle.adr_objects.specs.declared.kind.Kind.{Kind as KindOf};
 ghost use Rattle.adr_text.specs.declared.refusal.Refusal.TheVariants.{Store};
@@ -179,6 +179,16 @@ impl FromRow for Number {
 
     fn from_row(_: Global, row: &Row) -> Result<Number, Refusal> {
         number_in(row)
+    }
+}
+
+impl FromRow for ObjectId {
+    ghost reads = { ReadsId };
+
+    ghost admits = { IsIdText };
+
+    fn from_row(alloc: Global, row: &Row) -> Result<ObjectId, Refusal> {
+        id_in(alloc, row, 0)
     }
 }
 

@@ -5,6 +5,7 @@ pub mod cells;
 mod known;
 pub mod laws;
 mod meta;
+mod migration;
 mod outbox;
 pub mod reading;
 mod report_columns;
@@ -18,8 +19,9 @@ mod version;
 
 pub use known::MarkColumns;
 pub use meta::{Meta, put_meta, read_meta};
+pub use migration::{create_later, create_v1, migrate, say_today, upgrade};
 pub use outbox::RemoteRow;
 pub use report_columns::ReportColumns;
 pub use schema::create;
 pub use shown::{RollupColumns, ShownColumns, ShownKey};
-pub use version::check_version;
+pub use version::Version;

@@ -11,7 +11,7 @@ ghost use Rattle.adr_db.specs.Rows.{meta_row, meta_numbers, counts_row, number};
 ghost use Rattle.adr_text.specs.declared.refusal.Refusal.TheVariants.{Store};
 ghost use Rattle.adr_db.specs.Refusals.{HasBeyond, RefusesToPut, RefusesToShow, IsMisread, CannotRead};
 ghost use Rattle.adr_delivery.specs.Tallies.{most_tally};
-ghost use Rattle.adr_db.specs.Admitted.{AreCounts, AreNumbers, ReadsMeta};
+ghost use Rattle.adr_db.specs.Admitted.{AreCounts, AreNumbers, ReadsMeta, ReadsVersioned, ReadsFirst};
 ghost use Rattle.std.specs.List.{AllZip};
 ghost use Rattle.adr_db.specs.Kept.{first_meta, with_meta};
 ghost use Rattle.adr_db.specs.Calls.{LeavesKept, Finds, IsOfStore};
@@ -27,13 +27,16 @@ use sqlite::{Alter, Row, Transaction};
 use std::alloc::Global;
 
 /// The version of these tables. One that is put stands in `PUT`.
-pub(crate) const VERSION: u32 = 1;
+pub(crate) const VERSION: u32 = 2;
+
+/// The first one.
+pub(crate) const FIRST_VERSION: u32 = 1;
 
 const PUT: &str =
-    "INSERT INTO meta (k, version, serial, scan, made, sent, given_up, dropped, pending, keys, vens, resources, shares, reports, subs, frozen) VALUES (1, 1, ?1, ?2, ?3, ?4, ?5, ?6, ?7, ?8, ?9, ?10, ?11, ?12, ?13, 0) ON CONFLICT (k) DO UPDATE SET k = excluded.k, version = excluded.version, serial = excluded.serial, scan = excluded.scan, made = excluded.made, sent = excluded.sent, given_up = excluded.given_up, dropped = excluded.dropped, pending = excluded.pending, keys = excluded.keys, vens = excluded.vens, resources = excluded.resources, shares = excluded.shares, reports = excluded.reports, subs = excluded.subs, frozen = excluded.frozen";
+    "INSERT INTO meta (k, version, serial, scan, made, sent, given_up, dropped, pending, keys, vens, resources, shares, reports, subs, frozen) VALUES (1, 2, ?1, ?2, ?3, ?4, ?5, ?6, ?7, ?8, ?9, ?10, ?11, ?12, ?13, ?14) ON CONFLICT (k) DO UPDATE SET k = excluded.k, version = excluded.version, serial = excluded.serial, scan = excluded.scan, made = excluded.made, sent = excluded.sent, given_up = excluded.given_up, dropped = excluded.dropped, pending = excluded.pending, keys = excluded.keys, vens = excluded.vens, resources = excluded.resources, shares = excluded.shares, reports = excluded.reports, subs = excluded.subs, frozen = excluded.frozen";
 
-const READ: &str =
-    "SELECT k, version, serial, scan, made, sent, given_up, dropped, pending, keys, vens, resources, shares, reports, subs FROM meta ORDER BY k";
+pub(crate) const READ: &str =
+    "SELECT k, version, serial, scan, made, sent, given_up, dropped, pending, keys, vens, resources, shares, reports, subs, frozen FROM meta ORDER BY k";
 
 /// The numbers of the node. None that is kept is above 9,223,372,036,854,775,807.
 #[derive(Clone, Copy, PartialEq, Eq)]
@@ -58,6 +61,8 @@ pub struct Meta {
     pub reports: u64,
     /// How many subscriptions there are.
     pub subs: u64,
+    /// How many shares are frozen.
+    pub frozen: u64,
 }
 
 impl Meta {
@@ -76,12 +81,13 @@ impl Meta {
             shares: 0,
             reports: 0,
             subs: 0,
+            frozen: 0,
         }
     }
 }
 
 // What is put into the row: the parameters of `PUT`.
-struct Cells([ValueRef<'static>; 13]);
+struct Cells([ValueRef<'static>; 14]);
 
 // The cells of numbers of the node, of which none is above what SQL counts.
 fn cells_of(meta: &Meta) -> Result<Cells, Refusal>
@@ -102,6 +108,7 @@ fn cells_of(meta: &Meta) -> Result<Cells, Refusal>
         number(meta.shares)?,
         number(meta.reports)?,
         number(meta.subs)?,
+        number(meta.frozen)?,
     ]))
 }
 
@@ -158,25 +165,52 @@ fn counts_in(row: &Row) -> Result<EntryCounts, Refusal>
     })
 }
 
+// The numbers of the node in a row that says this version of the tables.
+fn meta_in(row: &Row, version: u32) -> Result<Meta, Refusal>
+    ensures reads { IfOk result (ReadsVersioned version row.now) }
+    ensures refused { IfErr result (CannotRead AreNumbers (ReadsVersioned version) row.now) }
+{
+    expect(row, 0, 1)?;
+    expect(row, 1, version)?;
+    Ok(Meta {
+        serial: Serial::at(column(row, 2)?).ok_or(Refusal::Store)?,
+        scan: flag_in(row, 3)?,
+        counts: counts_in(row)?,
+        pending: column(row, 8)?,
+        keys: column(row, 9)?,
+        vens: column(row, 10)?,
+        resources: column(row, 11)?,
+        shares: column(row, 12)?,
+        reports: column(row, 13)?,
+        subs: column(row, 14)?,
+        frozen: column(row, 15)?,
+    })
+}
+
 impl FromRow for Meta {
     ghost reads = { ReadsMeta };
 
     ghost admits = { AreNumbers };
 
     fn from_row(_: Global, row: &Row) -> Result<Meta, Refusal> {
-        expect(row, 0, 1)?;
-        expect(row, 1, VERSION)?;
-        Ok(Meta {
-            serial: Serial::at(column(row, 2)?).ok_or(Refusal::Store)?,
-            scan: flag_in(row, 3)?,
-            counts: counts_in(row)?,
-            pending: column(row, 8)?,
-            keys: column(row, 9)?,
-            vens: column(row, 10)?,
-            resources: column(row, 11)?,
-            shares: column(row, 12)?,
-            reports: column(row, 13)?,
-            subs: column(row, 14)?,
+        meta_in(row, VERSION)
+    }
+}
+
+/// The numbers of the node as version 1 of the tables has them: the same, behind another version.
+#[derive(Drop)]
+pub(crate) struct FirstMeta {
+    pub numbers: Meta,
+}
+
+impl FromRow for FirstMeta {
+    ghost reads = { ReadsFirst };
+
+    ghost admits = { λ first. AreNumbers first.numbers };
+
+    fn from_row(_: Global, row: &Row) -> Result<FirstMeta, Refusal> {
+        Ok(FirstMeta {
+            numbers: meta_in(row, FIRST_VERSION)?,
         })
     }
 }

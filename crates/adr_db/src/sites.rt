@@ -1,14 +1,14 @@
-//! How vens, resources, shares and those who take part read from their rows.
+//! How vens, resources, shares, frozen ones too, and those who take part read from their rows.
 ghost use Rattle.std.specs.Prelude.{◌≡◌, IfOk, IfErr};
 ghost use Rattle.adr_db.specs.Refusals.{CannotRead};
 ghost use Rattle.sqlite.specs.declared.types.Value.TheVariants.{Text};
-ghost use Rattle.adr_db.specs.Admitted.{IsVen, ReadsVen, IsResource, IsResourceNameText, ReadsResource, IsShareKey, IsShareWeight, ReadsShareKey, ReadsShareWeight, IsParticipant, ReadsParticipant};
+ghost use Rattle.adr_db.specs.Admitted.{IsVen, ReadsVen, IsResource, IsResourceNameText, ReadsResource, IsShareKey, IsShareWeight, ReadsShareKey, ReadsShareWeight, IsFrozenKey, ReadsFrozenKey, IsParticipant, ReadsParticipant};
 ghost use Rattle.sqlite.specs.Order.{column};
 
 use crate::cells::{as_stored, column, id_in, name_in, stamps_in, weight_in};
 use crate::reading::FromRow;
 use adr_objects::{Number, ResourceName};
-use adr_state::{Participant, Resource, ShareKey, Ven, Weight};
+use adr_state::{FrozenKey, Participant, Resource, ShareKey, Ven, Weight};
 use adr_text::Refusal;
 use sqlite::Row;
 use std::alloc::Global;
@@ -60,6 +60,19 @@ impl FromRow for ShareKey {
     fn from_row(alloc: Global, row: &Row) -> Result<ShareKey, Refusal> {
         Ok(ShareKey {
             program: id_in(alloc, row, 0)?,
+            resource: Number::new(column(row, 1)?),
+        })
+    }
+}
+
+impl FromRow for FrozenKey {
+    ghost reads = { ReadsFrozenKey };
+
+    ghost admits = { IsFrozenKey };
+
+    fn from_row(alloc: Global, row: &Row) -> Result<FrozenKey, Refusal> {
+        Ok(FrozenKey {
+            event: id_in(alloc, row, 0)?,
             resource: Number::new(column(row, 1)?),
         })
     }

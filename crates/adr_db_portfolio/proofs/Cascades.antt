@@ -17,15 +17,15 @@ use Rattle.adr_sql.proofs.KeyedMaps.{rows_left}
 use Rattle.adr_sql.proofs.Cascades.{Losses, IsChain, linked, cascade_runs}
 use Rattle.sqlite_rules.proofs.ProbeLemmas.{has_mapped}
 use Rattle.adr_db.specs.Tables.{schema}
-use Rattle.adr_db.specs.Rows.{number, number_row, ven_columns, resource_columns, resource_row, share_row, report_columns, report_row, value_rows_from, value_rows, owner_cell, sub_row}
+use Rattle.adr_db.specs.Rows.{number, number_row, ven_columns, resource_columns, resource_row, share_row, frozen_share_row, report_columns, report_row, value_rows_from, value_rows, owner_cell, sub_row}
 use Rattle.adr_db.specs.Kept.{Kept, Keeps, contents_of, with_portfolio}
-use Rattle.adr_db.proofs.Tables.{ven, ven_keyed, resource, resource_keyed, share, report, report_keyed, report_value, sub}
+use Rattle.adr_db.proofs.Tables.{ven, ven_keyed, resource, resource_keyed, share, report, report_keyed, report_value, sub, frozen_share}
 use Rattle.adr_db.proofs.Rows.{number_codec, number_same_is, numbers_as_values, numbers_as_rows}
 use Rattle.adr_db_portfolio.specs.declared.ven.TheConstants.{REMOVE as VEN_REMOVE}
 use Rattle.adr_db_portfolio.specs.declared.resource.TheConstants.{REMOVE as RESOURCE_REMOVE}
 use Rattle.adr_db_portfolio.specs.declared.report.TheConstants.{REMOVE as REPORT_REMOVE}
 use Rattle.adr_db.proofs.KeptMaps.{KeptMap}
-use Rattle.adr_db.proofs.Maps.{ven_map, resource_map, share_map, report_rows, sub_map}
+use Rattle.adr_db.proofs.Maps.{ven_map, resource_map, share_map, frozen_share_map, report_rows, sub_map}
 use Rattle.adr_db.proofs.Rises.{reports_rise}
 use Rattle.adr_db.proofs.Reports.{NumbersRise, found_of, values_left}
 use Rattle.adr_db_portfolio.proofs.ReportPuts.{is_other, others_left}
@@ -157,13 +157,16 @@ module _ (kept : Kept) (s : State) (was : Keeps kept s) where
   shares_named : Names 1 (map share_row kept.portfolio.shares)
   shares_named = named_in 1 share_row (λ e. Some e.0.resource) (λ e. refl) kept.portfolio.shares
 
+  frozen_named : Names 1 (map frozen_share_row kept.portfolio.frozen_shares)
+  frozen_named = named_in 1 frozen_share_row (λ e. Some e.0.resource) (λ e. refl) kept.portfolio.frozen_shares
+
   reports_named : Names 2 (map report_row kept.portfolio.reports)
   reports_named = named_in 2 report_row (λ e. Some e.1.body.head.resource) (λ e. refl) kept.portfolio.reports
 
   subs_named : Names 1 (map sub_row kept.portfolio.subs)
   subs_named = named_in 1 sub_row (λ e. e.1.owner) (λ e. refl) kept.portfolio.subs
 
-  -- the resources of the ven, the shares of those and the reports on them, and the intervals of these; and the subscriptions of the ven
+  -- the resources of the ven, the shares of those, frozen ones too, and the reports on them, and the intervals of these; and the subscriptions of the ven
   abbrev with_ven_gone : ℕ → Losses
   with_ven_gone n =
       (ven.tree, has_key 1 (number_row n))
@@ -172,6 +175,7 @@ module _ (kept : Kept) (s : State) (was : Keeps kept s) where
       ∷ (report.tree, λ row. is_number (is_of_ven n kept.portfolio.resources) (column row 2))
       ∷ (report_value.tree, λ row. is_number (is_on (is_of_ven n kept.portfolio.resources) kept.portfolio.reports) (column row 0))
       ∷ (sub.tree, λ row. is_number (λ v. v == n) (column row 1))
+      ∷ (frozen_share.tree, λ row. is_number (is_of_ven n kept.portfolio.resources) (column row 1))
       ∷ []
 
   ven_chain : (n : ℕ) → IsChain schema ven (with_ven_gone n) (contents_of kept)
@@ -191,19 +195,23 @@ module _ (kept : Kept) (s : State) (was : Keeps kept s) where
       (λ report. is_of_ven n kept.portfolio.resources report.body.head.resource) (λ k v. refl)) in
       let subs = linked schema ven (with_ven_gone n) (contents_of kept) sub (cascades_to 2 (codes "ven") (codes "id")) (ven.tree, 1 ∷ [], plain) 1 (record { columns = refl; places = refl; order = refl }) (inl refl) refl (omega arith)
       (λ r has go. number_full (λ v. v == n) (column r 1) go) (child_same ven_columns kept.portfolio.vens 1 (map sub_row kept.portfolio.subs) subs_named n) in
+      let frozen = linked schema ven (with_ven_gone n) (contents_of kept) frozen_share (cascades_to 2 (codes "resource") (codes "id")) (resource.tree, 1 ∷ [], plain) 1 (record { columns = refl; places = refl; order = refl }) (inl refl) refl (omega arith)
+      (λ r has go. number_full (is_of_ven n kept.portfolio.resources) (column r 1) go)
+      (parent_says resource_columns kept.portfolio.resources 1 (map frozen_share_row kept.portfolio.frozen_shares) frozen_named rows_of_resources_rise (λ row. is_number (λ v. v == n) (column row 1)) (λ r. r.ven == n) (λ k v. refl)) in
       record {
         cascading = refl;
-        along = ((resources.0, tt), ((shares.0, tt), ((reports.0, tt), ((values.0, tt), ((subs.0, tt), tt)))));
-        because = ((λ r has go. inl refl), (resources.1, (shares.1, (reports.1, (values.1, (subs.1, tt))))));
+        along = ((resources.0, tt), ((shares.0, tt), ((reports.0, tt), ((values.0, tt), ((subs.0, tt), ((frozen.0, tt), tt))))));
+        because = ((λ r has go. inl refl), (resources.1, (shares.1, (reports.1, (values.1, (subs.1, (frozen.1, tt)))))));
       }
 
-  -- the shares of the resource and the reports on it, and the intervals of these
+  -- the shares of the resource, frozen ones too, and the reports on it, and the intervals of these
   abbrev with_resource_gone : ℕ → Losses
   with_resource_gone n =
       (resource.tree, has_key 1 (number_row n))
       ∷ (share.tree, λ row. is_number (λ r. r == n) (column row 1))
       ∷ (report.tree, λ row. is_number (λ r. r == n) (column row 2))
       ∷ (report_value.tree, λ row. is_number (is_on (λ r. r == n) kept.portfolio.reports) (column row 0))
+      ∷ (frozen_share.tree, λ row. is_number (λ r. r == n) (column row 1))
       ∷ []
 
   resource_chain : (n : ℕ) → IsChain schema resource (with_resource_gone n) (contents_of kept)
@@ -216,10 +224,12 @@ module _ (kept : Kept) (s : State) (was : Keeps kept s) where
       let values = linked schema resource (with_resource_gone n) (contents_of kept) report_value (cascades_to 1 (codes "report") (codes "id")) (report.tree, 1 ∷ [], plain) 0 (record { columns = refl; places = refl; order = refl }) (inl refl) refl (omega arith)
       (λ r has go. number_full (is_on (λ r. r == n) kept.portfolio.reports) (column r 0) go)
       (parent_says report_columns kept.portfolio.reports 0 (flat_map value_rows kept.portfolio.reports) (named_values kept.portfolio.reports) rows_of_reports_rise (λ row. is_number (λ r. r == n) (column row 2)) (λ report. report.body.head.resource == n) (λ k v. refl)) in
+      let frozen = linked schema resource (with_resource_gone n) (contents_of kept) frozen_share (cascades_to 2 (codes "resource") (codes "id")) (resource.tree, 1 ∷ [], plain) 1 (record { columns = refl; places = refl; order = refl }) (inl refl) refl (omega arith)
+      (λ r has go. number_full (λ r. r == n) (column r 1) go) (child_same resource_columns kept.portfolio.resources 1 (map frozen_share_row kept.portfolio.frozen_shares) frozen_named n) in
       record {
         cascading = refl;
-        along = ((shares.0, tt), ((reports.0, tt), ((values.0, tt), tt)));
-        because = ((λ r has go. inl refl), (shares.1, (reports.1, (values.1, tt))));
+        along = ((shares.0, tt), ((reports.0, tt), ((values.0, tt), ((frozen.0, tt), tt))));
+        because = ((λ r has go. inl refl), (shares.1, (reports.1, (values.1, (frozen.1, tt)))));
       }
 
   -- the intervals of the report
@@ -251,9 +261,10 @@ ven_removed n old new count h kept was =
     let resources_left = filter-map (λ row. not (is_number (λ v. v == n) (column row 1))) resource_row kept.portfolio.resources in
     let shares_left = filter-map (λ row. not (is_number (is_of_ven n kept.portfolio.resources) (column row 1))) share_row kept.portfolio.shares in
     let reports_left = filter-map (λ row. not (is_number (is_of_ven n kept.portfolio.resources) (column row 2))) report_row kept.portfolio.reports in
+    let frozen_left = filter-map (λ row. not (is_number (is_of_ven n kept.portfolio.resources) (column row 1))) frozen_share_row kept.portfolio.frozen_shares in
     let values_gone = values_off (is_of_ven n kept.portfolio.resources) kept.portfolio.reports (reports_rise kept old was) in
     record {
-      rows = subst (λ all. Holds schema all new) (λ i. with_rows ven_map (left i) (with_rows resource_map (resources_left i) (with_rows share_map (shares_left i) (with_report_rows (reports_left i) (values_gone i) (with_rows sub_map (subs_left n kept.portfolio.subs i) (contents_of kept))))))
+      rows = subst (λ all. Holds schema all new) (λ i. with_rows ven_map (left i) (with_rows resource_map (resources_left i) (with_rows share_map (shares_left i) (with_report_rows (reports_left i) (values_gone i) (with_rows sub_map (subs_left n kept.portfolio.subs i) (with_rows frozen_share_map (frozen_left i) (contents_of kept)))))))
           (cascade_runs schema ven_map.rows.at 1 ven ven_keyed.place VEN_REMOVE.now (number_row n) vens.texts.removes refl (with_ven_gone kept old was n) old new count (contents_of kept) (ven_chain kept old was n) (λ row. refl) h was.rows);
       marks = was.marks;
       subs = all-filter (λ e. IsSub e.1.body) (λ e. not (is_sub_of n e.1)) kept.portfolio.subs was.subs;
@@ -264,9 +275,10 @@ resource_removed n old new count h kept was =
     let left = rows_left resource_map.rows (contents_of kept) kept.portfolio.resources refl n old was.rows in
     let shares_left = filter-map (λ row. not (is_number (λ r. r == n) (column row 1))) share_row kept.portfolio.shares in
     let reports_left = filter-map (λ row. not (is_number (λ r. r == n) (column row 2))) report_row kept.portfolio.reports in
+    let frozen_left = filter-map (λ row. not (is_number (λ r. r == n) (column row 1))) frozen_share_row kept.portfolio.frozen_shares in
     let values_gone = values_off (λ r. r == n) kept.portfolio.reports (reports_rise kept old was) in
     record {
-      rows = subst (λ all. Holds schema all new) (λ i. with_rows resource_map (left i) (with_rows share_map (shares_left i) (with_report_rows (reports_left i) (values_gone i) (contents_of kept))))
+      rows = subst (λ all. Holds schema all new) (λ i. with_rows resource_map (left i) (with_rows share_map (shares_left i) (with_report_rows (reports_left i) (values_gone i) (with_rows frozen_share_map (frozen_left i) (contents_of kept)))))
           (cascade_runs schema resource_map.rows.at 1 resource resource_keyed.place RESOURCE_REMOVE.now (number_row n) resources.texts.removes refl (with_resource_gone kept old was n) old new count (contents_of kept) (resource_chain kept old was n) (λ row. refl) h was.rows);
       marks = was.marks;
       subs = was.subs;

@@ -3,6 +3,8 @@ pub mod Numbers
 pub mod VenStatements
 pub mod ResourceStatements
 pub mod ShareStatements
+pub mod FrozenStatements
+pub mod FrozenRows
 pub mod SubStatements
 pub mod ReportPuts
 pub mod ReportStatements

@@ -3,9 +3,10 @@ use Rattle.std.proofs.Common.{◌≡◌, ℕ, pos, false, List, ◌∷◌, map, 
 use Rattle.std.specs.Prelude.{◌==◌}
 use Rattle.adr_db.proofs.Common.{AllZip, Null, Row, ShareKey, Sub, column, is_eq, is_sub_of, nat_cmp, option_map_or, value_cmp, value_cmp-Int, nat_cmp_total, tied_itself, map-map, cells, and_true, equal_is, same_bool, ties, passes, is_text}
 use Rattle.sqlite_value.proofs.OrderLemmas.{value_cmp-apart}
-use Rattle.adr_db.specs.Rows.{number, number_row, owner_cell, share_key_row, share_row, sub_row}
-use Rattle.adr_db.specs.Admitted.{ReadsNumber, ReadsShareKey}
-use Rattle.adr_db.proofs.Rows.{number_kept, number_same_is, numbers_as_values, share_key_kept}
+use Rattle.adr_db.specs.Rows.{number, number_row, owner_cell, share_key_row, share_row, frozen_key_row, frozen_share_row, sub_row}
+use Rattle.adr_db.specs.Admitted.{ReadsNumber, ReadsShareKey, ReadsFrozenKey}
+use Rattle.adr_db.proofs.Rows.{number_kept, number_same_is, numbers_as_values, share_key_kept, frozen_key_kept}
+use Rattle.adr_state.specs.declared.keys.FrozenKey.{FrozenKey}
 use Rattle.adr_db.proofs.KeptMaps.{read_back}
 
 -- ---- which rows pass
@@ -32,6 +33,9 @@ owner_passes n e = and_true _ ∙ equal_is (column (sub_row e) 1) (number n) ref
 
 pub shares_read : (es : List (ShareKey × ℕ)) (read : List ShareKey) → AllZip ReadsShareKey (map (λ e. cells 0 2 (share_row e)) es) read → read ≡ map (λ e. e.0) es
 shares_read es read h = read_back ReadsShareKey share_key_row read (map (λ e. e.0) es) (λ x y has same. share_key_kept x y same) (subst (λ rows. AllZip ReadsShareKey rows read) (sym (map-map share_key_row (λ e. e.0) es)) h)
+
+pub frozen_read : (es : List (FrozenKey × ℕ)) (read : List FrozenKey) → AllZip ReadsFrozenKey (map (λ e. cells 0 2 (frozen_share_row e)) es) read → read ≡ map (λ e. e.0) es
+frozen_read es read h = read_back ReadsFrozenKey frozen_key_row read (map (λ e. e.0) es) (λ x y has same. frozen_key_kept x y same) (subst (λ rows. AllZip ReadsFrozenKey rows read) (sym (map-map frozen_key_row (λ e. e.0) es)) h)
 
 pub numbers_read : {V : Type 0} (es : List (ℕ × V)) (read : List ℕ) → AllZip ReadsNumber (map (λ e. number_row e.0) es) read → read ≡ map (λ e. e.0) es
 numbers_read es read h = read_back ReadsNumber number_row read (map (λ e. e.0) es) (λ x y has same. number_kept x y same) (subst (λ rows. AllZip ReadsNumber rows read) (sym (map-map number_row (λ e. e.0) es)) h)

@@ -1,13 +1,15 @@
--- The shares in a program, in the order of its keys, find the participants in the order of the resources.
+-- The shares in a program, and those that are kept for an event, in the order of their keys, find the participants in the order of the resources.
 use Rattle.std.proofs.Common.{◌≡◌, ℕ, Bool, true, false, ◌&&◌, cond, List, [], ◌∷◌, map, filter, Option, Some, None, refl, sym, ap, ap₂, subst, ◌∙◌, Ordering, Less, Equal, Greater, is_eq}
 use Rattle.std.specs.Prelude.{option_map, option_and_then}
 use Rattle.adr_db.proofs.Common.{nat_cmp, ordering_then, ordering_reverse, AllByRecursion, filter_map, cons_option, nat_cmp_total, IsAscending, all_weaker, State, Resource, Ven, ShareKey, Participant, id_cmp, share_cmp, at, ties, then_eq, text_same}
 use Rattle.adr_objects.specs.declared.body.EventBody.{EventBody}
-use Rattle.adr_state.specs.Participants.{is_for, as_participant, participant_of, participants}
+use Rattle.adr_state.specs.declared.keys.FrozenKey.{FrozenKey}
+use Rattle.adr_state.specs.Frozen.{is_frozen, frozen_key, frozen_weight}
+use Rattle.adr_state.specs.Participants.{is_for, as_participant, weight_by_share, participants}
 use Rattle.adr_db.specs.Kept.{Kept, Keeps}
-use Rattle.adr_db.specs.Sharing.{is_in, sharers, those_for}
+use Rattle.adr_db.specs.Sharing.{sharers, frozen_sharers, those_for}
 use Rattle.adr_db.proofs.Rows.{number_same_is}
-use Rattle.adr_db.proofs.Rises.{resources_rise, shares_rise}
+use Rattle.adr_db.proofs.Rises.{resources_rise, shares_rise, frozen_shares_rise}
 
 -- ---- lists
 
@@ -98,91 +100,109 @@ module _ {A B C : Type 0} (f : ℕ → A → B → Option C) where
   both_ways [] ys up rises = sym (none_joined (turned f) ys)
   both_ways (x ∷ xs) ys up rises = one_more x xs up (λ zs. both_ways xs zs up.1) ys rises
 
--- ---- the shares in one program, by resource
+-- ---- the entries behind one id, by resource
 
-module _ (program : List ℕ) where
-  abbrev part : ShareKey × ℕ → ℕ × ℕ
-  part s = (s.0.resource, s.1)
+-- keys that are an id and a resource, in the order of the ids and then of the resources
+module _ {K : Type 0} (id_of : K → List ℕ) (resource_of : K → ℕ) where
+  abbrev pair_cmp : K → K → Ordering
+  pair_cmp a b = ordering_then (id_cmp (id_of a) (id_of b)) (nat_cmp (resource_of a) (resource_of b))
 
-  abbrev shares_in : List (ShareKey × ℕ) → List (ℕ × ℕ)
-  shares_in shares = map part (filter (is_in program) shares)
+  abbrev is_behind : List ℕ → K × ℕ → Bool
+  is_behind id e = is_eq (id_cmp id (id_of e.0))
 
-  at_is : (n : ℕ) (shares : List (ShareKey × ℕ)) → at share_cmp (record { program = program; resource = n }) shares ≡ at nat_cmp n (shares_in shares)
-  at_is n [] = refl
-  at_is n (s ∷ shares) =
-      ap (λ b. cond b (Some s.1) (at share_cmp (record { program = program; resource = n }) shares)) (then_eq (id_cmp program s.0.program) (nat_cmp n s.0.resource)) ∙ by (is_in program s) (at_is n shares)
+  abbrev part : K × ℕ → ℕ × ℕ
+  part e = (resource_of e.0, e.1)
+
+  abbrev parts_in : List ℕ → List (K × ℕ) → List (ℕ × ℕ)
+  parts_in id entries = map part (filter (is_behind id) entries)
+
+  at_is : (k : K) (entries : List (K × ℕ)) → at pair_cmp k entries ≡ at nat_cmp (resource_of k) (parts_in (id_of k) entries)
+  at_is k [] = refl
+  at_is k (e ∷ entries) =
+      ap (λ b. cond b (Some e.1) (at pair_cmp k entries)) (then_eq (id_cmp (id_of k) (id_of e.0)) (nat_cmp (resource_of k) (resource_of e.0))) ∙ by (is_behind (id_of k) e) (at_is k entries)
     where
-      by : (b : Bool) → at share_cmp (record { program = program; resource = n }) shares ≡ at nat_cmp n (shares_in shares)
-          → cond (b && is_eq (nat_cmp n s.0.resource)) (Some s.1) (at share_cmp (record { program = program; resource = n }) shares) ≡ at nat_cmp n (map part (cond b (s ∷ filter (is_in program) shares) (filter (is_in program) shares)))
-      by true more = ap (λ o. cond (is_eq (nat_cmp n s.0.resource)) (Some s.1) o) more
+      by : (b : Bool) → at pair_cmp k entries ≡ at nat_cmp (resource_of k) (parts_in (id_of k) entries)
+          → cond (b && is_eq (nat_cmp (resource_of k) (resource_of e.0))) (Some e.1) (at pair_cmp k entries) ≡ at nat_cmp (resource_of k) (map part (cond b (e ∷ filter (is_behind (id_of k)) entries) (filter (is_behind (id_of k)) entries)))
+      by true more = ap (λ o. cond (is_eq (nat_cmp (resource_of k) (resource_of e.0))) (Some e.1) o) more
       by false more = more
 
-  in_program : (s : ShareKey × ℕ) → is_in program s ≡ true → program ≡ s.0.program
-  in_program s is = text_same s.0.program program (ties _ is)
+  module _ (id : List ℕ) where
+    its_id : (e : K × ℕ) → is_behind id e ≡ true → id ≡ id_of e.0
+    its_id e is = text_same (id_of e.0) id (ties _ is)
 
-  itself : (o : Ordering) → o ≡ ordering_reverse o → o ≡ Equal
-  itself Less h = absurd cc
-  itself Equal h = refl
-  itself Greater h = absurd cc
+    -- behind one id the order is that of the resources
+    by_resource : (d e : K × ℕ) → is_behind id d ≡ true → is_behind id e ≡ true → pair_cmp d.0 e.0 ≡ Less → nat_cmp (resource_of d.0) (resource_of e.0) ≡ Less
+    by_resource d e one two less =
+        let same : id_cmp (id_of d.0) (id_of e.0) ≡ Equal = ap (λ p. id_cmp p (id_of e.0)) (sym (its_id d one)) ∙ ties _ two in
+        ap (λ o. ordering_then o (nat_cmp (resource_of d.0) (resource_of e.0))) (sym same) ∙ less
 
-  -- in one program the order is that of the resources
-  by_resource : (s t : ShareKey × ℕ) → is_in program s ≡ true → is_in program t ≡ true → share_cmp s.0 t.0 ≡ Less → nat_cmp s.0.resource t.0.resource ≡ Less
-  by_resource s t one two less =
-      let same : id_cmp s.0.program t.0.program ≡ Equal = ap (λ p. id_cmp p t.0.program) (sym (in_program s one)) ∙ ties _ two in
-      ap (λ o. ordering_then o (nat_cmp s.0.resource t.0.resource)) (sym same) ∙ less
+    above_in : (d : K × ℕ) (entries : List (K × ℕ)) → is_behind id d ≡ true → AllByRecursion (λ e. pair_cmp d.0 e.0 ≡ Less) entries → AreAbove (resource_of d.0) (parts_in id entries)
+    above_in d [] one above = tt
+    above_in d (e ∷ entries) one above = by (is_behind id e) refl (above_in d entries one above.1)
+      where
+        by : (b : Bool) → is_behind id e ≡ b → AreAbove (resource_of d.0) (parts_in id entries) → AreAbove (resource_of d.0) (map part (cond b (e ∷ filter (is_behind id) entries) (filter (is_behind id) entries)))
+        by true two more = (by_resource d e one two above.0, more)
+        by false two more = more
 
-  above_in : (s : ShareKey × ℕ) (shares : List (ShareKey × ℕ)) → is_in program s ≡ true → AllByRecursion (λ t. share_cmp s.0 t.0 ≡ Less) shares → AreAbove s.0.resource (shares_in shares)
-  above_in s [] one above = tt
-  above_in s (t ∷ shares) one above = by (is_in program t) refl (above_in s shares one above.1)
-    where
-      by : (b : Bool) → is_in program t ≡ b → AreAbove s.0.resource (shares_in shares) → AreAbove s.0.resource (map part (cond b (t ∷ filter (is_in program) shares) (filter (is_in program) shares)))
-      by true two more = (by_resource s t one two above.0, more)
-      by false two more = more
-
-  in_rise : (shares : List (ShareKey × ℕ)) → IsAscending (λ a b. share_cmp a.0 b.0 ≡ Less) shares → Rises (shares_in shares)
-  in_rise [] up = tt
-  in_rise (s ∷ shares) up = by (is_in program s) refl (in_rise shares up.1)
-    where
-      by : (b : Bool) → is_in program s ≡ b → Rises (shares_in shares) → Rises (map part (cond b (s ∷ filter (is_in program) shares) (filter (is_in program) shares)))
-      by true one more = (above_in s shares one up.0, more)
-      by false one more = more
+    in_rise : (entries : List (K × ℕ)) → IsAscending (λ a b. pair_cmp a.0 b.0 ≡ Less) entries → Rises (parts_in id entries)
+    in_rise [] up = tt
+    in_rise (e ∷ entries) up = by (is_behind id e) refl (in_rise entries up.1)
+      where
+        by : (b : Bool) → is_behind id e ≡ b → Rises (parts_in id entries) → Rises (map part (cond b (e ∷ filter (is_behind id) entries) (filter (is_behind id) entries)))
+        by true one more = (above_in e entries one up.0, more)
+        by false one more = more
 
 -- ---- the participants
 
-module _ (kept : Kept) (event : EventBody) where
-  abbrev sharing_as : ℕ → Resource → ℕ → Option Participant
-  sharing_as n resource weight = option_map (λ (ven : Ven). record { resource = n; weight = weight; name = resource.name; ven_name = ven.name }) (at nat_cmp resource.ven kept.portfolio.vens)
+module _ (kept : Kept) where
+  -- resources with a weight behind an id, whether they are looked up by resource or by that weight
+  weighted_are : {K : Type 0} (id_of : K → List ℕ) (resource_of : K → ℕ) (id : List ℕ) (entries : List (K × ℕ)) (s : State) → Keeps kept s → IsAscending (λ a b. pair_cmp id_of resource_of a.0 b.0 ≡ Less) entries
+      → filter_map (λ r. option_and_then (as_participant kept.portfolio r) (at nat_cmp r.0 (parts_in id_of resource_of id entries))) kept.portfolio.resources
+      ≡ filter_map (λ e. option_and_then (λ resource. as_participant kept.portfolio (resource_of e.0, resource) e.1) (at nat_cmp (resource_of e.0) kept.portfolio.resources)) (filter (is_behind id_of resource_of id) entries)
+  weighted_are id_of resource_of id entries s was up =
+      both_ways (λ n resource weight. as_participant kept.portfolio (n, resource) weight) kept.portfolio.resources (parts_in id_of resource_of id entries) (resources_rise kept s was) (in_rise id_of resource_of id entries up)
+      ∙ filter_map-map _ (part id_of resource_of) (filter (is_behind id_of resource_of id) entries)
 
-  -- those who share in the program, whether they are looked up by resource or by share
-  sharers_are : (s : State) → Keeps kept s → filter_map (as_participant kept.portfolio event.program) kept.portfolio.resources ≡ sharers event.program kept
-  sharers_are s was =
-      ap (λ (h : ℕ × Resource → Option Participant). filter_map h kept.portfolio.resources) (λ i r. option_and_then (sharing_as r.0 r.1) (at_is event.program r.0 kept.portfolio.shares i))
-      ∙ both_ways sharing_as kept.portfolio.resources (shares_in event.program kept.portfolio.shares) (resources_rise kept s was) (in_rise event.program kept.portfolio.shares (shares_rise kept s was))
-      ∙ filter_map-map _ (part event.program) (filter (is_in event.program) kept.portfolio.shares)
+  module _ (event : EventBody) where
+    -- those who share in the program
+    sharers_are : (s : State) → Keeps kept s → filter_map (λ r. option_and_then (as_participant kept.portfolio r) (at share_cmp (record { program = event.program; resource = r.0 }) kept.portfolio.shares)) kept.portfolio.resources ≡ sharers event.program kept
+    sharers_are s was =
+        ap (λ (h : ℕ × Resource → Option Participant). filter_map h kept.portfolio.resources) (λ i r. option_and_then (as_participant kept.portfolio r) (at_is (λ k. k.program) (λ k. k.resource) (record { program = event.program; resource = r.0 }) kept.portfolio.shares i))
+        ∙ weighted_are (λ (k : ShareKey). k.program) (λ k. k.resource) event.program kept.portfolio.shares s was (shares_rise kept s was)
 
-  -- a resource with its share and its ven, where it has them
-  abbrev shared : ℕ × Resource → Option ℕ → Option Ven → Option Participant
-  shared r weight ven = option_and_then (λ (w : ℕ). option_map (λ (v : Ven). record { resource = r.0; weight = w; name = r.1.name; ven_name = v.name }) ven) weight
+    -- a resource with its share and its ven, where it has them
+    abbrev shared : ℕ × Resource → Option ℕ → Option Ven → Option Participant
+    shared r weight ven = option_and_then (λ (w : ℕ). option_map (λ (v : Ven). record { resource = r.0; weight = w; name = r.1.name; ven_name = v.name }) ven) weight
 
-  abbrev has_its_name : Participant → Bool
-  has_its_name p = is_for event.resource_names p.name
+    abbrev has_its_name : Participant → Bool
+    has_its_name p = is_for event.resource_names p.name
 
-  -- a participant, with its name tested before or behind
-  participant_is : (r : ℕ × Resource) → participant_of kept.portfolio event r ≡ option_and_then (if_passes has_its_name) (as_participant kept.portfolio event.program r)
-  participant_is r = by (is_for event.resource_names r.1.name) refl (at share_cmp (record { program = event.program; resource = r.0 }) kept.portfolio.shares) (at nat_cmp r.1.ven kept.portfolio.vens)
-    where
-      by : (b : Bool) → is_for event.resource_names r.1.name ≡ b → (weight : Option ℕ) (ven : Option Ven)
-          → cond b (shared r weight ven) None ≡ option_and_then (if_passes has_its_name) (shared r weight ven)
-      by true is None ven = refl
-      by true is (Some w) None = refl
-      by true is (Some w) (Some v) = rw is refl
-      by false is None ven = refl
-      by false is (Some w) None = refl
-      by false is (Some w) (Some v) = rw is refl
+    -- one that shares, with its name tested before or behind
+    sharer_is : (r : ℕ × Resource) → option_and_then (as_participant kept.portfolio r) (weight_by_share kept.portfolio event r)
+        ≡ option_and_then (if_passes has_its_name) (option_and_then (as_participant kept.portfolio r) (at share_cmp (record { program = event.program; resource = r.0 }) kept.portfolio.shares))
+    sharer_is r = by (is_for event.resource_names r.1.name) refl (at share_cmp (record { program = event.program; resource = r.0 }) kept.portfolio.shares) (at nat_cmp r.1.ven kept.portfolio.vens)
+      where
+        by : (b : Bool) → is_for event.resource_names r.1.name ≡ b → (weight : Option ℕ) (ven : Option Ven)
+            → shared r (cond b weight None) ven ≡ option_and_then (if_passes has_its_name) (shared r weight ven)
+        by true is None ven = refl
+        by true is (Some w) None = refl
+        by true is (Some w) (Some v) = rw is refl
+        by false is None ven = refl
+        by false is (Some w) None = refl
+        by false is (Some w) (Some v) = rw is refl
 
-  pub participants_are : (s : State) → Keeps kept s → participants kept.portfolio event ≡ those_for event.resource_names (sharers event.program kept)
-  participants_are s was =
-      ap (λ (h : ℕ × Resource → Option Participant). filter_map h kept.portfolio.resources) (λ i r. participant_is r i)
-      ∙ sym (filter_map-filter_map (if_passes has_its_name) (as_participant kept.portfolio event.program) kept.portfolio.resources)
-      ∙ ap (filter_map (if_passes has_its_name)) (sharers_are s was)
-      ∙ filter_map-filter has_its_name (sharers event.program kept)
+    -- of an event that is not frozen
+    pub participants_are : (id : List ℕ) (s : State) → Keeps kept s → is_frozen kept.portfolio id ≡ false → participants kept.portfolio id event ≡ those_for event.resource_names (sharers event.program kept)
+    participants_are id s was free =
+        ap (λ (b : Bool). filter_map (λ r. option_and_then (as_participant kept.portfolio r) (cond b (frozen_weight kept.portfolio id r.0) (weight_by_share kept.portfolio event r))) kept.portfolio.resources) free
+        ∙ ap (λ (h : ℕ × Resource → Option Participant). filter_map h kept.portfolio.resources) (λ i r. sharer_is r i)
+        ∙ sym (filter_map-filter_map (if_passes has_its_name) (λ r. option_and_then (as_participant kept.portfolio r) (at share_cmp (record { program = event.program; resource = r.0 }) kept.portfolio.shares)) kept.portfolio.resources)
+        ∙ ap (filter_map (if_passes has_its_name)) (sharers_are s was)
+        ∙ filter_map-filter has_its_name (sharers event.program kept)
+
+    -- and of one that is
+    pub frozen_are : (id : List ℕ) (s : State) → Keeps kept s → is_frozen kept.portfolio id ≡ true → participants kept.portfolio id event ≡ frozen_sharers id kept
+    frozen_are id s was frozen =
+        ap (λ (b : Bool). filter_map (λ r. option_and_then (as_participant kept.portfolio r) (cond b (frozen_weight kept.portfolio id r.0) (weight_by_share kept.portfolio event r))) kept.portfolio.resources) frozen
+        ∙ ap (λ (h : ℕ × Resource → Option Participant). filter_map h kept.portfolio.resources) (λ i r. option_and_then (as_participant kept.portfolio r) (at_is (λ k. k.event) (λ k. k.resource) (frozen_key id r.0) kept.portfolio.frozen_shares i))
+        ∙ weighted_are (λ (k : FrozenKey). k.event) (λ k. k.resource) id kept.portfolio.frozen_shares s was (frozen_shares_rise kept s was)

@@ -1,1 +1,3 @@
+pub mod Frozen
 pub mod Sharers
+pub mod Participants

@@ -3,6 +3,8 @@ ghost use Rattle.std.specs.Prelude.{◌≡◌, IfErr};
 ghost use Rattle.adr_sql.specs.Calls.{LeavesLent};
 ghost use Rattle.adr_db.specs.Calls.{Finds, IsOfStore};
 
+use crate::frozen::read_frozen;
+use crate::frozen_share::read_frozen_shares;
 use crate::report::read_reports;
 use crate::resource::read_resources;
 use crate::share::read_shares;
@@ -13,7 +15,7 @@ use adr_text::Refusal;
 use sqlite::{Alter, Transaction};
 use std::alloc::Global;
 
-/// The vens, resources, shares, reports and subscriptions.
+/// The vens, resources, shares, reports and subscriptions, the events that are frozen, and what is kept for them.
 pub fn read_portfolio<S: Alter>(
     alloc: Global,
     tx: &mut Transaction<'_, S>,
@@ -28,5 +30,7 @@ pub fn read_portfolio<S: Alter>(
         shares: read_shares(alloc, tx)?,
         reports: read_reports(alloc, tx)?,
         subs: read_subs(alloc, tx)?,
+        frozen: read_frozen(alloc, tx)?,
+        frozen_shares: read_frozen_shares(alloc, tx)?,
     })
 }

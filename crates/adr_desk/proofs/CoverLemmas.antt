@@ -1,5 +1,5 @@
 -- What is decided of vens, resources and shares is covered by what was asked before.
-use Rattle.std.proofs.Common.{◌≡◌, ℕ, Bool, true, false, cond, ◌==◌, ◌&&◌, nat_lt, List, Option, Some, None, Result, Ok, Err, refl, sym, ap, subst, ◌∙◌}
+use Rattle.std.proofs.Common.{◌≡◌, ℕ, Bool, true, false, cond, ◌==◌, ◌&&◌, nat_lt, List, [], Option, Some, None, Result, Ok, Err, IfOk, refl, sym, ap, subst, ◌∙◌}
 use Rattle.std.specs.Prelude.{option_map, option_and_then, IfSome, IsSomeAnd}
 use Rattle.std.specs.Ordering.{nat_cmp}
 use Rattle.adr_text.specs.Refusals.{◌>>=◌, or_else}
@@ -24,6 +24,8 @@ use Rattle.adr_state.specs.Shares.{is_beyond, share_object, share_of, share_set,
 use Rattle.adr_state.specs.Stamping.{fresh, modified_at}
 use Rattle.adr_state.specs.Vens.{putting_ven, ven_add, ven_at, ven_object, ven_put, ven_remove, ven_with_id}
 use Rattle.adr_state.specs.Weights.{most_weight}
+use Rattle.adr_refresh.specs.Touched.{touched as touched_by}
+use Rattle.adr_refresh.proofs.FreezeLemmas.{freezing_touches_none}
 use Rattle.adr_touched.specs.declared.touched.Touched.{Touched}
 use Rattle.adr_kept_view.specs.declared.object.OldObject.{OldObject}
 use Rattle.adr_kept_view.specs.declared.object.ObjectKey.TheVariants as object
@@ -37,6 +39,7 @@ use Rattle.adr_state.specs.declared.keys.MirrorKey.{MirrorKey}
 use Rattle.adr_state.specs.declared.portfolio.Report.{Report}
 use Rattle.adr_state.specs.Subs.{putting_sub, sub_post, sub_removed, sub_replaced}
 use Rattle.adr_view.specs.declared.sight.Sight.{Sight}
+use Rattle.adr_view.specs.Frozen.{freeze}
 use Rattle.adr_view.specs.Reports.{kept_report, may_change, may_report, putting_report, report_delete, report_made, report_on, report_post, report_put, report_removed, report_replaced, report_with_id}
 use Rattle.adr_view.specs.Subs.{sub_delete, sub_in_sight, sub_put}
 
@@ -180,6 +183,12 @@ module _ (touched : Touched) (none : CoversWhatTouchesNothing touched) (base : B
       let found = went_is (sub_in_sight sight id p) (λ s. Ok (sub_removed s)) (x, change) is in
       let same : sub_removed found.0 ≡ (x, change) = cc found.2 in
       subst (Covered touched base) (ap (λ (d : SubObject × PortfolioChange). d.1) same) (none (ChangePortfolio (DropSub found.0.0)) base refl)
+
+-- ---- an event that is frozen, by which nothing that is shown changes
+
+pub freeze_covers : (touched : Touched) → CoversWhatTouchesNothing touched → (limits : Limits) (id : List ℕ) (base : Base) (x : List (ℕ × ℕ)) (change : PortfolioChange) → freeze limits id base.mirror base.portfolio ≡ Ok (x, change) → Covers (ChangePortfolio change) base touched
+freeze_covers touched none limits id base x change is =
+    none (ChangePortfolio change) base (subst (λ (r : Result (List (ℕ × ℕ) × PortfolioChange) Refusal). IfOk r (λ d. touched_by (ChangePortfolio d.1) base ≡ [])) is (freezing_touches_none limits id base))
 
 -- ---- reports
 

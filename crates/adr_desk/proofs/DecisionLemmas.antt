@@ -71,12 +71,12 @@ pub asks_nothing : {S : Type 0} (g : Ghosts S) (old : Held S) → Asks g old old
 asks_nothing g old clean beside base was = (tt, was)
 
 module _ {S : Type 0} (g : Ghosts S) (old asked new : Held S) (Right : Base → Type 0) (asks : Asks g old asked Right) (early : HasCleanDisk (state g new) → HasCleanDisk (state g asked)) where
-  -- a decision of the portfolio
-  pub portfolio_carries : {A : Type 0} (comes : A → Outcome) (decide : Portfolio → Result (A × PortfolioChange) Refusal) (touched : Touched) (before after : Meta) (r : Result A Refusal)
-      → Carries g asked new (λ base. decide base.portfolio) before after r → RefusesOn g asked new (λ base. decide base.portfolio) before r
-      → ((base : Base) → Right base → (x : A) (change : PortfolioChange) → decide base.portfolio ≡ Ok (x, change) → Covers (ChangePortfolio change) base touched)
-      → CarriesOut g old new (λ base. of_portfolio comes (decide base.portfolio)) before after (told_by (with_touched touched) (told_by comes r))
-  portfolio_carries comes decide touched before after (Ok x) carries refuses covers = record {
+  -- a decision of a change of the portfolio, by the whole base
+  pub change_carries : {A : Type 0} (comes : A → Outcome) (decide : Base → Result (A × PortfolioChange) Refusal) (touched : Touched) (before after : Meta) (r : Result A Refusal)
+      → Carries g asked new decide before after r → RefusesOn g asked new decide before r
+      → ((base : Base) → Right base → (x : A) (change : PortfolioChange) → decide base ≡ Ok (x, change) → Covers (ChangePortfolio change) base touched)
+      → CarriesOut g old new (λ base. of_portfolio comes (decide base)) before after (told_by (with_touched touched) (told_by comes r))
+  change_carries comes decide touched before after (Ok x) carries refuses covers = record {
     decides = λ clean beside base was same.
         let found = asks (early clean) beside base was in
         let it = carries clean beside base found.1 same in
@@ -89,10 +89,17 @@ module _ {S : Type 0} (g : Ghosts S) (old asked new : Held S) (Right : Base → 
         };
     refuses = λ clean. tt;
   }
-  portfolio_carries comes decide touched before after (Err e) carries refuses covers = record {
+  change_carries comes decide touched before after (Err e) carries refuses covers = record {
     decides = λ clean. tt;
-    refuses = λ clean beside base was same. then_refused e (decide base.portfolio) _ (refuses clean beside base (asks (early clean) beside base was).1 same);
+    refuses = λ clean beside base was same. then_refused e (decide base) _ (refuses clean beside base (asks (early clean) beside base was).1 same);
   }
+
+  -- and by the portfolio alone
+  pub portfolio_carries : {A : Type 0} (comes : A → Outcome) (decide : Portfolio → Result (A × PortfolioChange) Refusal) (touched : Touched) (before after : Meta) (r : Result A Refusal)
+      → Carries g asked new (λ base. decide base.portfolio) before after r → RefusesOn g asked new (λ base. decide base.portfolio) before r
+      → ((base : Base) → Right base → (x : A) (change : PortfolioChange) → decide base.portfolio ≡ Ok (x, change) → Covers (ChangePortfolio change) base touched)
+      → CarriesOut g old new (λ base. of_portfolio comes (decide base.portfolio)) before after (told_by (with_touched touched) (told_by comes r))
+  portfolio_carries comes decide = change_carries comes (λ base. decide base.portfolio)
 
 module _ {S : Type 0} (g : Ghosts S) (old new : Held S) where
   -- one whose change is decided by itself, whose answer follows, and which touches nothing

@@ -5,7 +5,7 @@ use Rattle.adr_db.proofs.Common.{Trees, HasCleanDisk, Refusal}
 use Rattle.sqlite.specs.State.{Survives}
 use Rattle.sqlite.specs.State as sql
 use Rattle.adr_state.specs.declared.state.State.{State}
-use Rattle.adr_held.specs.Held.{HoldsState, AreLeftWith}
+use Rattle.adr_held.specs.Held.{HoldsState, HoldsInEither, AreLeftWith, AreLeftFirst, AreLeftInEither}
 use Rattle.adr_queries.specs.declared.answer.Answer.{Answer}
 use Rattle.adr_desk.specs.Restarts.{IsStepOf}
 use Rattle.adr_desk.proofs.Transactions.{left_now}
@@ -21,6 +21,23 @@ went_well P (Err e) is h = absurd cc
 -- what tables hold is left by trees that are theirs
 pub left_by : (held : State) (s : sql.State) (trees : Trees) → trees ≡ s.now.trees → HoldsState held s → AreLeftWith held trees
 left_by held s trees is h = subst (AreLeftWith held) (sym is) (left_now held s h)
+
+-- so it is in either version
+pub left_in_either : (held : State) (s : sql.State) (trees : Trees) → trees ≡ s.now.trees → HoldsInEither held s → AreLeftInEither held trees
+left_in_either held s trees is (inl today) = inl (left_by held s trees is today)
+left_in_either held s trees is (inr first) = inr (subst (AreLeftFirst held) (sym is) (record {
+  sound = first.keeps.rows.sound;
+  rows = first.keeps.rows.each;
+  marks = first.keeps.marks;
+  subs = first.keeps.subs;
+  unfrozen = first.keeps.unfrozen;
+  reads = first.reads;
+  right = first.right;
+}))
+
+-- a store that recovers trees recovers these, where they are the same
+pub recovered : (recovers : Trees → Type 0) (x y : Trees) → x ≡ y → recovers y → recovers x
+recovered recovers x y is = subst recovers (sym is)
 
 -- a crash leaves what was held before, or what comes after
 pub before_or_after : (old new : sql.State) (IsAfter : State → Trees → Type 0) (held : State) → Survives old new (λ trees. (h : State) → HoldsState h old → IsAfter h trees) → HasCleanDisk new

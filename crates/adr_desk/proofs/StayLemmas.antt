@@ -24,20 +24,26 @@ use Rattle.adr_state.specs.BaseChanges.{BaseChange, ChangePortfolio, JoinMarks, 
 use Rattle.adr_state.specs.Evidence.{adds_beyond, joining, open_scan, scan_end, scan_with}
 use Rattle.adr_state.specs.Mirror.{evidence_of, joined}
 use Rattle.adr_state.specs.Names.{is_full, is_taken, is_taken_by_another, resource_name, ven_name}
+use Rattle.adr_state.specs.Frozen.{is_frozen, pairs_kept}
+use Rattle.adr_state.specs.Participants.{participants}
 use Rattle.adr_state.specs.Portfolios.{DropShare, DropSub, DropVen, PortfolioChange, PutShare, PutSub, portfolio_after}
+use Rattle.adr_state.specs.Portfolios.{Freeze as FreezeEvent}
 use Rattle.adr_state.specs.Resources.{putting_resource, resource_at, resource_under}
 use Rattle.adr_state.specs.Shares.{is_beyond, share_of, weight_set}
 use Rattle.adr_state.specs.Stamping.{fresh, modified_at}
 use Rattle.adr_state.specs.Subs.{sub_post}
 use Rattle.adr_state.specs.Vens.{putting_ven, ven_at, ven_with_id}
 use Rattle.adr_state.specs.Weights.{most_weight}
+use Rattle.adr_view.specs.Frozen.{pairs_of, can_not_keep, freeze}
+use Rattle.adr_view.specs.Rollups.{event_at}
+use Rattle.adr_view.proofs.FrozenLemmas.{frozen_now}
 use Rattle.adr_view.specs.Reports.{kept_report, may_change, may_report, putting_report, report_made, report_on, report_removed, report_replaced, report_with_id}
 use Rattle.adr_view.specs.Sights.{owner_in}
 use Rattle.adr_view.specs.Subs.{sub_in_sight, sub_put}
 use Rattle.adr_refresh.proofs.Common.{at, at-insert_entry, is_eq, nat_cmp, nat_cmp_total}
 use Rattle.adr_queries.specs.Roles.{sight_of}
 use Rattle.adr_machine.specs.declared.command.Command.{Command}
-use Rattle.adr_machine.specs.declared.command.Command.TheVariants.{Evidence, Gone, ScanBegin, ScanEnd, VenAdd, VenPut, VenRemove, ResourceAdd, ResourcePut, ResourceRemove, ShareSet, ReportPost, ReportPut, ReportDelete, SubPost, SubPut, SubDelete, Lease, Sent, Failed}
+use Rattle.adr_machine.specs.declared.command.Command.TheVariants.{Evidence, Gone, ScanBegin, ScanEnd, VenAdd, VenPut, VenRemove, ResourceAdd, ResourcePut, ResourceRemove, ShareSet, Freeze, ReportPost, ReportPut, ReportDelete, SubPost, SubPut, SubDelete, Lease, Sent, Failed}
 use Rattle.adr_machine.specs.declared.outcome.Outcome.{Outcome}
 use Rattle.adr_machine.specs.Edits.{Decision, counted, decided, edit_of, of_portfolio, unsubscribes}
 use Rattle.adr_machine.proofs.EditLemmas.{allowed_then, first_then, free_then, new_then, tested, whatever}
@@ -98,6 +104,9 @@ module _ (limits : Limits) (now next : ℕ) (base : Base) where
       of_change _ _ (whichever Puts (or_else refusal.NotFound (resource_under ven id p)) _ (λ r. free_then Puts (is_taken_by_another resource_name r.0 resource.name p.resources) (putting_resource r.0 (record { ven = r.1.ven; name = resource.name; stamps = modified_at now r.1.stamps })) (λ free. tt)))
   decided_stays (ResourceRemove role ven id) keeps = of_change _ _ (whichever Puts (or_else refusal.NotFound (resource_under ven id p)) _ (λ r. tt))
   decided_stays (ShareSet role program resource share) keeps = of_change _ _ (whichever Puts (or_else refusal.NotFound (resource_at resource p)) _ (λ n. share_stays (record { program = program; resource = n }) share.share))
+  decided_stays (Freeze role event) keeps =
+      of_change _ (freeze limits event base.mirror p) (whichever Puts (or_else refusal.NotFound (event_at base.mirror event)) _ (λ body. cond_both (is_frozen p event) (Ok (pairs_kept p event, FreezeEvent event [])) _ (λ r. IfOk r Puts) (λ frozen. tt)
+      (λ fresh. tested Puts (can_not_keep limits event (pairs_of (participants p event body)) base.mirror p) refusal.LimitReached _ (λ room. tt))))
   decided_stays (ReportPost role report) keeps =
       whichever Decides (sight_of base role) _ (λ sight. of_change _ _ (allowed_then Puts (may_report sight report p) refusal.Forbidden (report_made limits next report base.mirror p)
       (whichever Puts (report_on report base.mirror p) _ (λ on. tested Puts (is_full limits.reports p.reports) refusal.LimitReached (Ok (putting_report next (kept_report next on report))) (λ room. tt)))))
@@ -126,6 +135,7 @@ there_put false v o is = is
 
 subs_stay : (change : PortfolioChange) (p : Portfolio) → Stays change → StayThere p.subs (portfolio_after change p).subs
 subs_stay (PutSub n sub) p stays m is = rw (at-insert_entry nat_cmp_total m n sub p.subs) (there_put (is_eq (nat_cmp m n)) sub (at nat_cmp m p.subs) is)
+subs_stay (FreezeEvent id pairs) p stays m is = cond_both (is_frozen p id) p (frozen_now p id pairs) (λ (q : Portfolio). is_some (at nat_cmp m q.subs) ≡ true) (λ frozen. is) (λ fresh. is)
 subs_stay (DropVen n) p stays m is = absurd stays
 subs_stay (DropSub n) p stays m is = absurd stays
 subs_stay change p stays m is = is

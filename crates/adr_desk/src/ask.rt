@@ -12,14 +12,14 @@ use crate::frame::begin;
 use crate::listing::events;
 use crate::report_listing::reports;
 use crate::scans::first_missed;
+use crate::site_listing::{subs, vens};
 use crate::totals::counted;
-use adr_answers::{
-    program, programs, report, resource, resources, shares, sight_in, sub, subs, ven, vens,
-};
+use adr_answers::{frozen, program, programs, report, resource, shares, sight_in, sub, ven};
 use adr_db_state::read_state;
 use adr_machine::{Answer, Query, Role, is_operator, reply, rollup_told};
 use adr_pages::event;
 use adr_reports::rollup;
+use adr_site_pages::resources;
 use adr_text::{ObjectId, Refusal};
 use sqlite::{Alter, Connection, Transaction};
 use std::alloc::{AllocError, Global};
@@ -80,8 +80,8 @@ fn rolled_up<S: Alter>(
     rollup_told(copy_of(event)?, found)
 }
 
-/// The reply to a query, on a lent transaction, by the rows of what is asked for. Listings of events and of reports and the keys
-/// that a scan missed, which `ask_in` answers in another way, are answered by all there is.
+/// The reply to a query, on a lent transaction, by the rows of what is asked for. Listings of events, of vens, of reports and of
+/// subscriptions and the keys that a scan missed, which `ask_in` answers in another way, are answered by all there is.
 fn asked<S: Alter>(
     alloc: Global,
     tx: &mut Transaction<'_, S>,
@@ -97,15 +97,16 @@ fn asked<S: Alter>(
         Query::Program { role, id } => program(alloc, tx, role, id),
         Query::Events { .. } => replied(alloc, tx, query),
         Query::Event { role, id } => one_event(alloc, tx, role, id),
-        Query::Vens { role, page } => vens(alloc, tx, role, *page),
+        Query::Vens { .. } => replied(alloc, tx, query),
         Query::Ven { role, id } => ven(alloc, tx, role, id),
         Query::Resources { role, ven, page } => resources(alloc, tx, role, ven, *page),
         Query::Resource { role, ven, id } => resource(alloc, tx, role, ven, id),
         Query::Shares { role, program } => shares(alloc, tx, role, program),
+        Query::Frozen { role, event } => frozen(alloc, tx, role, event),
         Query::Reports { .. } => replied(alloc, tx, query),
         Query::Report { role, id } => report(alloc, tx, role, id),
         Query::Rollup { role, event } => rolled_up(alloc, tx, role, event),
-        Query::Subs { role, filter, page } => subs(alloc, tx, role, filter, *page),
+        Query::Subs { .. } => replied(alloc, tx, query),
         Query::Sub { role, id } => sub(alloc, tx, role, id),
         Query::Outbox { role } => counted(tx, role),
         Query::Probes { .. } => replied(alloc, tx, query),
@@ -142,7 +143,9 @@ pub(crate) fn ask_in<S: Alter>(
 {
     match query {
         Query::Events { role, filter, page } => events(alloc, conn, role, filter, *page),
+        Query::Vens { role, page } => vens(alloc, conn, role, *page),
         Query::Reports { role, filter, page } => reports(alloc, conn, role, filter, *page),
+        Query::Subs { role, filter, page } => subs(alloc, conn, role, filter, *page),
         Query::Probes { limit } => first_missed(alloc, conn, *limit),
         _ => asked_at_once(alloc, conn, query),
     }

@@ -68,6 +68,7 @@ pub(crate) fn carry_out<S: Alter>(
             share,
             ..
         } => sites::share_set(alloc, tx, limits, meta, program, resource, share),
+        Command::Freeze { event, .. } => sites::freeze(alloc, tx, limits, meta, event),
         Command::ReportPost { role, report } => {
             report_post(alloc, tx, limits, meta, number, role, report)
         }

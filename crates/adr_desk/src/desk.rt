@@ -10,14 +10,13 @@ ghost use Rattle.adr_state.specs.declared.state.State.{State};
 ghost use Rattle.adr_state.specs.States.{empty};
 ghost use Rattle.adr_sql.specs.Contents.{Contents, Holds, rows_of_table};
 ghost use Rattle.adr_db.specs.Tables.{schema};
-ghost use Rattle.adr_db.specs.Versions.{SayVersion};
-ghost use Rattle.adr_held.specs.Held.{HoldsState, AreLeftWith};
+ghost use Rattle.adr_held.specs.Held.{HoldsState, HoldsInEither, AreLeftWith};
 ghost use Rattle.adr_db.specs.Calls.{IsOfStore};
 ghost use Rattle.adr_queries.specs.Listed.{listed_for, IsListed};
 ghost use Rattle.adr_machine.specs.Listed.{listed};
 ghost use Rattle.adr_queries.specs.Replies.{reply};
 ghost use Rattle.adr_machine.specs.Steps.{step, image_of};
-ghost use Rattle.adr_desk.specs.Preparing.{Becomes};
+ghost use Rattle.adr_desk.specs.Preparing.{Becomes, AreKnown};
 ghost use Rattle.adr_desk.specs.declared.ready.Start.TheVariants.{Kept};
 ghost use Rattle.adr_desk.specs.Since.{HoldsSince};
 ghost use Rattle.adr_desk.specs.Steps.{step_by, LeftStepped};
@@ -82,14 +81,14 @@ impl<S: Alter + Drop> SqlDesk<S> {
         requires { conn.in_transaction ≡ false }
         ensures settings { IfOk result (λ desk. settings_of desk ≡ settings) }
         ensures made { IfOk result (λ desk. HasCleanDisk (shown S.Store desk) → IsTrue (shown S.Store desk).is_open → (held : State) → Becomes start held (state S.Store conn) → IsSound S.Store desk × (state_of S.Store desk ≡ held)) }
-        ensures known { IfOk result (λ desk. HasCleanDisk (shown S.Store desk) → start ≡ Kept → (all : Contents) → Holds schema all (state S.Store conn) → SayVersion (rows_of_table all 0)) }
+        ensures known { IfOk result (λ desk. HasCleanDisk (shown S.Store desk) → start ≡ Kept → AreKnown (state S.Store conn)) }
         ensures committed { IfOk result (λ desk. HasCleanDisk (shown S.Store desk) → (shown S.Store desk).committed ≡ (shown S.Store desk).now) }
         ensures crash { IfOk result (λ desk. Survives (state S.Store conn) (shown S.Store desk) (λ trees. (held : State) → Becomes start held (state S.Store conn) → AreLeftWith held trees)) }
         ensures undone { IfErr result (λ e. HasCleanDisk (state S.Store e.1) → IsTrue (state S.Store e.1).is_open → (state S.Store e.1).committed ≡ (state S.Store conn).committed) }
         ensures back { IfErr result (λ e. Survives (state S.Store conn) (state S.Store e.1) (λ trees. (held : State) → Becomes start held (state S.Store conn) → AreLeftWith held trees)) }
         ensures over { IfErr result (λ e. e.1.in_transaction ≡ false) }
         ensures listed { IfErr result (λ e. IsOfStore e.0 ⊎ ((e.0 ≡ BadFile) × (start ≡ Kept))) }
-        ensures unknown { IfErr result (λ e. HasCleanDisk (state S.Store e.1) → e.0 ≡ BadFile → (held : State) → ¬ HoldsState held (state S.Store conn)) }
+        ensures unknown { IfErr result (λ e. HasCleanDisk (state S.Store e.1) → e.0 ≡ BadFile → (held : State) → ¬ HoldsInEither held (state S.Store conn)) }
     {
         match prepare(&mut conn, start) {
             Ok(()) => {
@@ -115,7 +114,7 @@ impl<S: Alter + Drop> SqlDesk<S> {
         requires { conn.in_transaction ≡ false }
         ensures settings { IfOk result (λ desk. settings_of desk ≡ settings) }
         ensures made { IfOk result (λ desk. HasCleanDisk (shown S.Store desk) → IsTrue (shown S.Store desk).is_open → (held : State) → Becomes start held (state S.Store conn) → IsSound S.Store desk × (state_of S.Store desk ≡ held)) }
-        ensures known { IfOk result (λ desk. HasCleanDisk (shown S.Store desk) → start ≡ Kept → (all : Contents) → Holds schema all (state S.Store conn) → SayVersion (rows_of_table all 0)) }
+        ensures known { IfOk result (λ desk. HasCleanDisk (shown S.Store desk) → start ≡ Kept → AreKnown (state S.Store conn)) }
         ensures committed { IfOk result (λ desk. HasCleanDisk (shown S.Store desk) → (shown S.Store desk).committed ≡ (shown S.Store desk).now) }
         ensures crash { IfOk result (λ desk. Survives (state S.Store conn) (shown S.Store desk) (λ trees. (held : State) → Becomes start held (state S.Store conn) → AreLeftWith held trees)) }
         ensures listed { IfErr result (λ refusal. IsOfStore refusal ⊎ ((refusal ≡ BadFile) × (start ≡ Kept))) }
@@ -140,7 +139,8 @@ impl<S: Alter> SqlDesk<S> {
         prove!(is_settled);
     }
 
-    pub(crate) fn into_parts(self) -> (Settings, Connection<S>)
+    /// The desk is given up: what it is set to, and its database as it stands.
+    pub fn into_parts(self) -> (Settings, Connection<S>)
         ensures same { result ≡ (self.settings, self.conn) }
     {
         let SqlDesk {

@@ -1,6 +1,6 @@
 //! What is true of each desk, of each in memory, and of what a crash leaves.
 ghost use Rattle.sqlite.specs.Held.{state};
-ghost use Rattle.adr_desk.specs.Laws.{MemoryStands, SoundIsHeld, LeftIsHeld, LeavesLastCommit};
+ghost use Rattle.adr_desk.specs.Laws.{MemoryStands, SoundIsHeld, LeavesLastCommit};
 
 use crate::desk::SqlDesk;
 use sqlite::{Alter, Connection};
@@ -15,14 +15,6 @@ pub fn memory_stands()
 pub fn sound_is_held<S: Alter>(desk: &SqlDesk<S>)
     ensures { SoundIsHeld S.Store desk.now }
 {}
-
-/// What a crash may leave says all that the tables hold: a connection which is opened over such trees holds the state that
-/// they were left with.
-pub fn left_is_held<S: Alter>(conn: &Connection<S>)
-    ensures { LeftIsHeld (state S.Store conn.now) }
-{
-    let _ = conn.schema();
-}
 
 /// While a store is open, a crash leaves the last commit and nothing else.
 pub fn last_commit_is_left<S: Alter>(conn: &Connection<S>)

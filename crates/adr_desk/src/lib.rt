@@ -21,6 +21,7 @@ mod reports;
 pub mod restart;
 mod scans;
 pub mod sent;
+mod site_listing;
 mod sites;
 mod step;
 mod subs;

@@ -3,13 +3,16 @@ ghost use Rattle.std.specs.Prelude.{◌≡◌, ◌⊎◌, false, Ok, IsTrue, IfS
 ghost use Rattle.sqlite.specs.Held.{state};
 ghost use Rattle.sqlite.specs.State.{HasCleanDisk};
 ghost use Rattle.sqlite.specs.Files.{file_state, over_files};
+ghost use Rattle.adr_state.specs.declared.state.State.{State};
+ghost use Rattle.adr_held.specs.Held.{HoldsInEither};
 ghost use Rattle.adr_desk.specs.Desks.{shown, settings_of, state_of, IsSound};
 ghost use Rattle.adr_desk.specs.Steps.{step_by};
 ghost use Rattle.adr_desk.specs.Restarts.{Finds, FindsLeft, IsStepOf};
 
 use crate::desk::SqlDesk;
-use crate::laws::{left_is_held, sound_is_held};
-use crate::ready::Start;
+use crate::laws::{last_commit_is_left, sound_is_held};
+use crate::ready::{Start, prepare};
+use adr_held::laws::{first_left_is_held, left_is_held};
 use adr_machine::{Command, Desk, Settings};
 use adr_text::Moment;
 use sqlite::{Alter, Connection, FileStore, Options};
@@ -27,8 +30,28 @@ fn over_left<S: Alter + Drop>(
     ensures { IfSome result (λ again. HasCleanDisk (shown S.Store again) → IsTrue (shown S.Store again).is_open → HasCleanDisk (state S.Store conn) × (IsTrue (state S.Store conn).is_open → FindsLeft S.Store (state S.Store conn).now.trees again)) }
 {
     left_is_held(&conn);
+    first_left_is_held(&conn);
     match SqlDesk::adopt(alloc, settings, conn, Start::Kept) {
         Ok(again) => Some(again),
+        Err(_) => None,
+    }
+}
+
+/// A crash, at some moment of what was done to a database or after it, and a desk over what is left: it holds the state that
+/// this was left with.
+fn crash_of<S: Alter + Reopen + Drop>(
+    alloc: Global,
+    settings: Settings,
+    conn: Connection<S>,
+) -> Option<SqlDesk<S>>
+    ensures { IfSome result (λ again. HasCleanDisk (shown S.Store again) → IsTrue (shown S.Store again).is_open → HasCleanDisk (state S.Store conn) × Finds S.Store (state S.Store conn).may_leave again) }
+{
+    let mut store = conn.into_store();
+    if store.crash_and_reopen().is_err() {
+        return None;
+    }
+    match Connection::over(alloc, store) {
+        Ok(conn) => over_left(alloc, settings, conn),
         Err(_) => None,
     }
 }
@@ -39,14 +62,25 @@ pub fn crash<S: Alter + Reopen + Drop>(alloc: Global, desk: SqlDesk<S>) -> Optio
     ensures { IfSome result (λ again. HasCleanDisk (shown S.Store again) → IsTrue (shown S.Store again).is_open → HasCleanDisk (shown S.Store desk) × Finds S.Store (shown S.Store desk).may_leave again) }
 {
     let (settings, conn) = desk.into_parts();
-    let mut store = conn.into_store();
-    if store.crash_and_reopen().is_err() {
-        return None;
-    }
-    match Connection::over(alloc, store) {
-        Ok(conn) => over_left(alloc, settings, conn),
-        Err(_) => None,
-    }
+    crash_of(alloc, settings, conn)
+}
+
+/// Tables that were kept, of this version or of the first one, are made ready, and there is a crash, at some moment of that or
+/// after it. Either version is left whole: the desk over what is left has the state that the tables held.
+pub fn upgrade_and_crash<S: Alter + Reopen + Drop>(
+    alloc: Global,
+    settings: Settings,
+    mut conn: Connection<S>,
+) -> Option<SqlDesk<S>>
+    requires { conn.in_transaction ≡ false }
+    ensures { IfSome result (λ again. HasCleanDisk (shown S.Store again) → IsTrue (shown S.Store again).is_open → IsTrue (state S.Store conn).is_open
+        → (held : State) → HoldsInEither held (state S.Store conn) → IsSound S.Store again × (state_of S.Store again ≡ held)) }
+{
+    last_commit_is_left(&conn);
+    let is_settled = conn.is_autocommit();
+    prove!(is_settled);
+    let _ = prepare(&mut conn, Start::Kept);
+    crash_of(alloc, settings, conn)
 }
 
 /// A command is given, and there is a crash, at some moment of that or after it. The desk over what is left has the state

@@ -1,22 +1,24 @@
-//! Vens, resources and shares on the tables, with what each command touches, which is asked of them before. The numbers of
+//! Vens, resources, shares and frozen events on the tables, with what each command touches, which is asked of them before. The numbers of
 //! the node are handed in, and are left as the caller has to put them.
 ghost use Rattle.std.specs.Prelude.{◌≡◌, [], ◌∷◌, IfOk, IfErr};
 ghost use Rattle.adr_text.specs.declared.refusal.Refusal.TheVariants.{NotFound, Conflict, LimitReached, BadShare};
 ghost use Rattle.adr_state.specs.Resources.{resource_add, resource_put, resource_remove};
 ghost use Rattle.adr_state.specs.Shares.{share_set};
 ghost use Rattle.adr_state.specs.Vens.{ven_add, ven_put, ven_remove};
+ghost use Rattle.adr_view.specs.Frozen.{freeze};
 ghost use Rattle.adr_sql.specs.Calls.{LeavesLent};
 ghost use Rattle.adr_db.specs.Calls.{IsOneOf};
 ghost use Rattle.adr_machine.specs.declared.command.Command.{Command as CommandOf};
-ghost use Rattle.adr_machine.specs.Edits.{of_portfolio, ven_outcome, resource_outcome, share_outcome, told_by};
+ghost use Rattle.adr_machine.specs.Edits.{of_portfolio, ven_outcome, resource_outcome, share_outcome, frozen_outcome, told_by};
 ghost use Rattle.adr_desk.specs.Decisions.{CarriesOut, IsAnswered, with_touched};
 
 use crate::asked::{as_resource_goes, as_ven_goes, by_resource, by_ven};
 use adr_db::Meta;
-use adr_machine::Outcome;
 use adr_machine::told::{of_resource, of_share, of_ven};
+use adr_machine::{Answer, Outcome};
 use adr_objects::{Number, ResourceIn, ShareIn, VenIn};
 use adr_portfolio as portfolio;
+use adr_queries::frozen_object;
 use adr_state::Limits;
 use adr_text::{Moment, ObjectId, Refusal};
 use adr_touched::{Touched, touched_by_resource, touched_by_share, touched_by_ven};
@@ -186,4 +188,23 @@ pub(crate) fn share_set<S: Alter>(
         of_share(portfolio::share_set(alloc, tx, limits, meta, program, resource, share.share)),
         touched,
     )
+}
+
+/// An event is frozen, which touches nothing that is shown.
+pub(crate) fn freeze<S: Alter>(
+    alloc: Global,
+    tx: &mut Transaction<'_, S>,
+    limits: &Limits,
+    meta: &mut Meta,
+    event: &ObjectId,
+) -> Result<(Outcome, Touched), Refusal>
+    ensures lent { LeavesLent S.Store tx.old.conn tx.new.conn result }
+    ensures carries { CarriesOut S.Store tx.old.conn.now tx.new.conn.now (λ base. of_portfolio (frozen_outcome event.now) (freeze limits.now event.now base.mirror base.portfolio)) meta.old meta.new result }
+    ensures answered { (command : CommandOf) → IfOk result (λ r. IsAnswered command r.0) }
+    ensures refused { IfErr result (IsOneOf (NotFound ∷ LimitReached ∷ [])) }
+{
+    let pairs = adr_frozen::freeze(alloc, tx, limits, meta, event)?;
+    let object = frozen_object(alloc, event, pairs.as_slice())?;
+    let told = Outcome::Told(Answer::Frozen(object));
+    Ok((told, Touched::none(alloc)))
 }

@@ -2,6 +2,7 @@
 #![tactic(auto)]
 
 mod evidence;
+mod frozen;
 mod report;
 mod resource;
 mod scan;
@@ -10,6 +11,7 @@ mod sub;
 mod ven;
 
 pub use evidence::{take_deletion, take_evidence};
+pub use frozen::freeze;
 pub use report::{report_delete, report_post, report_put};
 pub use resource::{resource_add, resource_put, resource_remove};
 pub use scan::{begin_scan, end_scan};

@@ -24,16 +24,17 @@ use std::alloc::{AllocError, Global};
 /// Whether the event is shown to the resource.
 fn is_shown_to(
     portfolio: &Portfolio,
+    id: &ObjectId,
     event: &EventBody,
     number: Number,
     resource: &Resource,
 ) -> Result<bool, AllocError>
-    ensures { IfOk result (λ yes. yes ≡ is_shown_to portfolio.now event.now (number, resource.now)) }
+    ensures { IfOk result (λ yes. yes ≡ is_shown_to portfolio.now id.now event.now (number, resource.now)) }
 {
     if !carries(event) {
         return Ok(false);
     }
-    Ok(participant_of(portfolio, event, number, resource)?.is_some())
+    Ok(participant_of(portfolio, id, event, number, resource)?.is_some())
 }
 
 /// The event and the resource, where the event is shown to it.
@@ -46,7 +47,7 @@ fn reported_of(
 ) -> Result<Option<Reported>, AllocError>
     ensures { IfOk result (λ on. on ≡ reported_of portfolio.now (number, resource.now) id.now event.now) }
 {
-    if !is_shown_to(portfolio, event, number, resource)? {
+    if !is_shown_to(portfolio, id, event, number, resource)? {
         return Ok(None);
     }
     Ok(Some(Reported {

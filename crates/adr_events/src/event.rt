@@ -30,7 +30,7 @@ pub(crate) fn event_rows<S: Alter>(
     if !carries(event) {
         return Ok(Rows::new(alloc));
     }
-    let ps = named_participants(alloc, tx, event)?;
+    let ps = named_participants(alloc, tx, id, event)?;
     Ok(rows_for(alloc, id, event, ps.as_slice())?)
 }
 

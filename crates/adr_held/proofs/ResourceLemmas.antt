@@ -3,7 +3,10 @@ use Rattle.std.proofs.Common.{ℕ, ◌+◌, ◌≤◌, ◌==◌, Bool, true, fal
 use Rattle.adr_laws.proofs.Common.{All, All-contains, All-weaker, Base, BaseChange, ChangePortfolio, Contains, JoinMarks, SetScan, changed, exact_unsigned, is_at, keys_of, nat_cmp}
 use Rattle.adr_state.specs.declared.portfolio.Portfolio.{Portfolio}
 use Rattle.adr_state.specs.declared.portfolio.Resource.{Resource}
-use Rattle.adr_state.specs.Portfolios.{DropResource, DropVen, PortfolioChange, PutResource, portfolio_after}
+use Rattle.adr_state.specs.Frozen.{is_frozen}
+use Rattle.adr_state.specs.Portfolios.{DropResource, DropVen, Freeze, PortfolioChange, PutResource, portfolio_after}
+use Rattle.std.proofs.lemmas.Bool.{cond_both}
+use Rattle.adr_view.proofs.FrozenLemmas.{frozen_now}
 use Rattle.adr_view.proofs.OrderLemmas.{each_row}
 use Rattle.adr_view.proofs.RowLemmas.{from_filter, from_put, from_removal, row_found}
 use Rattle.adr_laws.proofs.Decisions.{FitsBase, FitsPortfolio}
@@ -35,6 +38,8 @@ module _ (serial : ℕ) (p : Portfolio) (h : AreDrawn serial p.resources) where
         | inr new ↦ subst (λ (x : ℕ × Resource). x.0 ≤ serial_then serial draws) (sym new) (put_low draws n fits.0)
       ]
   each_low draws (DropResource n) fits r there = low_then draws r (from_removal (is_at (nat_cmp n)) p.resources r there)
+  each_low draws (Freeze id pairs) fits r there =
+      cond_both (is_frozen p id) p (frozen_now p id pairs) (λ (q : Portfolio). Contains q.resources r → r.0 ≤ serial_then serial draws) (λ frozen. low_then draws r) (λ fresh. low_then draws r) there
   each_low draws change fits r there = low_then draws r there
 
 pub drawn_then : (draws : Bool) (base : Base) (change : BaseChange) → FitsBase (base.serial + 1) draws base change → AreDrawn base.serial base.portfolio.resources → AreDrawn (serial_then base.serial draws) (changed change base).portfolio.resources

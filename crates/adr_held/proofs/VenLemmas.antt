@@ -20,7 +20,9 @@ use Rattle.adr_state.specs.Digits.{number_in}
 use Rattle.adr_state.specs.Evidence.{adds_beyond, joining, open_scan, scan_end, scan_with}
 use Rattle.adr_state.specs.Mirror.{evidence_of, joined}
 use Rattle.adr_state.specs.Names.{is_taken_by_another, resource_name, ven_name}
-use Rattle.adr_state.specs.Portfolios.{DropResource, DropShare, DropVen, PortfolioChange, PutResource, PutShare, portfolio_after}
+use Rattle.adr_state.specs.declared.portfolio.Portfolio.{Portfolio}
+use Rattle.adr_state.specs.Frozen.{is_frozen}
+use Rattle.adr_state.specs.Portfolios.{DropResource, DropShare, DropVen, Freeze as FreezeEvent, PortfolioChange, PutResource, PutShare, portfolio_after}
 use Rattle.adr_state.specs.Resources.{is_under, putting_resource, resource_at, resource_under}
 use Rattle.adr_state.specs.Serials.{drawn}
 use Rattle.adr_state.specs.Shares.{is_beyond, share_of, weight_set}
@@ -30,13 +32,14 @@ use Rattle.adr_state.specs.Weights.{most_weight}
 use Rattle.adr_view.specs.Laws.{StandsInOrder}
 use Rattle.adr_view.specs.Reports.{may_change, report_removed, report_with_id}
 use Rattle.adr_view.specs.Subs.{sub_delete, sub_in_sight, sub_put}
+use Rattle.adr_view.proofs.FrozenLemmas.{frozen_now, frozen_so}
 use Rattle.adr_view.proofs.OrderLemmas.{each_row}
 use Rattle.adr_view.proofs.RowLemmas.{from_filter, from_put, from_removal}
 use Rattle.adr_refresh.proofs.Common.{All-contains, Contains, at, exact_unsigned, is_at, nat_cmp, nat_cmp_total}
 use Rattle.adr_refresh.proofs.MapLemmas.{found}
 use Rattle.adr_queries.specs.Roles.{sight_of}
 use Rattle.adr_machine.specs.declared.command.Command.{Command}
-use Rattle.adr_machine.specs.declared.command.Command.TheVariants.{Evidence, Gone, ScanBegin, ScanEnd, VenAdd, VenPut, VenRemove, ResourceAdd, ResourcePut, ResourceRemove, ShareSet, ReportPost, ReportPut, ReportDelete, SubPost, SubPut, SubDelete, Lease, Sent, Failed}
+use Rattle.adr_machine.specs.declared.command.Command.TheVariants.{Evidence, Gone, ScanBegin, ScanEnd, VenAdd, VenPut, VenRemove, ResourceAdd, ResourcePut, ResourceRemove, ShareSet, Freeze, ReportPost, ReportPut, ReportDelete, SubPost, SubPut, SubDelete, Lease, Sent, Failed}
 use Rattle.adr_machine.specs.declared.outcome.Outcome.{Outcome}
 use Rattle.adr_machine.specs.Edits.{Decision, counted, decided, draws_number, edit, edit_of, is_allowed, numbered, of_portfolio}
 use Rattle.adr_machine.proofs.EditLemmas.{allowed_then, first_then, found_then, free_then, tested, whatever}
@@ -120,6 +123,7 @@ module _ (next : ℕ) (base : Base) where
     decided_stays (ResourceRemove role ven id) = of_change _ _ (found_then Puts (λ r. Unit {0}) refusal.NotFound (resource_under ven id base.portfolio) _ (anyone _) (λ r any. tt))
     decided_stays (ShareSet role program resource share) =
         of_change _ _ (found_then Puts (λ n. Unit {0}) refusal.NotFound (resource_at resource base.portfolio) _ (anyone _) (λ n any. share_stays (record { program = program; resource = n }) share.share))
+    decided_stays (Freeze role event) = of_change _ _ (frozen_so Puts limits event base.mirror base.portfolio (λ body live told pairs keeps. tt))
     decided_stays (ReportPost role report) = draws_stay (ReportPost role report) refl
     decided_stays (ReportPut role id report) = draws_stay (ReportPut role id report) refl
     decided_stays (ReportDelete role id) =
@@ -164,6 +168,8 @@ module _ (base : Base) (stands : StandsInOrder base) (low : (r : ℕ × Resource
         | inr new ↦ put_there n m r x is (ap (λ (e : ℕ × Resource). e.0) new) stays ∙ sym (ap (λ (e : ℕ × Resource). e.1.ven) new)
       ]
   vens_stay (DropResource m) stays n r s is after = same_row n r s is (from_removal (is_at (nat_cmp m)) base.portfolio.resources (n, s) (row n _ s after))
+  vens_stay (FreezeEvent id pairs) stays n r s is after =
+      cond_both (is_frozen base.portfolio id) base.portfolio (frozen_now base.portfolio id pairs) (λ (q : Portfolio). at nat_cmp n q.resources ≡ Some s → r.ven ≡ s.ven) (λ frozen. same n r s is) (λ fresh. same n r s is) after
   vens_stay change stays n r s is after = same n r s is after
 
   change_keeps : (change : BaseChange) → ChangeStays (base.serial + 1) base change → KeepsVens (changed change base)

@@ -1,13 +1,14 @@
 -- The tables hold a state, and what is shown of it.
-use Rattle.std.specs.Prelude.{All}
+use Rattle.std.specs.Prelude.{◌⊎◌, All}
 use Rattle.sqlite_catalog.specs.Listing.{IsSound}
 use Rattle.sqlite.specs.Tree.{Trees}
 use Rattle.sqlite.specs.State as sql
 use Rattle.adr_state.specs.declared.state.State.{State}
 use Rattle.adr_refresh.specs.Refresh.{kept_view}
 use Rattle.adr_sql.specs.Contents.{StoresEach}
-use Rattle.adr_db.specs.Tables.{schema}
+use Rattle.adr_db.specs.Tables.{schema, first_schema}
 use Rattle.adr_db.specs.Kept.{Kept, Keeps, AreMarks, AreSubs, contents_of}
+use Rattle.adr_db.specs.FirstVersion.{NothingIsFrozen, KeepsFirst, first_contents}
 use Rattle.adr_db.specs.Bases.{Beside, meta_of, kept_beside}
 use Rattle.adr_kept_view.specs.Changes.{owner_in}
 use Rattle.adr_kept_view.specs.Columns.{shown_rows, rollup_rows}
@@ -45,3 +46,28 @@ pub record AreLeftWith (state : State) (trees : Trees) : Type 0 where
   pub subs : AreSubs state.base.portfolio.subs
   pub reads : All ReadsBack (kept_view state.base)
   pub right : IsRight state
+
+-- ---- version 1
+
+-- tables of version 1 hold a state, in which nothing is frozen: else as those of today
+pub record HoldsFirst (state : State) (s : sql.State) : Type 0 where
+  pub keeps : KeepsFirst (kept_of state) s
+  pub reads : All ReadsBack (kept_view state.base)
+  pub right : IsRight state
+
+-- trees that a crash may leave hold a state under the schema of version 1
+pub record AreLeftFirst (state : State) (trees : Trees) : Type 0 where
+  pub sound : IsSound first_schema trees
+  pub rows : StoresEach first_schema.tables trees (first_contents (kept_of state))
+  pub marks : AreMarks state.base.mirror
+  pub subs : AreSubs state.base.portfolio.subs
+  pub unfrozen : NothingIsFrozen state.base.portfolio
+  pub reads : All ReadsBack (kept_view state.base)
+  pub right : IsRight state
+
+-- tables of today or of version 1 hold a state, and trees are left with it in one of them, whole
+abbrev pub HoldsInEither : State → sql.State → Type 0
+HoldsInEither state s = HoldsState state s ⊎ HoldsFirst state s
+
+abbrev pub AreLeftInEither : State → Trees → Type 0
+AreLeftInEither state trees = AreLeftWith state trees ⊎ AreLeftFirst state trees

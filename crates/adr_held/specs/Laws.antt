@@ -20,7 +20,7 @@ use Rattle.adr_db.specs.Bases.{Beside, meta_of, HoldsBeside}
 use Rattle.adr_db.specs.Kept.{Keeps, nothing_kept, numbers_lost}
 use Rattle.adr_db.specs.ReadBack.{state_in}
 use Rattle.adr_kept_base.specs.Bases.{KeepsShown, VensStay}
-use Rattle.adr_held.specs.Held.{beside_of, kept_of, HoldsState, AreLeftWith}
+use Rattle.adr_held.specs.Held.{beside_of, kept_of, HoldsState, AreLeftWith, HoldsFirst, AreLeftFirst}
 use Rattle.adr_held.specs.Right.{IsRight}
 
 -- ---- what is held
@@ -85,3 +85,7 @@ RunsAreRight = (settings : Settings) (cs : List (ℕ × Command)) → IsRight (s
 -- tables that are open over trees which a crash left hold the state that these were left with
 abbrev pub LeftIsHeld : sql.State → Type 0
 LeftIsHeld s = IsTrue s.is_open → (held : State) → AreLeftWith held s.now.trees → HoldsState held s
+
+-- so do those that were left in version 1
+abbrev pub FirstLeftIsHeld : sql.State → Type 0
+FirstLeftIsHeld s = IsTrue s.is_open → (held : State) → AreLeftFirst held s.now.trees → HoldsFirst held s

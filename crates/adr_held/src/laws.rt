@@ -1,6 +1,6 @@
 //! Laws of a state that the tables hold together with what is shown of it.
 ghost use Rattle.sqlite.specs.Held.{state};
-ghost use Rattle.adr_held.specs.Laws.{WhatIsHeldReadsBack, HeldKeepsShown, ShownStandsAlone, ShownIsHeld, EmptyIsHeld, UndrawnIsNew, EditsKeepVens, NoneIsLost, RightStays, RunsAreRight, LeftIsHeld};
+ghost use Rattle.adr_held.specs.Laws.{WhatIsHeldReadsBack, HeldKeepsShown, ShownStandsAlone, ShownIsHeld, EmptyIsHeld, UndrawnIsNew, EditsKeepVens, NoneIsLost, RightStays, RunsAreRight, LeftIsHeld, FirstLeftIsHeld};
 
 use sqlite::{Alter, Connection};
 
@@ -58,6 +58,13 @@ pub fn runs_are_right()
 /// A connection which is opened over trees that a crash left holds the state that these were left with.
 pub fn left_is_held<S: Alter>(conn: &Connection<S>)
     ensures { LeftIsHeld (state S.Store conn.now) }
+{
+    let _ = conn.schema();
+}
+
+/// So does one over trees that were left in version 1: under that version.
+pub fn first_left_is_held<S: Alter>(conn: &Connection<S>)
+    ensures { FirstLeftIsHeld (state S.Store conn.now) }
 {
     let _ = conn.schema();
 }

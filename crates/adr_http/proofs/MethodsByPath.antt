@@ -3,7 +3,7 @@ use Rattle.std.proofs.Common.{◌≡◌, ℕ, List, Bool, true, false, cond, cod
 use Rattle.std.specs.Prelude.{◌≢◌}
 use Rattle.adr_text.specs.Refusals.{◌>>=◌}
 use Rattle.adr_text.specs.declared.refusal.Refusal.{Refusal}
-use Rattle.adr_schema.specs.Sites.{ven_of, resource_of, share_of}
+use Rattle.adr_schema.specs.Sites.{ven_of, resource_of, share_of, anything_of}
 use Rattle.adr_schema.specs.Reports.{report_of}
 use Rattle.adr_schema.specs.Notices.{notice_of}
 use Rattle.adr_schema.specs.declared.notice.NoticeIn.{NoticeIn}
@@ -73,6 +73,7 @@ put_answers role (Under two.Resource ven id) body = some (resource_of body) _
 put_answers role (Of one.Report id) body = some (report_of body) _
 put_answers role (Of one.Sub id) body = some (sub_of body) _
 put_answers role (Under two.Share program resource) body = some (share_of body) _
+put_answers role (Of one.Frozen event) body = some (anything_of body) _
 put_answers role _ body = refl
 
 delete_answers : (role : Role) (p : Path) → Answers (methods_of (place_of p)).delete (Ok (asked_by_delete role p))

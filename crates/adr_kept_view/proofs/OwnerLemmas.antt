@@ -11,7 +11,7 @@ use Rattle.adr_state.specs.declared.keys.ViewKey.TheVariants as key
 use Rattle.adr_state.specs.declared.participants.Participant.{Participant}
 use Rattle.adr_state.specs.declared.portfolio.Resource.{Resource}
 use Rattle.adr_state.specs.declared.portfolio.Ven.{Ven}
-use Rattle.adr_state.specs.Participants.{is_for, participant_of, participants}
+use Rattle.adr_state.specs.Participants.{weight_in, participant_of, participants}
 use Rattle.adr_view.specs.declared.view.Content.{Content}
 use Rattle.adr_view.specs.declared.view.Content.TheVariants as content
 use Rattle.adr_view.specs.Laws.{StandsInOrder}
@@ -37,26 +37,24 @@ module _ (base : Base) (stands : StandsInOrder base) where
   abbrev pub IsThere : ℕ → Type 0
   IsThere n = (r : Resource) × (at nat_cmp n base.portfolio.resources ≡ Some r)
 
-  its_number : (event : EventBody) (r : ℕ × Resource) → IfSome (participant_of base.portfolio event r) (λ p. p.resource ≡ r.0)
-  its_number event r = by (is_for event.resource_names r.1.name) (at share_cmp (record { program = event.program; resource = r.0 }) base.portfolio.shares) (at nat_cmp r.1.ven base.portfolio.vens)
+  its_number : (id : List ℕ) (event : EventBody) (r : ℕ × Resource) → IfSome (participant_of base.portfolio id event r) (λ p. p.resource ≡ r.0)
+  its_number id event r = by (weight_in base.portfolio id event r) (at nat_cmp r.1.ven base.portfolio.vens)
     where
-      by : (b : Bool) (weight : Option ℕ) (ven : Option Ven)
-          → IfSome {T = Participant} (cond b (option_and_then (λ (w : ℕ). option_map (λ (v : Ven). record { resource = r.0; weight = w; name = r.1.name; ven_name = v.name }) ven) weight) None) (λ p. p.resource ≡ r.0)
-      by true None ven = tt
-      by true (Some w) None = tt
-      by true (Some w) (Some v) = refl
-      by false weight ven = tt
+      by : (weight : Option ℕ) (ven : Option Ven) → IfSome {T = Participant} (option_and_then (λ (w : ℕ). option_map (λ (v : Ven). record { resource = r.0; weight = w; name = r.1.name; ven_name = v.name }) ven) weight) (λ p. p.resource ≡ r.0)
+      by None ven = tt
+      by (Some w) None = tt
+      by (Some w) (Some v) = refl
 
-  participant_there : (event : EventBody) (p : Participant) → Contains (participants base.portfolio event) p → IsThere p.resource
-  participant_there event p there =
-      let made = from_filter_map (participant_of base.portfolio event) base.portfolio.resources p there in
+  participant_there : (id : List ℕ) (event : EventBody) (p : Participant) → Contains (participants base.portfolio id event) p → IsThere p.resource
+  participant_there id event p there =
+      let made = from_filter_map (participant_of base.portfolio id event) base.portfolio.resources p there in
       let r : ℕ × Resource = made.0 in
-      let own : p.resource ≡ r.0 = subst (λ o. IfSome o (λ p. p.resource ≡ r.0)) made.2 (its_number event r) in
+      let own : p.resource ≡ r.0 = subst (λ o. IfSome o (λ p. p.resource ≡ r.0)) made.2 (its_number id event r) in
       (r.1, ap (λ n. at nat_cmp n base.portfolio.resources) own ∙ found nat_cmp_total base.portfolio.resources r stands.resources made.1)
 
   shown_there : (id : List ℕ) (event : EventBody) (n : ℕ) (c : Content) → at view_cmp (key.Event id n) (event_rows base id event) ≡ Some c → IsThere n
   shown_there id event n c =
-      let ps = participants base.portfolio event in
+      let ps = participants base.portfolio id event in
       cond_both (carries event) (rows_for id event ps) [] (λ rows. at view_cmp (key.Event id n) rows ≡ Some c → IsThere n)
       (λ some is.
       let keyed : Contains (map (λ k. key.Event id k) (map (λ p. p.resource) ps)) (key.Event id n) =
@@ -64,7 +62,7 @@ module _ (base : Base) (stands : StandsInOrder base) where
       let of_number = from_map (λ k. key.Event id k) (map (λ p. p.resource) ps) (key.Event id n) keyed in
       let of_one = from_map (λ (p : Participant). p.resource) ps of_number.0 of_number.1 in
       let same : n ≡ of_number.0 = number_same of_number.2 in
-      subst IsThere (sym (same ∙ of_one.2)) (participant_there event of_one.0 of_one.1))
+      subst IsThere (sym (same ∙ of_one.2)) (participant_there id event of_one.0 of_one.1))
       (λ none is. absurd cc)
     where
       number_in : ViewKey → ℕ

@@ -21,7 +21,7 @@ use Rattle.adr_view.proofs.ListLemmas.{in_map}
 use Rattle.adr_view.proofs.OrderLemmas.{in_order_put}
 use Rattle.adr_view.proofs.OtherLemmas.{others_shown}
 use Rattle.adr_view.proofs.ShownLemmas.{view_total}
-use Rattle.adr_machine.specs.declared.command.Command.TheVariants.{Evidence, Gone, ScanBegin, ScanEnd, VenAdd, VenPut, VenRemove, ResourceAdd, ResourcePut, ResourceRemove, ShareSet, ReportPost, ReportPut, ReportDelete, SubPost, SubPut, SubDelete, Lease, Sent, Failed}
+use Rattle.adr_machine.specs.declared.command.Command.TheVariants.{Evidence, Gone, ScanBegin, ScanEnd, VenAdd, VenPut, VenRemove, ResourceAdd, ResourcePut, ResourceRemove, ShareSet, Freeze, ReportPost, ReportPut, ReportDelete, SubPost, SubPut, SubDelete, Lease, Sent, Failed}
 use Rattle.adr_machine.specs.declared.outcome.Outcome.{Outcome}
 use Rattle.adr_machine.specs.declared.outcome.Outcome.TheVariants as outcome
 use Rattle.adr_machine.specs.Edits.{Decision}
@@ -93,6 +93,7 @@ module _ (s : State) (stamped : IsStampedAsShown s) (stands : StandsInOrder s.ba
   by_command (ResourcePut role ven id resource) comes = plain_answered comes
   by_command (ResourceRemove role ven id) comes = plain_answered comes
   by_command (ShareSet role program resource share) comes = plain_answered comes
+  by_command (Freeze role event) comes = plain_answered comes
   by_command (ReportPost role report) comes = kept_answered comes
   by_command (ReportPut role id report) comes = kept_answered comes
   by_command (ReportDelete role id) comes = gone_answered comes

@@ -2,6 +2,7 @@
 use Rattle.std.proofs.Common.{◌≡◌, ◌≤◌, ◌+◌, ℕ, Bool, true, false, not, List, [], ◌++◌, ◌⊎◌, inl, inr, Result, IfOk, sym, ap, subst, arith}
 use Rattle.std.specs.Prelude.{◌≢◌, IsSome, is_some}
 use Rattle.std.specs.Map.{remove_entry}
+use Rattle.std.proofs.lemmas.Bool.{cond_both}
 use Rattle.adr_laws.proofs.Common.{All, All-append, Contains, exact_unsigned, insert_entry, is_at, keys_of, nat_cmp, Base, BaseChange, ChangePortfolio, JoinMarks, SetScan, Settings, State, Command, changed, empty, state_after, step_at, Refusal}
 use Rattle.adr_subscription.specs.declared.kept_sub.Sub.{Sub}
 use Rattle.adr_delivery.specs.declared.delivery.Delivery.{Delivery}
@@ -9,7 +10,9 @@ use Rattle.adr_delivery.specs.declared.entry.Entry.{Entry}
 use Rattle.adr_delivery.specs.declared.outbox.Outbox.{Outbox}
 use Rattle.adr_delivery.specs.Outboxes.{has_addressee, with_delivery}
 use Rattle.adr_state.specs.declared.portfolio.Portfolio.{Portfolio}
-use Rattle.adr_state.specs.Portfolios.{is_sub_of, PortfolioChange, DropVen, PutSub, DropSub, portfolio_after}
+use Rattle.adr_state.specs.Frozen.{is_frozen}
+use Rattle.adr_view.proofs.FrozenLemmas.{frozen_now}
+use Rattle.adr_state.specs.Portfolios.{is_sub_of, PortfolioChange, DropVen, PutSub, DropSub, Freeze, portfolio_after}
 use Rattle.adr_view.proofs.ListLemmas.{from_map}
 use Rattle.adr_view.proofs.RowLemmas.{from_filter, from_put, from_removal}
 use Rattle.adr_queries.specs.declared.answer.Answer.{Answer}
@@ -36,6 +39,7 @@ subs_after serial draws p (DropVen n) fits = λ s there. is_one serial p.subs s 
 subs_after serial true p (PutSub n sub) fits = one_put serial true n sub p.subs fits.0
 subs_after serial false p (PutSub n sub) fits = one_put serial false n sub p.subs (ap is_some fits.1)
 subs_after serial draws p (DropSub n) fits = λ s there. is_one serial p.subs s (from_removal (is_at (nat_cmp n)) p.subs s there)
+subs_after serial draws p (Freeze id pairs) fits = cond_both (is_frozen p id) p (frozen_now p id pairs) (λ (q : Portfolio). (s : ℕ × Sub) → Contains q.subs s → IsOneOrNext serial p.subs s.0) (λ frozen. is_one serial p.subs) (λ fresh. is_one serial p.subs)
 subs_after serial draws p change fits = is_one serial p.subs
 
 -- after a change each number of a row is one of before, or the next one

@@ -204,7 +204,7 @@ module _ (settings : Settings) (cs : List (ℕ × Command)) where
 
   module _ (id : List ℕ) (event : EventBody) where
     abbrev ps : List Participant
-    ps = participants base.portfolio event
+    ps = participants base.portfolio id event
 
     abbrev reported : Participant → Reporter
     reported = reporter_of (reports_of id base.portfolio.reports)
@@ -229,7 +229,7 @@ module _ (settings : Settings) (cs : List (ℕ × Command)) where
         record {
           event = event;
           is_live = (moment, live);
-          no_two_are_one = numbers_apart (map (λ p. p.resource) ps) (participants_rise base (rows_in_order settings cs) event);
+          no_two_are_one = numbers_apart (map (λ p. p.resource) ps) (participants_rise base (rows_in_order settings cs) id event);
           sums_the_last = All-weaker (CountsEachOnce rs) (SumsTheLast (last_reported base.portfolio.reports writes id) ps) interval_sums rollup.intervals counts;
         }
 

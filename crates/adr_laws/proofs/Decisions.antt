@@ -1,25 +1,31 @@
 -- What a command decides fits the base, and what a step makes of it: the one walk over the commands. The laws walk over the kinds of change.
-use Rattle.std.proofs.Common.{◌≡◌, ℕ, ◌≤◌, ◌+◌, Bool, true, false, cond, ◌==◌, ◌⊎◌, inl, inr, ◌&&◌, List, [], ◌∷◌, length, Option, Some, None, Result, Ok, Err, IfOk, refl, ap, subst, arith}
+use Rattle.std.proofs.Common.{◌≡◌, ℕ, ◌≤◌, ◌+◌, Bool, true, false, cond, ◌==◌, ◌⊎◌, inl, inr, ◌&&◌, List, [], ◌∷◌, length, Option, Some, None, Result, Ok, Err, IfOk, refl, sym, ap, subst, ◌∙◌, arith}
 use Rattle.std.specs.Prelude.{nat_lt, nat_le, is_some, IsSome, IfSome, option_and_then}
 use Rattle.std.specs.Option.{option_map_or}
-use Rattle.adr_laws.proofs.Common.{nat_cmp, unsigned_Decides, cond_both, Refusal, Base, at, ven_name, resource_name, is_taken, is_taken_by_another, is_full, BaseChange, JoinMarks, SetScan, ChangePortfolio, changed, Command, Settings, State, step_at}
+use Rattle.adr_laws.proofs.Common.{Contains, Contains-from_lookup, eq_by_cmp_equiv, keys_of, nat_cmp, nat_cmp_total, share_cmp, tells_apart, unsigned_Decides, cond_both, Refusal, Base, at, ven_name, resource_name, is_taken, is_taken_by_another, is_full, BaseChange, JoinMarks, SetScan, ChangePortfolio, changed, Command, Settings, State, step_at}
 use Rattle.std.proofs.lemmas.Bool.{eqb-false, leb-false, ltb-false}
-use Rattle.adr_text.specs.Refusals.{◌>>=◌}
+use Rattle.std.proofs.lemmas.Map.Views.{IsSome-lookup_from_Contains}
+use Rattle.std.proofs.lemmas.Option.{same_Some}
+use Rattle.adr_text.specs.Refusals.{◌>>=◌, or_else}
 use Rattle.adr_text.specs.declared.refusal.Refusal.TheVariants as refusal
 use Rattle.adr_state.specs.declared.base.Mark.{Mark}
 use Rattle.adr_state.specs.declared.base.Mark.TheVariants.{Dead}
 use Rattle.adr_subscription.specs.declared.kept_sub.Sub.{Sub}
 use Rattle.adr_subscription.specs.Callbacks.{settled}
+use Rattle.adr_state.specs.declared.participants.Participant.{Participant}
 use Rattle.adr_state.specs.declared.portfolio.Portfolio.{Portfolio}
 use Rattle.adr_state.specs.declared.portfolio.Resource.{Resource}
+use Rattle.adr_state.specs.declared.portfolio.Ven.{Ven}
 use Rattle.adr_state.specs.declared.keys.MirrorKey.{MirrorKey}
 use Rattle.adr_state.specs.declared.keys.ShareKey.{ShareKey}
 use Rattle.adr_state.specs.declared.limits.Limits.{Limits}
 use Rattle.adr_state.specs.Digits.{number_in}
+use Rattle.adr_state.specs.Frozen.{is_frozen, frozen_weight, pairs_kept}
 use Rattle.adr_state.specs.Mirror.{evidence_of, joined}
+use Rattle.adr_state.specs.Participants.{is_for, weight_by_share, participant_of, participants}
 use Rattle.adr_state.specs.Weights.{most_weight}
 use Rattle.adr_state.specs.Stamping.{fresh, modified_at}
-use Rattle.adr_state.specs.Portfolios.{PortfolioChange, PutVen, PutResource, PutShare, DropShare, PutReport, DropReport, PutSub}
+use Rattle.adr_state.specs.Portfolios.{PortfolioChange, PutVen, PutResource, PutShare, DropShare, PutReport, DropReport, PutSub, Freeze as FreezeEvent}
 use Rattle.adr_state.specs.Evidence.{adds_beyond, joining, scan_with, open_scan, scan_end}
 use Rattle.adr_state.specs.Vens.{ven_with_id, ven_at, putting_ven}
 use Rattle.adr_state.specs.Resources.{resource_with_id, resource_at, is_under, resource_under, putting_resource}
@@ -34,10 +40,14 @@ use Rattle.adr_state.specs.declared.portfolio.Report.{Report}
 use Rattle.adr_state.specs.ShownIds.{resource_part, event_part, id_in, resource_named}
 use Rattle.adr_view.specs.declared.report.Reported.{Reported}
 use Rattle.adr_view.specs.Reports.{is_shown_to, reported_of, reported_by, reported_in, reported, fits, kept_report, report_on, report_with_id, putting_report, report_made, report_replaced, report_removed, may_report, may_change}
+use Rattle.adr_view.specs.Frozen.{pairs_of, can_not_keep, frozen_with, frozen_as, freeze}
 use Rattle.adr_view.specs.Rollups.{event_at}
+use Rattle.adr_view.proofs.FrozenLemmas.{participant_by}
+use Rattle.adr_view.proofs.KeyLemmas.{share_exact}
+use Rattle.adr_view.proofs.ListLemmas.{from_filter_map, from_map, in_map}
 use Rattle.adr_queries.specs.declared.answer.Answer.{Answer}
 use Rattle.adr_queries.specs.declared.answer.Answer.TheVariants as answer
-use Rattle.adr_machine.specs.declared.command.Command.TheVariants.{Evidence, Gone, ScanBegin, ScanEnd, VenAdd, VenPut, VenRemove, ResourceAdd, ResourcePut, ResourceRemove, ShareSet, ReportPost, ReportPut, ReportDelete, SubPost, SubPut, SubDelete, Lease, Sent, Failed}
+use Rattle.adr_machine.specs.declared.command.Command.TheVariants.{Evidence, Gone, ScanBegin, ScanEnd, VenAdd, VenPut, VenRemove, ResourceAdd, ResourcePut, ResourceRemove, ShareSet, Freeze, ReportPost, ReportPut, ReportDelete, SubPost, SubPut, SubDelete, Lease, Sent, Failed}
 use Rattle.adr_machine.specs.declared.outcome.Outcome.{Outcome}
 use Rattle.adr_machine.specs.declared.outcome.Outcome.TheVariants as outcome
 use Rattle.adr_queries.specs.declared.role.Role.{Role}
@@ -61,6 +71,13 @@ use Rattle.adr_laws.proofs.NumberLemmas.{IsNumber, serial_then}
 
 -- ---- what the laws need of a change
 
+-- a pair is of a resource that is there, with the weight of a share that is there
+pub record IsOfShare (p : Portfolio) (pair : ℕ × ℕ) : Type 0 where
+  pub resource : IsSome (at nat_cmp pair.0 p.resources)
+  pub share : ShareKey × ℕ
+  pub is_there : Contains p.shares share
+  pub same_weight : share.1 ≡ pair.1
+
 abbrev pub FitsPortfolio : ℕ → Bool → Portfolio → PortfolioChange → Type 0
 FitsPortfolio next draws p (PutVen n ven) = IsNumber next draws p.vens n × Free ven_name n ven.name p.vens
 FitsPortfolio next draws p (PutResource n resource) = IsNumber next draws p.resources n × Free resource_name n resource.name p.resources × HasVen p.vens (n, resource)
@@ -69,6 +86,7 @@ FitsPortfolio next true p (PutReport n report) = (report.revision ≡ next) × (
 FitsPortfolio next false p (PutReport n report) = ⊥
 FitsPortfolio next true p (PutSub n sub) = (n ≡ next) × HasOwner p.vens (n, sub)
 FitsPortfolio next false p (PutSub n sub) = (old : Sub) × (at nat_cmp n p.subs ≡ Some old) × (sub.owner ≡ old.owner)
+FitsPortfolio next draws p (FreezeEvent id pairs) = (pair : ℕ × ℕ) → Contains pairs pair → IsOfShare p pair
 FitsPortfolio next draws p _ = Unit {0}
 
 abbrev pub FitsBase : ℕ → Bool → Base → BaseChange → Type 0
@@ -171,7 +189,7 @@ reported_there mirror p id = in_event (event_part id)
   where
     by_event : (r : ℕ × Resource) (id : List ℕ) → IsFound p.resources r.0 → (o : Option EventBody) → IfSome (option_and_then (reported_of p r id) o) (λ on. IsFound p.resources on.resource)
     by_event r id found None = tt
-    by_event r id found (Some event) = cond_both (is_shown_to p event r) (Some (record { event = id; program = event.program; resource = r.0; resource_name = r.1.name })) None (λ o. IfSome o (λ on. IsFound p.resources on.resource)) (λ shown. found) (λ fails. tt)
+    by_event r id found (Some event) = cond_both (is_shown_to p id event r) (Some (record { event = id; program = event.program; resource = r.0; resource_name = r.1.name })) None (λ o. IfSome o (λ on. IsFound p.resources on.resource)) (λ shown. found) (λ fails. tt)
 
     by_id : (r : ℕ × Resource) → IsFound p.resources r.0 → (o : Option (List ℕ)) → IfSome (option_and_then (λ id. reported_by mirror p id r) o) (λ on. IsFound p.resources on.resource)
     by_id r found None = tt
@@ -275,6 +293,52 @@ module _ (limits : Limits) (now next : ℕ) (base : Base) where
       first_then (Draws false) fits (weight_set limits key weight base.portfolio) _
       (cond_both (weight == 0) (Ok (DropShare key)) _ (λ r. IfOk r fits) (λ none. (tt, refl)) (λ some. tested fits (is_beyond limits key base.portfolio.shares) refusal.LimitReached (Ok (PutShare key weight)) (λ room. ((there, has_weight weight some small), refl)))) (λ change h. h))
 
+  -- whoever takes part in an event that is not frozen has a share
+  pair_of_share : (id : List ℕ) (event : EventBody) → is_frozen base.portfolio id ≡ false → (pair : ℕ × ℕ) → Contains (pairs_of (participants base.portfolio id event)) pair → IsOfShare base.portfolio pair
+  pair_of_share id event fresh pair there =
+      let p = base.portfolio in
+      let x = from_map (λ (x : Participant). (x.resource, x.weight)) (participants p id event) pair there in
+      let r = from_filter_map (participant_of p id event) p.resources x.0 x.1 in
+      let its = of_weight r.0 (weight_by_share p event r.0) (at nat_cmp r.0.1.ven p.vens) x.0 (sym (ap (λ (b : Bool). participant_by r.0 (cond b (frozen_weight p id r.0.0) (weight_by_share p event r.0)) (at nat_cmp r.0.1.ven p.vens)) fresh) ∙ r.2) in
+      let share = share_found p event r.0 x.0.weight (its.1) in
+      record {
+        resource = subst (λ (n : ℕ). IsSome (at nat_cmp n p.resources)) (sym its.0 ∙ ap (λ (q : ℕ × ℕ). q.0) (sym x.2)) (IsSome-lookup_from_Contains (eq_by_cmp_equiv nat_cmp_total) r.0.0 p.resources (number_in_keys r.0 r.1));
+        share = share.0;
+        is_there = share.1;
+        same_weight = share.2 ∙ ap (λ (q : ℕ × ℕ). q.1) (sym x.2);
+      }
+    where
+      made : ℕ × Resource → ℕ → Ven → Participant
+      made r w v = record { resource = r.0; weight = w; name = r.1.name; ven_name = v.name }
+
+      of_weight : (r : ℕ × Resource) (weight : Option ℕ) (ven : Option Ven) (x : Participant) → participant_by r weight ven ≡ Some x → (x.resource ≡ r.0) × (weight ≡ Some x.weight)
+      of_weight r None ven x is = absurd cc
+      of_weight r (Some w) None x is = absurd cc
+      of_weight r (Some w) (Some v) x is = let whole : made r w v ≡ x = same_Some (made r w v) x is in (sym (ap (λ (x : Participant). x.resource) whole), ap (λ (x : Participant). Some x.weight) whole)
+
+      share_found : (p : Portfolio) (event : EventBody) (r : ℕ × Resource) (w : ℕ) → weight_by_share p event r ≡ Some w → (s : ShareKey × ℕ) × Contains p.shares s × (s.1 ≡ w)
+      share_found p event r w = by (is_for event.resource_names r.1.name)
+        where
+          by : (b : Bool) → cond b (at share_cmp (record { program = event.program; resource = r.0 }) p.shares) None ≡ Some w → (s : ShareKey × ℕ) × Contains p.shares s × (s.1 ≡ w)
+          by true found = ((record { program = event.program; resource = r.0 }, w), Contains-from_lookup (tells_apart share_exact) (record { program = event.program; resource = r.0 }) w p.shares found, refl)
+          by false found = absurd cc
+
+      number_in_keys : (r : ℕ × Resource) → Contains base.portfolio.resources r → Contains (keys_of base.portfolio.resources) r.0
+      number_in_keys r there = in_map (λ (r : ℕ × Resource). r.0) base.portfolio.resources r there
+
+  freeze_fits : (id : List ℕ) → IfOk (freeze limits id base.mirror base.portfolio) (Draws false)
+  freeze_fits id = by (event_at base.mirror id)
+    where
+      by_frozen : (event : EventBody) (b : Bool) → is_frozen base.portfolio id ≡ b → IfOk (cond b (Ok (pairs_kept base.portfolio id, FreezeEvent id [])) (frozen_with limits id (pairs_of (participants base.portfolio id event)) base.mirror base.portfolio)) (Draws false)
+      by_frozen event true frozen = (λ pair there. absurd (omega (arith, there.1)), refl)
+      by_frozen event false fresh =
+          let own : List (ℕ × ℕ) = pairs_of (participants base.portfolio id event) in
+          tested (Draws false) (can_not_keep limits id own base.mirror base.portfolio) refusal.LimitReached (Ok (own, FreezeEvent id own)) (λ can. (pair_of_share id event fresh, refl))
+
+      by : (o : Option EventBody) → IfOk (or_else refusal.NotFound o >>= λ event. frozen_as limits id event base.mirror base.portfolio) (Draws false)
+      by None = tt
+      by (Some event) = by_frozen event (is_frozen base.portfolio id) refl
+
   leaves_fits : Fits next false base [] IsPlain (answered answer.Done (SetScan base.scan))
   leaves_fits = record { fits = tt; tells = refl; is = record { comes = tt; puts_none = refl } }
 
@@ -309,6 +373,7 @@ module _ (limits : Limits) (now next : ℕ) (base : Base) where
       let p = base.portfolio in
       portfolio_fits false _ (λ x. tt) _ (found_then (Draws false) (IsFound p.resources) refusal.NotFound (resource_at resource p) _ (number_there p.resources (resource_with_id resource p) (resource_there resource p)) (λ n there.
       share_fits (record { program = program; resource = n }) share.share there))
+  decided_fits (Freeze role event) = portfolio_fits false _ (λ x. tt) (freeze limits event base.mirror base.portfolio) (freeze_fits event)
   decided_fits (ReportPost role sent) =
       let keeps = Keeps (λ n. n ≡ next) sent in
       first_then (Fits next true base [] (IsKept base (λ n. n ≡ next) sent)) (λ sight. Unit {0}) (sight_of base role) _ (whatever (sight_of base role)) (λ sight h.

@@ -8,6 +8,7 @@ use Rattle.adr_text.specs.declared.refusal.Refusal.TheVariants.{Conflict, Exhaus
 use Rattle.adr_objects.specs.declared.site.ResourceIn.{ResourceIn}
 use Rattle.adr_objects.specs.declared.site.VenIn.{VenIn}
 use Rattle.adr_state.specs.declared.base.Mark.{Mark}
+use Rattle.adr_state.specs.declared.keys.FrozenKey.{FrozenKey}
 use Rattle.adr_state.specs.declared.keys.MirrorKey.{MirrorKey}
 use Rattle.adr_state.specs.declared.keys.ShareKey.{ShareKey}
 use Rattle.adr_state.specs.declared.portfolio.Portfolio.{Portfolio}
@@ -15,17 +16,17 @@ use Rattle.adr_state.specs.declared.portfolio.Resource.{Resource}
 use Rattle.adr_state.specs.declared.portfolio.Ven.{Ven}
 use Rattle.adr_state.specs.Portfolios.{PortfolioChange, PutVen, PutResource}
 use Rattle.adr_state.specs.Resources.{putting_resource}
-use Rattle.adr_state.specs.Serials.{drawn}
 use Rattle.adr_state.specs.Stamping.{fresh}
 use Rattle.adr_state.specs.Vens.{putting_ven, ven_at}
 use Rattle.adr_view.specs.Changes.{changes}
 use Rattle.adr_view.specs.Laws.{StandsInOrder}
 use Rattle.adr_view.specs.Views.{view}
 use Rattle.adr_view.proofs.KeyLemmas.{share_exact}
+use Rattle.adr_view.proofs.ListLemmas.{filter_alike}
 use Rattle.adr_view.proofs.OrderLemmas.{in_order_put}
 use Rattle.adr_view.proofs.RowLemmas.{each_there, row_found}
 use Rattle.adr_refresh.specs.Sources.{Source, Reported, RolledUp, source_cmp}
-use Rattle.adr_refresh.specs.Touched.{is_event, live_in, one_shares, program_of, shares_in, touched_by, upstream_event}
+use Rattle.adr_refresh.specs.Touched.{events_frozen_in, events_in, has_resource, is_event, live_in, one_shares, program_of, shares_in, touched_by, upstream_event}
 use Rattle.adr_refresh.proofs.Common.{cons_option}
 use Rattle.adr_refresh.proofs.EditLemmas.{edits_leave_others}
 use Rattle.adr_refresh.proofs.ListLemmas.{false_unless}
@@ -85,10 +86,13 @@ module _ (first base : Base) (whole : Whole first base) (stands : StandsInOrder 
       let ven = row_found r.1.ven base.portfolio.vens (whole.0.1.0 r there) in
       drawn_before r.1.ven (whole.0.0.ones.drawn (r.1.ven, ven.0) ven.1).up_to_the_serial
 
-  none_of_it : (program : List ℕ) (rs : List (ℕ × Resource)) → All (λ r. (r.1.ven == next) ≡ false) rs → list_any (λ r. (r.1.ven == next) && shares_in base.portfolio r.0 program) rs ≡ false
-  none_of_it program [] all = refl
-  none_of_it program (r ∷ rs) all =
-      ap₂ (λ its others. (its && shares_in base.portfolio r.0 program) || others) (All-head (λ r. (r.1.ven == next) ≡ false) r rs all) (none_of_it program rs (All-tail (λ r. (r.1.ven == next) ≡ false) r rs all))
+  none_of_it : (test : ℕ × Resource → Bool) (rs : List (ℕ × Resource)) → All (λ r. (r.1.ven == next) ≡ false) rs → list_any (λ r. (r.1.ven == next) && test r) rs ≡ false
+  none_of_it test [] all = refl
+  none_of_it test (r ∷ rs) all = ap₂ (λ its others. (its && test r) || others) (All-head (λ r. (r.1.ven == next) ≡ false) r rs all) (none_of_it test rs (All-tail (λ r. (r.1.ven == next) ≡ false) r rs all))
+
+  -- none at all
+  none_its : (test : ℕ × Resource → Bool) → list_any (λ r. (r.1.ven == next) && test r) base.portfolio.resources ≡ false
+  none_its test = none_of_it test base.portfolio.resources (each_there (λ r. (r.1.ven == next) ≡ false) base.portfolio.resources of_others)
 
   -- and no share is of the resource of that number
   no_share : (program : List ℕ) → shares_in base.portfolio next program ≡ false
@@ -104,17 +108,28 @@ module _ (first base : Base) (whole : Whole first base) (stands : StandsInOrder 
           let low = (whole.0.0.others.drawn (next, resource.0) resource.1).up_to_the_serial in
           absurd (omega (arith, low))
 
-  none_touched : (passes : List ℕ → Bool) → ((program : List ℕ) → passes program ≡ false) → map upstream_event (filter_map (live_in passes) base.mirror) ++ map Reported [] ++ map RolledUp (filter_map (live_in passes) base.mirror) ≡ []
-  none_touched passes nowhere = ap (λ (ids : List (List ℕ)). map upstream_event ids ++ map Reported [] ++ map RolledUp ids) (no_events passes nowhere base.mirror)
+  -- and none is frozen
+  not_frozen : (s : FrozenKey × ℕ) → Contains base.portfolio.frozen_shares s → (s.0.resource == next) ≡ false
+  not_frozen s there =
+      let resource = row_found s.0.resource base.portfolio.resources (whole.0.1.3.have_resources s there) in
+      drawn_before s.0.resource (whole.0.0.others.drawn (s.0.resource, resource.0) resource.1).up_to_the_serial
+
+  none_frozen : (passes : ℕ → Bool) → ((s : FrozenKey × ℕ) → Contains base.portfolio.frozen_shares s → passes s.0.resource ≡ false) → events_frozen_in passes base.portfolio ≡ []
+  none_frozen passes none =
+      ap (map (λ (s : FrozenKey × ℕ). s.0.event)) (filter_alike (λ s. passes s.0.resource) false base.portfolio.frozen_shares (each_there (λ s. passes s.0.resource ≡ false) base.portfolio.frozen_shares none))
+
+  none_touched : (passes : List ℕ → Bool) (frozen : ℕ → Bool) → ((program : List ℕ) → passes program ≡ false) → ((s : FrozenKey × ℕ) → Contains base.portfolio.frozen_shares s → frozen s.0.resource ≡ false)
+      → map upstream_event (events_in passes base ++ events_frozen_in frozen base.portfolio) ++ map Reported [] ++ map RolledUp (events_in passes base ++ events_frozen_in frozen base.portfolio) ≡ []
+  none_touched passes frozen nowhere none = ap (λ (ids : List (List ℕ)). map upstream_event ids ++ map Reported [] ++ map RolledUp ids) (ap₂ ◌++◌ (no_events passes nowhere base.mirror) (none_frozen frozen none))
 
   ven_shows_nothing : (ven : Ven) → changes (view base) (view (record (changed (ChangePortfolio (PutVen next ven)) base) { serial = next })) ≡ []
   ven_shows_nothing ven =
-      untouched base (PutVen next ven) next (none_touched (one_shares base.portfolio next) (λ program. none_of_it program base.portfolio.resources (each_there (λ r. (r.1.ven == next) ≡ false) base.portfolio.resources of_others)))
+      untouched base (PutVen next ven) next (none_touched (one_shares base.portfolio next) (has_resource base.portfolio next) (λ program. none_its (λ r. shares_in base.portfolio r.0 program)) (λ s there. none_its (λ r. r.0 == s.0.resource)))
       stands (record { upstream_keys = stands.upstream_keys; resources = stands.resources; reports = stands.reports })
 
   resource_shows_nothing : (resource : Resource) → changes (view base) (view (record (changed (ChangePortfolio (PutResource next resource)) base) { serial = next })) ≡ []
   resource_shows_nothing resource =
-      untouched base (PutResource next resource) next (none_touched (shares_in base.portfolio next) no_share)
+      untouched base (PutResource next resource) next (none_touched (shares_in base.portfolio next) (λ m. m == next) no_share not_frozen)
       stands (record { upstream_keys = stands.upstream_keys; resources = in_order_put nat_cmp_total next resource base.portfolio.resources stands.resources; reports = stands.reports })
 
 -- ---- what is answered

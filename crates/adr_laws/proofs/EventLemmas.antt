@@ -100,7 +100,7 @@ module _ (base : Base) (whole : IsWhole base) (stands : StandsInOrder base) wher
 
   module _ (id : List ℕ) (event : EventBody) (live : IsLive base id event) where
     abbrev ps : List Participant
-    ps = participants base.portfolio event
+    ps = participants base.portfolio id event
 
     abbrev splits : List SplitInterval
     splits = map (split_interval (weights_of ps)) event.intervals
@@ -128,22 +128,22 @@ module _ (base : Base) (whole : IsWhole base) (stands : StandsInOrder base) wher
 
     -- ---- the law
 
-    are_weights : 0 < length (enrolled base.portfolio event) → AreWeights (enrolled_weights base.portfolio event)
-    are_weights some = record { some = omega (arith, some, length-map (enrolled base.portfolio event) (λ e. e.1)); positive = enrolled_positive base event whole }
+    are_weights : 0 < length (enrolled base.portfolio id event) → AreWeights (enrolled_weights base.portfolio id event)
+    are_weights some = record { some = omega (arith, some, length-map (enrolled base.portfolio id event) (λ e. e.1)); positive = enrolled_positive base id event whole }
 
-    sum_up : (place : ℕ) (i : Interval) (v : ℤ) → slice_get event.intervals place ≡ Some i → i.setpoint ≡ Some v → 0 < length (enrolled base.portfolio event)
-        → AreFairParts v (enrolled_weights base.portfolio event) (map (part_shown (view base) id place) (enrolled_numbers base.portfolio event))
+    sum_up : (place : ℕ) (i : Interval) (v : ℤ) → slice_get event.intervals place ≡ Some i → i.setpoint ≡ Some v → 0 < length (enrolled base.portfolio id event)
+        → AreFairParts v (enrolled_weights base.portfolio id event) (map (part_shown (view base) id place) (enrolled_numbers base.portfolio id event))
     sum_up place i v is carried some =
         let parts : List ℤ = fair_split v (weights_of ps) in
-        let fair : IsFairSplit v (weights_of ps) parts = fair_split_is_fair v (weights_of ps) (subst AreWeights (sym (weights_are base event whole)) (are_weights some)) in
+        let fair : IsFairSplit v (weights_of ps) parts = fair_split_is_fair v (weights_of ps) (subst AreWeights (sym (weights_are base id event whole)) (are_weights some)) in
         let each : (k : ℕ) (p : Participant) → slice_get ps k ≡ Some p → part_shown (view base) id place p.resource ≡ slice_get parts k =
         λ k p there. ap (option_and_then (part_in place)) (shown_at (carries_one event place i v is carried) k p there) ∙ part_at id event (weights_of ps) place i (k, p) is ∙ ap (λ s. option_and_then (λ parts. slice_get parts k) (option_map (λ v. fair_split v (weights_of ps)) s)) carried in
         record {
           parts = parts;
-          each_is_shown = ap (map (part_shown (view base) id place)) (sym (numbers_are base event whole)) ∙ map-map (part_shown (view base) id place) (λ (p : Participant). p.resource) ps
+          each_is_shown = ap (map (part_shown (view base) id place)) (sym (numbers_are base id event whole)) ∙ map-map (part_shown (view base) id place) (λ (p : Participant). p.resource) ps
               ∙ map_by_place (λ p. part_shown (view base) id place p.resource) ps parts (fair.one_part_each ∙ length-map ps (λ p. p.weight)) each;
           they_sum_up = fair.sums_up;
-          they_are_fair = subst (λ weights. IsFairSplit v weights parts) (weights_are base event whole) fair;
+          they_are_fair = subst (λ weights. IsFairSplit v weights parts) (weights_are base id event whole) fair;
         }
 
     no_part : (place : ℕ) (i : Interval) (n : ℕ) → slice_get event.intervals place ≡ Some i → i.setpoint ≡ None → part_shown (view base) id place n ≡ None
@@ -155,17 +155,17 @@ module _ (base : Base) (whole : IsWhole base) (stands : StandsInOrder base) wher
             let e = from_map (event_row id event splits) (enumerate_from 0 ps) (key.Event id n, c) (shown_there n c found) in
             ap (λ r. part_in place r.1) e.2 ∙ part_at id event (weights_of ps) place i e.0 is ∙ ap (λ s. option_and_then (λ parts. slice_get parts e.0.0) (option_map (λ v. fair_split v (weights_of ps)) s)) none
 
-    nobody_else : (n : ℕ) → IsSome (at view_cmp (key.Event id n) (view base)) → Contains (enrolled_numbers base.portfolio event) n
+    nobody_else : (n : ℕ) → IsSome (at view_cmp (key.Event id n) (view base)) → Contains (enrolled_numbers base.portfolio id event) n
     nobody_else n = by (at view_cmp (key.Event id n) (view base)) refl
       where
-        by : (shown : Option Content) → at view_cmp (key.Event id n) (view base) ≡ shown → IsSome shown → Contains (enrolled_numbers base.portfolio event) n
+        by : (shown : Option Content) → at view_cmp (key.Event id n) (view base) ≡ shown → IsSome shown → Contains (enrolled_numbers base.portfolio id event) n
         by None found some = absurd (false≢true some)
         by (Some c) found some =
             let keys : Contains (map (λ k. key.Event id k) (map (λ p. p.resource) ps)) (key.Event id n) =
             subst (λ ks. Contains ks (key.Event id n)) (keys_shown id event splits 0 ps) (in_map (λ r. r.0) (rows_for id event ps) (key.Event id n, c) (shown_there n c found)) in
             let m = from_map (λ k. key.Event id k) (map (λ p. p.resource) ps) (key.Event id n) keys in
             let same : m.0 ≡ n = let is : key.Event id n ≡ key.Event id m.0 = m.2 in cc in
-            subst (λ ns. Contains ns n) (numbers_are base event whole) (subst (Contains (map (λ p. p.resource) ps)) same m.1)
+            subst (λ ns. Contains ns n) (numbers_are base id event whole) (subst (Contains (map (λ p. p.resource) ps)) same m.1)
 
 pub parts_sum_up : ShownPartsSumUp
 parts_sum_up base id event whole stands live = record {

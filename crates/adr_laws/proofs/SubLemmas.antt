@@ -2,6 +2,7 @@
 use Rattle.std.proofs.Common.{◌≡◌, ℕ, ◌+◌, ◌≤◌, Bool, true, false, not, ◌==◌, List, [], ◌++◌, ◌⊎◌, inl, inr, Option, Some, None, sym, subst, ◌∙◌, arith}
 use Rattle.std.specs.Prelude.{◌≢◌, IsSome, IfSome}
 use Rattle.std.specs.Map.{remove_entry}
+use Rattle.std.proofs.lemmas.Bool.{cond_both}
 use Rattle.std.specs.Option.{option_map_or}
 use Rattle.adr_laws.proofs.Common.{All, AllPairs, All-append, All-contains, All-contains_itself, Contains, nat_cmp, keys_of, insert_entry, is_at, exact_unsigned, nat_cmp_total, tells_apart, Contains-from_lookup, at}
 use Rattle.adr_subscription.specs.declared.kept_sub.Sub.{Sub}
@@ -9,7 +10,9 @@ use Rattle.adr_state.specs.declared.portfolio.Portfolio.{Portfolio}
 use Rattle.adr_state.specs.declared.portfolio.Report.{Report}
 use Rattle.adr_state.specs.declared.portfolio.Resource.{Resource}
 use Rattle.adr_state.specs.declared.portfolio.Ven.{Ven}
-use Rattle.adr_state.specs.Portfolios.{is_of_ven, is_sub_of, reported_on, PortfolioChange, PutVen, DropVen, PutResource, DropResource, PutReport, DropReport, PutSub, DropSub, nobody, portfolio_after}
+use Rattle.adr_state.specs.Frozen.{is_frozen}
+use Rattle.adr_view.proofs.FrozenLemmas.{frozen_now}
+use Rattle.adr_state.specs.Portfolios.{is_of_ven, is_sub_of, reported_on, PortfolioChange, PutVen, DropVen, PutResource, DropResource, PutReport, DropReport, PutSub, DropSub, Freeze, nobody, portfolio_after}
 use Rattle.adr_laws.specs.Laws.{HasOwner}
 use Rattle.adr_view.proofs.OrderLemmas.{InOrder, none_sorted, each_row, in_order_put, in_order_removed, in_order_filtered}
 use Rattle.adr_view.proofs.RowLemmas.{from_put, from_removal, from_filter, found_after_put, found_after_removal}
@@ -49,6 +52,9 @@ used_after serial true p (PutReport n report) fits =
     used_by serial p (portfolio_after (PutReport n report) p) (is_one serial p.vens) (is_one serial p.resources) (elim fits.1 [ inl next ↦ one_put serial true n report p.reports next | inr found ↦ one_put serial false n report p.reports found ])
 used_after serial false p (PutReport n report) fits = absurd fits
 used_after serial draws p (DropReport n) fits = used_by serial p (portfolio_after (DropReport n) p) (is_one serial p.vens) (is_one serial p.resources) (λ r there. is_one serial p.reports r (from_removal (is_at (nat_cmp n)) p.reports r there))
+used_after serial draws p (Freeze id pairs) fits =
+    let same = used_by serial p p (is_one serial p.vens) (is_one serial p.resources) (is_one serial p.reports) in
+    cond_both (is_frozen p id) p (frozen_now p id pairs) (λ (q : Portfolio). (n : ℕ) → IsUsed q n → IsUsed p n ⊎ (n ≡ serial + 1)) (λ frozen. same) (λ fresh. same)
 used_after serial draws p change fits = used_by serial p (portfolio_after change p) (is_one serial p.vens) (is_one serial p.resources) (is_one serial p.reports)
 
 -- ---- subscriptions
@@ -126,6 +132,9 @@ module _ {first : ℕ} {had : List ℕ} {serial : ℕ} {p : Portfolio} (h : Have
     subs_after draws (DropSub n) fits =
         let left = from_removal (is_at (nat_cmp n)) p.subs in
         some_subs (portfolio_after (DropSub n) p) (rises serial draws) (in_order_removed nat_cmp (is_at (nat_cmp n)) p.subs h.in_order) left (used_after serial draws p (DropSub n) fits) (λ s there. h.owned s (left s there))
+    subs_after draws (Freeze id pairs) fits =
+        cond_both (is_frozen p id) p (frozen_now p id pairs) (λ (q : Portfolio). HaveSubs first had (serial_then serial draws) q) (λ frozen. later_subs (rises serial draws))
+        (λ fresh. some_subs (frozen_now p id pairs) (rises serial draws) h.in_order (λ s there. there) (λ n used. inl used) h.owned)
     subs_after draws change fits = some_subs (portfolio_after change p) (rises serial draws) h.in_order (λ s there. there) (used_after serial draws p change fits) h.owned
 
 -- none are there

@@ -1,6 +1,6 @@
 -- What is written in a run: the revisions of all that is written rise, and each report that is there is what was written last under its number.
 use Rattle.std.proofs.Common.{◌≡◌, ℕ, ◌+◌, ◌==◌, ◌≤◌, ◌<◌, Less, Bool, true, false, not, List, [], ◌∷◌, ◌++◌, Some, None, Ok, Err, IfOk, inl, inr, refl, sym, ap, subst, ◌∙◌, arith}
-use Rattle.std.proofs.lemmas.Bool.{eqb-false, lt-ltb}
+use Rattle.std.proofs.lemmas.Bool.{cond_both, eqb-false, lt-ltb}
 use Rattle.std.proofs.lemmas.Cmp.{tied_itself}
 use Rattle.std.proofs.lemmas.Option.{same_Some}
 use Rattle.std.proofs.lemmas.List.{append-nil, append_assoc}
@@ -13,7 +13,9 @@ use Rattle.adr_state.specs.declared.keys.ViewKey.{ViewKey}
 use Rattle.adr_state.specs.declared.keys.ViewKey.TheVariants as key
 use Rattle.adr_state.specs.declared.portfolio.Portfolio.{Portfolio}
 use Rattle.adr_state.specs.declared.portfolio.Report.{Report}
-use Rattle.adr_state.specs.Portfolios.{is_of_ven, reported_on, PortfolioChange, PutVen, DropVen, PutResource, DropResource, PutShare, DropShare, PutReport, DropReport, PutSub, DropSub, portfolio_after}
+use Rattle.adr_state.specs.Frozen.{is_frozen}
+use Rattle.adr_view.proofs.FrozenLemmas.{frozen_now}
+use Rattle.adr_state.specs.Portfolios.{is_of_ven, reported_on, PortfolioChange, PutVen, DropVen, PutResource, DropResource, PutShare, DropShare, PutReport, DropReport, PutSub, DropSub, Freeze as FreezeEvent, portfolio_after}
 use Rattle.adr_state.proofs.LawLemmas.{at-insert_entry}
 use Rattle.adr_text.specs.declared.refusal.Refusal.TheVariants as refusal
 use Rattle.adr_view.specs.declared.view.Content.TheVariants as content
@@ -23,7 +25,7 @@ use Rattle.adr_view.proofs.RowLemmas.{from_put, from_removal, from_filter}
 use Rattle.adr_queries.specs.declared.answer.Answer.{Answer}
 use Rattle.adr_queries.specs.declared.answer.Answer.TheVariants as answer
 use Rattle.adr_queries.specs.declared.answer.Object.TheVariants as object
-use Rattle.adr_machine.specs.declared.command.Command.TheVariants.{Evidence, Gone, ScanBegin, ScanEnd, VenAdd, VenPut, VenRemove, ResourceAdd, ResourcePut, ResourceRemove, ShareSet, ReportPost, ReportPut, ReportDelete, SubPost, SubPut, SubDelete, Lease, Sent, Failed}
+use Rattle.adr_machine.specs.declared.command.Command.TheVariants.{Evidence, Gone, ScanBegin, ScanEnd, VenAdd, VenPut, VenRemove, ResourceAdd, ResourcePut, ResourceRemove, ShareSet, Freeze, ReportPost, ReportPut, ReportDelete, SubPost, SubPut, SubDelete, Lease, Sent, Failed}
 use Rattle.adr_machine.specs.Edits.{Decision, draws_number}
 use Rattle.adr_queries.specs.Shown.{object_at, told}
 use Rattle.adr_machine.specs.Steps.{answered_by}
@@ -156,6 +158,7 @@ written_as_sent settings s c = after_step settings s c (λ r. IfOk r (λ taken. 
     by_command d a (ResourcePut role ven id resource) comes is = refl
     by_command d a (ResourceRemove role ven id) comes is = refl
     by_command d a (ShareSet role program resource share) comes is = refl
+    by_command d a (Freeze role event) comes is = refl
     by_command d a (ReportPost role sent) comes is = kept_writes s c.0 d (base_after s.base (ReportPost role sent) d) a comes is
     by_command d a (ReportPut role id sent) comes is = kept_writes s c.0 d (base_after s.base (ReportPut role id sent) d) a comes is
     by_command d a (ReportDelete role id) comes is = refl
@@ -188,6 +191,7 @@ portfolio_leaves p (DropShare key) none h = (h, λ r there. there)
 portfolio_leaves p (PutReport n report) none h = absurd (cc)
 portfolio_leaves p (PutSub n sub) none h = (h, λ r there. there)
 portfolio_leaves p (DropSub n) none h = (h, λ r there. there)
+portfolio_leaves p (FreezeEvent id pairs) none h = cond_both (is_frozen p id) p (frozen_now p id pairs) (λ (q : Portfolio). AreLeft q.reports p.reports) (λ frozen. (h, λ r there. there)) (λ fresh. (h, λ r there. there))
 portfolio_leaves p (DropReport n) none h = (in_order_removed nat_cmp (is_at (nat_cmp n)) p.reports h, from_removal (is_at (nat_cmp n)) p.reports)
 
 base_leaves : (base : Base) (change : BaseChange) → puts_in change ≡ [] → InOrder nat_cmp base.portfolio.reports → AreLeft (changed change base).portfolio.reports base.portfolio.reports
@@ -230,6 +234,7 @@ module _ (writes : List (ℕ × ReportBody)) (s : State) (h : IsWritten writes s
   by_command (ResourcePut role ven id resource) a comes fits is = nothing_written false comes.puts_none
   by_command (ResourceRemove role ven id) a comes fits is = nothing_written false comes.puts_none
   by_command (ShareSet role program resource share) a comes fits is = nothing_written false comes.puts_none
+  by_command (Freeze role event) a comes fits is = nothing_written false comes.puts_none
   by_command (ReportPost role report) a comes fits is = kept_written (base_after s.base (ReportPost role report) d) a comes fits is
   by_command (ReportPut role id report) a comes fits is = kept_written (base_after s.base (ReportPut role id report) d) a comes fits is
   by_command (ReportDelete role id) a comes fits is = nothing_written false (ap puts_in comes.goes)

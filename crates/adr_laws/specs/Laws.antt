@@ -15,6 +15,7 @@ use Rattle.adr_state.specs.declared.portfolio.Report.{Report}
 use Rattle.adr_state.specs.declared.base.Mark.{Mark}
 use Rattle.adr_state.specs.declared.base.Mark.TheVariants.{Dead}
 use Rattle.adr_state.specs.declared.keys.MirrorKey.{MirrorKey}
+use Rattle.adr_state.specs.declared.keys.FrozenKey.{FrozenKey}
 use Rattle.adr_state.specs.declared.keys.ShareKey.{ShareKey}
 use Rattle.adr_state.specs.declared.keys.ViewKey.{ViewKey}
 use Rattle.adr_state.specs.declared.keys.ViewKey.TheVariants as key
@@ -84,6 +85,14 @@ HasResource resources s = IsSome (at nat_cmp s.0.resource resources)
 abbrev pub HasWeight : ShareKey × ℕ → Type 0
 HasWeight s = (1 ≤ s.1) × (s.1 ≤ most_weight)
 
+-- the resource of a frozen share is there
+abbrev pub HasFrozenResource : List (ℕ × Resource) → FrozenKey × ℕ → Type 0
+HasFrozenResource resources s = IsSome (at nat_cmp s.0.resource resources)
+
+-- its weight is from 1 to 1,000,000
+abbrev pub HasFrozenWeight : FrozenKey × ℕ → Type 0
+HasFrozenWeight s = (1 ≤ s.1) × (s.1 ≤ most_weight)
+
 -- the resource that a report is on is there
 abbrev pub HasReported : List (ℕ × Resource) → ℕ × Report → Type 0
 HasReported resources r = IsSome (at nat_cmp (reported_on r) resources)
@@ -96,17 +105,19 @@ HasOwner vens s = IfSome s.1.owner (λ ven. IsSome (at nat_cmp ven vens))
 abbrev pub NamesDiffer : {V X : Type 0} → (V → X) → List (ℕ × V) → Type 0
 NamesDiffer name rows = All (λ a. All (λ b. name a.1 ≡ name b.1 → a.0 ≡ b.0) rows) rows
 
--- nothing is left of a ven or of a resource that is not there, no resource, no share, no report and no subscription; each share has a weight within its bounds, and no two vens have one name, nor two resources
+-- nothing is left of a ven or of a resource that is not there, no resource, no share, no frozen share, no report and no subscription; each share has a weight within its bounds, and no two vens have one name, nor two resources
 pub record IsWhole (base : Base) : Type 0 where
   pub resources_have_vens : All (HasVen base.portfolio.vens) base.portfolio.resources
   pub shares_have_resources : All (HasResource base.portfolio.resources) base.portfolio.shares
   pub shares_have_weights : All HasWeight base.portfolio.shares
+  pub frozen_have_resources : All (HasFrozenResource base.portfolio.resources) base.portfolio.frozen_shares
+  pub frozen_have_weights : All HasFrozenWeight base.portfolio.frozen_shares
   pub reports_have_resources : All (HasReported base.portfolio.resources) base.portfolio.reports
   pub subs_have_owners : All (HasOwner base.portfolio.vens) base.portfolio.subs
   pub ven_names_differ : NamesDiffer (λ ven. ven.name) base.portfolio.vens
   pub resource_names_differ : NamesDiffer (λ resource. resource.name) base.portfolio.resources
 
--- after any run from an empty start, each resource has its ven, each share its resource and a weight, each report its resource, each subscription of a ven that ven, and names are unique
+-- after any run from an empty start, each resource has its ven, each share its resource and a weight, each frozen share too, each report its resource, each subscription of a ven that ven, and names are unique
 abbrev pub PortfolioIsWhole : Type 0
 PortfolioIsWhole = (settings : Settings) (cs : List (ℕ × Command)) → IsWhole (state_of (step_at settings) empty cs).base
 
@@ -120,7 +131,7 @@ RowsStandInOrder = (settings : Settings) (cs : List (ℕ × Command)) → Stands
 
 -- where the portfolio is whole, the participants of an event are exactly the resources that are enrolled for it, in their order, each with its weight: none lacks for want of a ven
 abbrev pub ParticipantsLackNone : Type 0
-ParticipantsLackNone = (base : Base) (event : EventBody) → IsWhole base → map (λ p. (p.resource, p.weight)) (participants base.portfolio event) ≡ enrolled base.portfolio event
+ParticipantsLackNone = (base : Base) (id : List ℕ) (event : EventBody) → IsWhole base → map (λ p. (p.resource, p.weight)) (participants base.portfolio id event) ≡ enrolled base.portfolio id event
 
 -- wherever the portfolio is whole and rows stand in order, each live event is shared out
 abbrev pub ShownPartsSumUp : Type 0

@@ -149,8 +149,8 @@ pub record SumsTheLast (last : ℕ → ℤ → Option ℤ) (ps : List Participan
 pub record IsOfTheLast (base : Base) (writes : List (ℕ × ReportBody)) (id : List ℕ) (rollup : Rollup) : Type 0 where
   pub event : EventBody
   pub is_live : IsLive base id event
-  pub no_two_are_one : AllPairs (λ m n. m ≢ n) (map (λ p. p.resource) (participants base.portfolio event))
-  pub sums_the_last : All (SumsTheLast (last_reported base.portfolio.reports writes id) (participants base.portfolio event)) rollup.intervals
+  pub no_two_are_one : AllPairs (λ m n. m ≢ n) (map (λ p. p.resource) (participants base.portfolio id event))
+  pub sums_the_last : All (SumsTheLast (last_reported base.portfolio.reports writes id) (participants base.portfolio id event)) rollup.intervals
 
 -- after any run from an empty start, so is each roll-up that is shown
 abbrev pub RollupsAreOfTheLast : Type 0

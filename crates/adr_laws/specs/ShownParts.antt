@@ -38,7 +38,7 @@ IsLive base id event = (moment : ℕ) × (at mirror_cmp (record { kind = kind.Ev
 
 -- an event is shared out: the parts of a setpoint, one at the key of each that is enrolled, sum to it, where one is; an interval with no setpoint shows nobody a part; and nobody is shown the event who is not enrolled for it
 pub record IsSharedOut (base : Base) (id : List ℕ) (event : EventBody) : Type 0 where
-  pub parts_sum_up : (place : ℕ) (i : Interval) (v : ℤ) → slice_get event.intervals place ≡ Some i → i.setpoint ≡ Some v → 0 < length (enrolled base.portfolio event)
-      → AreFairParts v (enrolled_weights base.portfolio event) (map (part_shown (view base) id place) (enrolled_numbers base.portfolio event))
+  pub parts_sum_up : (place : ℕ) (i : Interval) (v : ℤ) → slice_get event.intervals place ≡ Some i → i.setpoint ≡ Some v → 0 < length (enrolled base.portfolio id event)
+      → AreFairParts v (enrolled_weights base.portfolio id event) (map (part_shown (view base) id place) (enrolled_numbers base.portfolio id event))
   pub no_part_without_setpoint : (place : ℕ) (i : Interval) (resource : ℕ) → slice_get event.intervals place ≡ Some i → i.setpoint ≡ None → part_shown (view base) id place resource ≡ None
-  pub nobody_else_is_shown_it : (resource : ℕ) → IsSome (at view_cmp (key.Event id resource) (view base)) → Contains (enrolled_numbers base.portfolio event) resource
+  pub nobody_else_is_shown_it : (resource : ℕ) → IsSome (at view_cmp (key.Event id resource) (view base)) → Contains (enrolled_numbers base.portfolio id event) resource

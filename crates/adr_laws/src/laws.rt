@@ -26,7 +26,8 @@ pub fn rows_stand_in_order()
 {}
 
 /// Where the portfolio is whole, the participants of an event are exactly the resources with a share in its
-/// program and of a name that it is for, in their order, each with its weight.
+/// program and of a name that it is for, and of one that is frozen those for which a weight is kept, in their order,
+/// each with its weight.
 pub fn participants_lack_none()
     ensures { ParticipantsLackNone }
 {}

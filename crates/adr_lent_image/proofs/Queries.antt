@@ -7,21 +7,22 @@ use Rattle.adr_db.specs.Kept.{Kept, Keeps, contents_of}
 use Rattle.adr_db.specs.Rows.{key_row}
 use Rattle.adr_db.specs.Tables.{schema}
 use Rattle.adr_db.proofs.KeptMaps.{KeptMap, StoredMap}
-use Rattle.adr_db.proofs.Maps.{mirror_map, polled_map, ven_map, resource_map, share_map, stamp_map, report_rows, sub_map, remote_map, outbox_map}
+use Rattle.adr_db.proofs.Maps.{mirror_map, polled_map, ven_map, resource_map, share_map, frozen_map, frozen_share_map, stamp_map, report_rows, sub_map, remote_map, outbox_map}
 use Rattle.adr_db.proofs.MetaStatements.{reads as meta_reads, meta_read}
-use Rattle.adr_db.proofs.Tables.{meta, mirror, polled, ven, resource, share, stamp, report, report_value, report_value_keyed, sub, remote, outbox}
+use Rattle.adr_db.proofs.Tables.{meta, mirror, polled, ven, resource, share, frozen, frozen_share, stamp, report, report_value, report_value_keyed, sub, remote, outbox}
 use Rattle.adr_lent.specs.Selections.{Selects}
 use Rattle.adr_lent.specs.Texts.{IsQueryText}
 use Rattle.adr_lent.proofs.Queries.{selects}
 use Rattle.adr_lent_image.specs.declared.numbers.TheConstants.{READ_META}
 use Rattle.adr_lent_image.specs.declared.marks.TheConstants.{READ_MARKS, READ_POLLED}
 use Rattle.adr_lent_image.specs.declared.sites.TheConstants.{READ_VENS, READ_RESOURCES, READ_SHARES}
+use Rattle.adr_lent_image.specs.declared.frozen.TheConstants.{READ_FROZEN, READ_FROZEN_SHARES}
 use Rattle.adr_lent_image.specs.declared.stamps.TheConstants.{READ_STAMPS}
 use Rattle.adr_lent_image.specs.declared.reports.TheConstants.{READ_REPORTS}
 use Rattle.adr_lent_image.specs.declared.intervals.TheConstants.{READ_INTERVALS}
 use Rattle.adr_lent_image.specs.declared.subs.TheConstants.{READ_SUBS}
 use Rattle.adr_lent_image.specs.declared.waits.TheConstants.{READ_ENTRIES, READ_REMOTES}
-use Rattle.adr_lent_image.specs.Selected.{rows_of_meta, rows_of_marks, rows_of_polled, rows_of_vens, rows_of_resources, rows_of_shares, rows_of_stamps, rows_of_reports, rows_of_intervals, rows_of_subs, rows_of_remotes, rows_of_entries}
+use Rattle.adr_lent_image.specs.Selected.{rows_of_meta, rows_of_marks, rows_of_polled, rows_of_vens, rows_of_resources, rows_of_shares, rows_of_frozen, rows_of_frozen_shares, rows_of_stamps, rows_of_reports, rows_of_intervals, rows_of_subs, rows_of_remotes, rows_of_entries}
 
 -- a query of all rows of a table that is a map selects those of its entries
 module _ {K V : Type 0} (m : StoredMap K V) (sql : List ℕ) (text : IsSelectText schema m.rows.table (whole_rows 0 m.rows.table) end sql) where
@@ -86,6 +87,32 @@ shares_text = record { names = codes "program" ∷ codes "resource" ∷ codes "w
 
 pub shares_selected : {S : Type 0} (g : Ghosts S) (before : Held S) → Selects g READ_SHARES.now [] rows_of_shares before
 shares_selected = all_selected (stored share_map) READ_SHARES.now shares_text
+
+-- ---- the events that are frozen
+
+pub frozen_query : IsQueryText READ_FROZEN.now
+unfolding everything
+frozen_query = record { read = record { unreturned = λ schema base. refl; untimed = λ schema. refl } }
+
+frozen_text : IsSelectText schema frozen (whole_rows 0 frozen) end READ_FROZEN.now
+unfolding understood everything
+frozen_text = record { names = codes "event" ∷ []; command = refl; alone = (refl, refl); unlisted = refl; from = refl; order = refl; ungrouped = refl; undistinct = refl; joins = refl; sorts = refl; shows = refl }
+
+pub frozen_selected : {S : Type 0} (g : Ghosts S) (before : Held S) → Selects g READ_FROZEN.now [] rows_of_frozen before
+frozen_selected = all_selected (stored frozen_map) READ_FROZEN.now frozen_text
+
+-- ---- the shares that are kept for them
+
+pub frozen_shares_query : IsQueryText READ_FROZEN_SHARES.now
+unfolding everything
+frozen_shares_query = record { read = record { unreturned = λ schema base. refl; untimed = λ schema. refl } }
+
+frozen_shares_text : IsSelectText schema frozen_share (whole_rows 0 frozen_share) end READ_FROZEN_SHARES.now
+unfolding understood everything
+frozen_shares_text = record { names = codes "event" ∷ codes "resource" ∷ codes "weight" ∷ []; command = refl; alone = (refl, refl); unlisted = refl; from = refl; order = refl; ungrouped = refl; undistinct = refl; joins = refl; sorts = refl; shows = refl }
+
+pub frozen_shares_selected : {S : Type 0} (g : Ghosts S) (before : Held S) → Selects g READ_FROZEN_SHARES.now [] rows_of_frozen_shares before
+frozen_shares_selected = all_selected (stored frozen_share_map) READ_FROZEN_SHARES.now frozen_shares_text
 
 -- ---- stamps
 
@@ -192,4 +219,4 @@ unfolding everything
 meta_query = record { read = record { unreturned = λ schema base. refl; untimed = λ schema. refl } }
 
 pub meta_selected : {S : Type 0} (g : Ghosts S) (before : Held S) → Selects g READ_META.now [] rows_of_meta before
-meta_selected g before = selects g READ_META.now [] (first_columns 15 [] meta) rows_of_meta meta_reads meta_read before
+meta_selected g before = selects g READ_META.now [] (first_columns 16 [] meta) rows_of_meta meta_reads meta_read before

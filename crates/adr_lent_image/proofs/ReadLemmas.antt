@@ -3,31 +3,36 @@ use Rattle.std.proofs.Common.{◌≡◌, ◌∙◌, ℕ, suc, Some, List, [], �
 use Rattle.std.specs.List.{flat_map}
 use Rattle.adr_state.specs.Keys.{with_rows}
 use Rattle.adr_db.proofs.Common.{AllZip, Row, State, insert_entry, id_cmp, Ghosts, Held, state, MirrorKey, Mark, Ven, Resource, ShareKey, ViewKey, Stamps, Sub, Report, cells, column}
+use Rattle.adr_state.specs.declared.keys.FrozenKey.{FrozenKey}
 use Rattle.adr_objects.specs.declared.report.UsageInterval.{UsageInterval}
 use Rattle.adr_db.specs.ReadBack.{text_of}
 use Rattle.adr_delivery.specs.declared.entry.Entry.{Entry}
 use Rattle.adr_db.specs.declared.meta.Meta.{Meta}
 use Rattle.adr_db.specs.declared.outbox.RemoteRow.{RemoteRow}
 use Rattle.adr_db.specs.declared.report_columns.ReportColumns.{ReportColumns}
-use Rattle.adr_db.specs.Admitted.{ReadsMeta, ReadsEntry, ReadsKey, ReadsVenEntry, ReadsResourceEntry, ReadsShare, ReadsStamped, ReadsNumber, ReadsReportEntry, ReadsUsageInterval, ReadsSubEntry, ReadsRemote, ReadsWaitingEntry}
+use Rattle.adr_db.specs.Admitted.{ReadsMeta, ReadsEntry, ReadsKey, ReadsVenEntry, ReadsResourceEntry, ReadsShare, ReadsId, ReadsFrozenShare, ReadsStamped, ReadsNumber, ReadsReportEntry, ReadsUsageInterval, ReadsSubEntry, ReadsRemote, ReadsWaitingEntry}
 use Rattle.adr_db.specs.Kept.{Kept, Keeps}
-use Rattle.adr_db.specs.Rows.{number, meta_columns, value_rows, key_row, mark_row, ven_row, resource_row, share_row, stamp_row, report_columns_row, value_rows_from, sub_row, remote_row, entry_row}
+use Rattle.adr_db.specs.Rows.{number, meta_row, value_rows, key_row, mark_row, ven_row, resource_row, share_row, event_key_row, frozen_share_row, stamp_row, report_columns_row, value_rows_from, sub_row, remote_row, entry_row}
 use Rattle.adr_db.proofs.KeptMaps.{AreTexts, again, read_back}
-use Rattle.adr_db.proofs.Maps.{remote_map}
+use Rattle.adr_db.proofs.Maps.{frozen_map, remote_map}
 use Rattle.adr_db.proofs.Marks.{entry_read}
 use Rattle.adr_db.proofs.Reports.{columns_of}
-use Rattle.adr_db.proofs.Rows.{meta_kept, key_kept, number_kept, ven_kept, resource_kept, share_key_kept, view_key_kept, stamps_kept, report_columns_kept, interval_kept}
+use Rattle.adr_db.proofs.Rows.{meta_kept, key_kept, number_kept, ven_kept, resource_kept, share_key_kept, frozen_key_kept, view_key_kept, stamps_kept, report_columns_kept, interval_kept}
 use Rattle.adr_db.proofs.Subs.{sub_entry_read}
 use Rattle.adr_db.proofs.Waiting.{waiting_entry_read}
 use Rattle.adr_lent.specs.Lent.{HasLent, Lends}
 use Rattle.adr_lent.specs.Selections.{Selects}
 use Rattle.adr_lent.proofs.Pages.{keeps_now}
 use Rattle.adr_lent_image.specs.Gathered.{with_remote}
-use Rattle.adr_lent_image.specs.Selected.{rows_of_meta, rows_of_marks, rows_of_polled, rows_of_vens, rows_of_resources, rows_of_shares, rows_of_stamps, rows_of_reports, rows_of_intervals, rows_of_subs, rows_of_remotes, rows_of_entries}
+use Rattle.adr_lent_image.specs.Selected.{rows_of_meta, rows_of_marks, rows_of_polled, rows_of_vens, rows_of_resources, rows_of_shares, rows_of_frozen, rows_of_frozen_shares, rows_of_stamps, rows_of_reports, rows_of_intervals, rows_of_subs, rows_of_remotes, rows_of_entries}
 
 -- the utility's id of a report, as it is read of its row
 abbrev pub remote_of : List ℕ × List ℕ → RemoteRow
 remote_of e = record { event = e.0; id = e.1 }
+
+-- the ids of the events that are frozen
+abbrev pub frozen_ids : Kept → List (List ℕ)
+frozen_ids kept = map (λ e. e.0) kept.portfolio.frozen
 
 -- those of all that are kept
 abbrev pub remote_rows : Kept → List RemoteRow
@@ -48,6 +53,18 @@ module _ (kept : Kept) (are : AreTexts kept) where
 
   pub shares_back : (seen : List (ShareKey × ℕ)) → AllZip ReadsShare (rows_of_shares kept) seen → seen ≡ kept.portfolio.shares
   shares_back seen = read_back ReadsShare share_row seen kept.portfolio.shares (λ d e has read. ap₂ (λ (key : ShareKey) (weight : ℕ). (key, weight)) (share_key_kept d.0 e.0 read.0) (number_kept d.1 e.1 read.1))
+
+  pub frozen_back : (seen : List (List ℕ)) → AllZip ReadsId (rows_of_frozen kept) seen → seen ≡ frozen_ids kept
+  frozen_back seen read = by kept.portfolio.frozen seen read
+    where
+      by : (es : List (List ℕ × Unit {0})) (seen : List (List ℕ)) → AllZip ReadsId (map (λ e. event_key_row e.0) es) seen → seen ≡ map (λ e. e.0) es
+      by [] [] read = refl
+      by [] (id ∷ seen) read = absurd read
+      by (e ∷ es) [] read = absurd read
+      by (e ∷ es) (id ∷ seen) read = ap₂ ◌∷◌ (ap text_of read.0) (by es seen read.1)
+
+  pub frozen_shares_back : (seen : List (FrozenKey × ℕ)) → AllZip ReadsFrozenShare (rows_of_frozen_shares kept) seen → seen ≡ kept.portfolio.frozen_shares
+  frozen_shares_back seen = read_back ReadsFrozenShare frozen_share_row seen kept.portfolio.frozen_shares (λ d e has read. ap₂ (λ (key : FrozenKey) (weight : ℕ). (key, weight)) (frozen_key_kept d.0 e.0 read.0) (number_kept d.1 e.1 read.1))
 
   pub stamps_back : (seen : List (ViewKey × Stamps)) → AllZip ReadsStamped (rows_of_stamps kept) seen → seen ≡ kept.stamps
   stamps_back seen = read_back ReadsStamped stamp_row seen kept.stamps (λ d e has read. ap₂ (λ (key : ViewKey) (stamps : Stamps). (key, stamps)) (view_key_kept d.0 e.0 read.0) (stamps_kept d.1 e.1 read.1))
@@ -86,6 +103,14 @@ remotes_again kept s was = by [] kept.remotes ∙ again remote_map kept s was
     by table [] = refl
     by table (e ∷ es) = by (insert_entry id_cmp table e.0 e.1) es
 
+-- the ids make the set of the events again
+pub frozen_again : (kept : Kept) (s : State) → Keeps kept s → fold (λ events id. insert_entry id_cmp events id tt) [] (frozen_ids kept) ≡ kept.portfolio.frozen
+frozen_again kept s was = by [] kept.portfolio.frozen ∙ again frozen_map kept s was
+  where
+    by : (table es : List (List ℕ × Unit {0})) → fold (λ events id. insert_entry id_cmp events id tt) table (map (λ e. e.0) es) ≡ with_rows id_cmp table es
+    by table [] = refl
+    by table (e ∷ es) = by (insert_entry id_cmp table e.0 tt) es
+
 -- an interval behind the number of its report
 abbrev pub IntervalEntry : Type 0
 IntervalEntry = ℕ × UsageInterval
@@ -121,8 +146,8 @@ module _ {S : Type 0} (g : Ghosts S) (old begun now : Held S) (meta : Meta) {sql
   meta_found first selects lends kept was =
       let it = lends sql params old [] first in
       let all = selects.begins kept was now (it.0 ∷ []) it.2 in
-      let row : it.0 ≡ meta_columns kept.meta = by all.0 all.1 in
-      (meta_kept meta kept.meta (it.1 ∙ ap (cells 0 15) row), keeps_now kept (state g old) (state g now) it.2.same.0.now_is was)
+      let row : it.0 ≡ meta_row kept.meta = by all.0 all.1 in
+      (meta_kept meta kept.meta (it.1 ∙ ap (cells 0 16) row), keeps_now kept (state g old) (state g now) it.2.same.0.now_is was)
     where
       by : {row wanted : Row} (rest : List Row) → row ∷ rest ≡ wanted ∷ [] → row ≡ wanted
       by rest is = cc

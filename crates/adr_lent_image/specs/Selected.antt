@@ -3,11 +3,11 @@ use Rattle.std.specs.Prelude.{List, [], ◌∷◌, map}
 use Rattle.std.specs.List.{flat_map}
 use Rattle.sqlite.specs.Order.{Row}
 use Rattle.adr_db.specs.Kept.{Kept}
-use Rattle.adr_db.specs.Rows.{meta_columns, mark_row, key_row, ven_row, resource_row, share_row, stamp_row, report_row, value_rows, sub_row, remote_row, entry_row}
+use Rattle.adr_db.specs.Rows.{meta_row, mark_row, key_row, ven_row, resource_row, share_row, event_key_row, frozen_share_row, stamp_row, report_row, value_rows, sub_row, remote_row, entry_row}
 
 -- the one row of the numbers of the node
 abbrev pub rows_of_meta : Kept → List Row
-rows_of_meta kept = meta_columns kept.meta ∷ []
+rows_of_meta kept = meta_row kept.meta ∷ []
 
 -- those of what is known of upstream keys
 abbrev pub rows_of_marks : Kept → List Row
@@ -28,6 +28,14 @@ rows_of_resources kept = map resource_row kept.portfolio.resources
 -- those of the shares
 abbrev pub rows_of_shares : Kept → List Row
 rows_of_shares kept = map share_row kept.portfolio.shares
+
+-- those of the events that are frozen
+abbrev pub rows_of_frozen : Kept → List Row
+rows_of_frozen kept = map (λ e. event_key_row e.0) kept.portfolio.frozen
+
+-- those of the shares that are kept for them
+abbrev pub rows_of_frozen_shares : Kept → List Row
+rows_of_frozen_shares kept = map frozen_share_row kept.portfolio.frozen_shares
 
 -- those of the stamps of what is shown
 abbrev pub rows_of_stamps : Kept → List Row

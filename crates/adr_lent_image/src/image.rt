@@ -6,6 +6,7 @@ ghost use Rattle.adr_db.specs.Calls.{Finds, IsOfStore};
 ghost use Rattle.adr_db.specs.Images.{base_of, outbox_of, image_kept};
 ghost use Rattle.adr_lent.specs.Lent.{Stands};
 
+use crate::frozen::{lent_frozen, lent_frozen_shares};
 use crate::marks::{lent_marks, lent_polled};
 use crate::numbers::lent_meta;
 use crate::reports::lent_reports;
@@ -27,7 +28,7 @@ fn scan_with(is_open: bool, polled: Polled) -> Option<Polled>
     if is_open { Some(polled) } else { None }
 }
 
-/// The vens, resources, shares, reports and subscriptions.
+/// The vens, resources, shares, reports and subscriptions, and what is frozen.
 pub fn lent_portfolio<S: Alter>(
     alloc: Global,
     conn: &mut Connection<S>,
@@ -42,12 +43,16 @@ pub fn lent_portfolio<S: Alter>(
     let shares = lent_shares(alloc, conn)?;
     let reports = lent_reports(alloc, conn)?;
     let subs = lent_subs(alloc, conn)?;
+    let frozen = lent_frozen(alloc, conn)?;
+    let frozen_shares = lent_frozen_shares(alloc, conn)?;
     Ok(Portfolio {
         vens,
         resources,
         shares,
         reports,
         subs,
+        frozen,
+        frozen_shares,
     })
 }
 

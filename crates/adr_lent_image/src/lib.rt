@@ -1,6 +1,7 @@
 //! The whole state of the tables, each table read row by row as its rows are lent, one table after another.
 #![tactic(auto)]
 
+mod frozen;
 mod gathering;
 mod groups;
 mod image;
@@ -13,6 +14,7 @@ mod stamps;
 mod subs;
 mod waits;
 
+pub use frozen::{lend_frozen, lend_frozen_shares, lent_frozen, lent_frozen_shares};
 pub use gathering::{Gathering, gather_all, lent_table};
 pub use groups::Waiting;
 pub use image::{image_of, lent_base, lent_outbox, lent_portfolio};

@@ -17,7 +17,7 @@ use sqlite::{Alter, Connection, Error, Rows as LentRows};
 use std::alloc::Global;
 
 const READ_META: &str =
-    "SELECT k, version, serial, scan, made, sent, given_up, dropped, pending, keys, vens, resources, shares, reports, subs FROM meta ORDER BY k";
+    "SELECT k, version, serial, scan, made, sent, given_up, dropped, pending, keys, vens, resources, shares, reports, subs, frozen FROM meta ORDER BY k";
 
 /// The one row of the numbers of the node.
 pub fn lend_meta<'conn, S: Alter>(

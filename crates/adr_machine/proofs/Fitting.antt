@@ -1,5 +1,5 @@
 -- A step leaves a state that a desk may hold.
-use Rattle.std.proofs.Common.{◌≡◌, ℕ, ◌+◌, ◌≤◌, Bool, true, false, ◌==◌, inl, inr, List, [], ◌∷◌, length, filter, Option, Some, None, Result, Ok, Err, IfOk, Ordering, refl, ap, subst, arith}
+use Rattle.std.proofs.Common.{◌≡◌, ℕ, ◌+◌, ◌≤◌, Bool, true, false, not, ◌==◌, inl, inr, List, [], ◌∷◌, length, filter, map, Option, Some, None, Result, Ok, Err, IfOk, Ordering, refl, sym, ap, subst, ◌∙◌, arith}
 use Rattle.std.specs.Prelude.{nat_le, nat_lt, is_some, option_map, IsSome, IfSome}
 use Rattle.std.specs.BTreeMap.{insert_entry, is_at}
 use Rattle.std.specs.BTreeSet.{insert_key}
@@ -8,8 +8,9 @@ use Rattle.std.specs.List.{All, Contains, enumerate_from}
 use Rattle.std.specs.Map.{keys_of, remove_entry, values_of}
 use Rattle.std.specs.Option.{option_map_or}
 use Rattle.std.specs.Ordering.{nat_cmp}
-use Rattle.std.proofs.lemmas.Bool.{and_cases, cond_both, leb-false, ltb-false}
+use Rattle.std.proofs.lemmas.Bool.{and_cases, cond_both, leb-false, ltb-false, true≢false}
 use Rattle.std.proofs.lemmas.Cmp.{eq_by_cmp_equiv, nat_cmp_total, nat_list_cmp_total, on_total, then_total}
+use Rattle.std.proofs.lemmas.List.{length-map}
 use Rattle.std.proofs.lemmas.List.Elements.{All-cons, All-head, All-nil, All-tail, Contains-append_right}
 use Rattle.std.proofs.lemmas.List.FromFn.{length-enumerate_from}
 use Rattle.std.proofs.lemmas.List.Sums.{count_by-le-length, length-filter}
@@ -29,6 +30,7 @@ use Rattle.adr_delivery.specs.Tallies.{plus}
 use Rattle.adr_notices.specs.Committed.{numbered, with_further}
 use Rattle.adr_state.specs.declared.base.Base.{Base}
 use Rattle.adr_state.specs.declared.base.Mark.{Mark}
+use Rattle.adr_state.specs.declared.keys.FrozenKey.{FrozenKey}
 use Rattle.adr_state.specs.declared.keys.MirrorKey.{MirrorKey}
 use Rattle.adr_state.specs.declared.keys.ShareKey.{ShareKey}
 use Rattle.adr_state.specs.declared.limits.Limits.{Limits}
@@ -37,14 +39,16 @@ use Rattle.adr_state.specs.declared.portfolio.Portfolio.{Portfolio}
 use Rattle.adr_state.specs.declared.state.State.{State}
 use Rattle.adr_state.specs.BaseChanges.{BaseChange, ChangePortfolio, JoinMarks, SetScan, changed}
 use Rattle.adr_state.specs.Fitting.{EntriesFit, Fits, HasFewLeases, IsMap, SitesFit}
-use Rattle.adr_state.specs.Keys.{at, mirror_cmp, share_cmp}
+use Rattle.adr_state.specs.Frozen.{is_frozen, is_of_event, frozen_row, with_pairs, with_frozen}
+use Rattle.adr_state.specs.Keys.{at, frozen_cmp, id_cmp, mirror_cmp, share_cmp}
 use Rattle.adr_state.specs.Limits.{AreSmall, largest}
 use Rattle.adr_state.specs.Marks.{is_below}
 use Rattle.adr_state.specs.Mirror.{joined, raised}
-use Rattle.adr_state.specs.Portfolios.{PortfolioChange, PutVen, DropVen, PutResource, DropResource, PutShare, DropShare, PutReport, DropReport, PutSub, DropSub, portfolio_after}
+use Rattle.adr_state.specs.Portfolios.{PortfolioChange, PutVen, DropVen, PutResource, DropResource, PutShare, DropShare, PutReport, DropReport, PutSub, DropSub, Freeze, portfolio_after}
 use Rattle.adr_state.specs.Serials.{drawn}
 use Rattle.adr_state.specs.States.{empty}
 use Rattle.adr_state.proofs.LawLemmas.{key_order}
+use Rattle.adr_view.proofs.FrozenLemmas.{frozen_now, frozen_total}
 use Rattle.adr_view.proofs.OrderLemmas.{InOrder, in_order_filtered, in_order_put, in_order_removed, in_order_rows, none_sorted}
 use Rattle.adr_queries.specs.declared.answer.Answer.{Answer}
 use Rattle.adr_machine.specs.declared.command.Command.{Command}
@@ -57,8 +61,8 @@ use Rattle.adr_machine.specs.Steps.{answered_by, committed, delivery_step, edit_
 use Rattle.adr_machine.specs.Steps as steps
 use Rattle.adr_machine.proofs.EditLemmas.{first_then, found_then, tested, whatever}
 use Rattle.adr_machine.proofs.Made.{IsUntried, made_untried}
-use Rattle.adr_machine.proofs.Rooms.{BaseHasRoom, HasRoom, SitesHaveRoom, decided_room}
-use Rattle.adr_machine.proofs.Sizes.{found_size, put_size, removed_size}
+use Rattle.adr_machine.proofs.Rooms.{BaseHasRoom, HasPairRoom, HasRoom, SitesHaveRoom, decided_room}
+use Rattle.adr_machine.proofs.Sizes.{found_size, more_rows, put_size, removed_size}
 
 -- ---- one map
 
@@ -98,18 +102,43 @@ module _ {K V : Type 0} {cmp : K → K → Ordering} {most : ℕ} {rows : List (
 share_order : IsTotalOrder share_cmp
 share_order = then_total (on_total (λ (k : ShareKey). k.program) nat_list_cmp_total) (on_total (λ (k : ShareKey). k.resource) nat_cmp_total)
 
+-- pairs for which there is room are kept within a limit
+pub pairs_fit : {limit most : ℕ} → limit ≤ most → (p : Portfolio) (id : List ℕ) (pairs : List (ℕ × ℕ)) → IsMap frozen_cmp most p.frozen_shares → length p.frozen_shares + length pairs ≤ limit → IsMap frozen_cmp most (with_pairs id pairs p.frozen_shares)
+pairs_fit {limit} {most} small p id pairs h room = record {
+  rises = in_order_rows frozen_total (filter stays p.frozen_shares) (map (frozen_row id) pairs) others.rises;
+  few = let more = more_rows frozen_total (map (frozen_row id) pairs) (filter stays p.frozen_shares) others.rises in let count = length-map pairs (frozen_row id) in omega (arith, more, count, fewer, room, small);
+}
+  where
+    stays : FrozenKey × ℕ → Bool
+    stays s = not (is_of_event id s)
+
+    others : IsMap frozen_cmp most (filter stays p.frozen_shares)
+    others = left_fits stays h
+
+    fewer : length (filter stays p.frozen_shares) ≤ length p.frozen_shares
+    fewer = let size = length-filter stays p.frozen_shares in let less = count_by-le-length stays p.frozen_shares in omega (arith, size, less)
+
+frozen_fits : {limits : Limits} → AreSmall limits → (p : Portfolio) (id : List ℕ) (pairs : List (ℕ × ℕ)) → SitesFit p → HasPairRoom limits p id pairs → SitesFit (with_frozen id pairs p)
+frozen_fits {limits} small p id pairs h room = cond_both (is_frozen p id) p (frozen_now p id pairs) SitesFit (λ frozen. h) (λ fresh. now fresh room)
+  where
+    now : is_frozen p id ≡ false → HasPairRoom limits p id pairs → SitesFit (frozen_now p id pairs)
+    now fresh (inl frozen) = absurd (true≢false (sym frozen ∙ fresh))
+    now fresh (inr room) =
+        record { vens = h.vens; resources = h.resources; shares = h.shares; reports = h.reports; subs = h.subs; frozen = in_order_put nat_list_cmp_total id tt p.frozen h.frozen; frozen_shares = pairs_fit small.frozen p id pairs h.frozen_shares room }
+
 module _ {limits : Limits} (small : AreSmall limits) where
   sites_after : (p : Portfolio) (change : PortfolioChange) → SitesFit p → SitesHaveRoom limits p change → SitesFit (portfolio_after change p)
-  sites_after p (PutVen n ven) h room = record { vens = put_fits nat_cmp_total small.vens n ven h.vens room; resources = h.resources; shares = h.shares; reports = h.reports; subs = h.subs }
-  sites_after p (DropVen n) h room = record { vens = removed_fits n h.vens; resources = left_fits _ h.resources; shares = left_fits _ h.shares; reports = left_fits _ h.reports; subs = left_fits _ h.subs }
-  sites_after p (PutResource n resource) h room = record { vens = h.vens; resources = put_fits nat_cmp_total small.resources n resource h.resources room; shares = h.shares; reports = h.reports; subs = h.subs }
-  sites_after p (DropResource n) h room = record { vens = h.vens; resources = removed_fits n h.resources; shares = left_fits _ h.shares; reports = left_fits _ h.reports; subs = h.subs }
-  sites_after p (PutShare key weight) h room = record { vens = h.vens; resources = h.resources; shares = put_fits share_order small.shares key weight h.shares room; reports = h.reports; subs = h.subs }
-  sites_after p (DropShare key) h room = record { vens = h.vens; resources = h.resources; shares = removed_fits key h.shares; reports = h.reports; subs = h.subs }
-  sites_after p (PutReport n report) h room = record { vens = h.vens; resources = h.resources; shares = h.shares; reports = put_fits nat_cmp_total small.reports n report h.reports room; subs = h.subs }
-  sites_after p (DropReport n) h room = record { vens = h.vens; resources = h.resources; shares = h.shares; reports = removed_fits n h.reports; subs = h.subs }
-  sites_after p (PutSub n sub) h room = record { vens = h.vens; resources = h.resources; shares = h.shares; reports = h.reports; subs = put_fits nat_cmp_total small.subs n sub h.subs room }
-  sites_after p (DropSub n) h room = record { vens = h.vens; resources = h.resources; shares = h.shares; reports = h.reports; subs = removed_fits n h.subs }
+  sites_after p (PutVen n ven) h room = record { vens = put_fits nat_cmp_total small.vens n ven h.vens room; resources = h.resources; shares = h.shares; reports = h.reports; subs = h.subs; frozen = h.frozen; frozen_shares = h.frozen_shares }
+  sites_after p (DropVen n) h room = record { vens = removed_fits n h.vens; resources = left_fits _ h.resources; shares = left_fits _ h.shares; reports = left_fits _ h.reports; subs = left_fits _ h.subs; frozen = h.frozen; frozen_shares = left_fits _ h.frozen_shares }
+  sites_after p (PutResource n resource) h room = record { vens = h.vens; resources = put_fits nat_cmp_total small.resources n resource h.resources room; shares = h.shares; reports = h.reports; subs = h.subs; frozen = h.frozen; frozen_shares = h.frozen_shares }
+  sites_after p (DropResource n) h room = record { vens = h.vens; resources = removed_fits n h.resources; shares = left_fits _ h.shares; reports = left_fits _ h.reports; subs = h.subs; frozen = h.frozen; frozen_shares = left_fits _ h.frozen_shares }
+  sites_after p (PutShare key weight) h room = record { vens = h.vens; resources = h.resources; shares = put_fits share_order small.shares key weight h.shares room; reports = h.reports; subs = h.subs; frozen = h.frozen; frozen_shares = h.frozen_shares }
+  sites_after p (DropShare key) h room = record { vens = h.vens; resources = h.resources; shares = removed_fits key h.shares; reports = h.reports; subs = h.subs; frozen = h.frozen; frozen_shares = h.frozen_shares }
+  sites_after p (PutReport n report) h room = record { vens = h.vens; resources = h.resources; shares = h.shares; reports = put_fits nat_cmp_total small.reports n report h.reports room; subs = h.subs; frozen = h.frozen; frozen_shares = h.frozen_shares }
+  sites_after p (DropReport n) h room = record { vens = h.vens; resources = h.resources; shares = h.shares; reports = removed_fits n h.reports; subs = h.subs; frozen = h.frozen; frozen_shares = h.frozen_shares }
+  sites_after p (PutSub n sub) h room = record { vens = h.vens; resources = h.resources; shares = h.shares; reports = h.reports; subs = put_fits nat_cmp_total small.subs n sub h.subs room; frozen = h.frozen; frozen_shares = h.frozen_shares }
+  sites_after p (DropSub n) h room = record { vens = h.vens; resources = h.resources; shares = h.shares; reports = h.reports; subs = removed_fits n h.subs; frozen = h.frozen; frozen_shares = h.frozen_shares }
+  sites_after p (Freeze id pairs) h room = frozen_fits small p id pairs h room
 
 -- ---- the base
 
@@ -221,15 +250,7 @@ delivered_fits limits small now o (Sent entry lease remote) is h = first_then (�
 delivered_fits limits small now o (Failed entry lease forget) is h = first_then (λ d. EntriesFit d.1.entries) (λ next. EntriesFit next.entries) (failed now entry lease forget o) _ (failed_fits now entry lease forget o h) (λ next fits. fits)
 delivered_fits limits small now o c is h = absurd (let no : false ≡ true = is in cc)
 
--- further entries are at most so many more
-more_size : (further entries : List (ℕ × Entry)) → InOrder nat_cmp entries → length (with_entries further entries) ≤ length entries + length further
-more_size [] entries ordered = omega arith
-more_size (e ∷ further) entries ordered =
-    let one = put_size nat_cmp_total e.0 e.1 entries ordered in
-    let rest = more_size further (insert_entry nat_cmp entries e.0 e.1) (in_order_put nat_cmp_total e.0 e.1 entries ordered) in
-    omega (arith, one, rest)
-
--- and none of them was leased more often than what was there
+-- none of further entries was leased more often than what was there
 more_leases : (further entries : List (ℕ × Entry)) → All HasFewLeases (values_of further) → All HasFewLeases (values_of entries) → All HasFewLeases (values_of (with_entries further entries))
 more_leases [] entries new h = h
 more_leases (e ∷ further) entries new h =
@@ -284,7 +305,7 @@ module _ (settings : Settings) (small : AreSmall settings.limits) (s : State) (h
       record {
         rows = record {
           rises = in_order_rows nat_cmp_total kept.entries (numbered base.serial entries) kept_fits.rows.rises;
-          few = let size = more_size (numbered base.serial entries) kept.entries kept_fits.rows.rises in let count = length-enumerate_from (base.serial + 1) entries in omega (arith, size, count, room);
+          few = let size = more_rows nat_cmp_total (numbered base.serial entries) kept.entries kept_fits.rows.rises in let count = length-enumerate_from (base.serial + 1) entries in omega (arith, size, count, room);
         };
         leases = more_leases (numbered base.serial entries) kept.entries (numbered_leases (base.serial + 1) entries (made_untried settings s now base)) kept_fits.leases;
       },
@@ -329,7 +350,7 @@ left_fitting (Err e) answer is fits = tt
 
 -- and the state at first fits
 pub empty_fits : Fits empty
-empty_fits = record { sites = record { vens = none; resources = none; shares = none; reports = none; subs = none }; mirror = none; entries = record { rows = none; leases = All-nil HasFewLeases }; serial = omega arith }
+empty_fits = record { sites = record { vens = none; resources = none; shares = none; reports = none; subs = none; frozen = none_sorted id_cmp; frozen_shares = none }; mirror = none; entries = record { rows = none; leases = All-nil HasFewLeases }; serial = omega arith }
   where
     none : {K V : Type 0} {cmp : K → K → Ordering} {most : ℕ} → IsMap {K = K} {V = V} cmp most []
     none {cmp = cmp} = record { rises = none_sorted cmp; few = omega arith }

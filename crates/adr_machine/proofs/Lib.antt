@@ -3,9 +3,9 @@ pub mod Listed
 pub mod EditLemmas
 pub mod Found
 pub mod Sizes
-mod Rooms
+pub mod Rooms
 pub mod Made
-mod Fitting
+pub mod Fitting
 mod Outcomes
 mod Delivered
 mod Quiet

@@ -1,5 +1,5 @@
 -- That the machine refuses a command only as is listed.
-use Rattle.std.proofs.Common.{◌≡◌, ℕ, ◌+◌, ◌&&◌, Bool, true, false, cond, List, [], ◌∷◌, ◌++◌, Contains, Option, Some, None, Result, Ok, Err, IfErr, IfOk, refl, sym, subst, arith}
+use Rattle.std.proofs.Common.{◌≡◌, ℕ, ◌+◌, ◌&&◌, Bool, true, false, cond, List, [], ◌∷◌, ◌++◌, Contains, Option, Some, None, Result, Ok, Err, IfErr, IfOk, refl, sym, subst, ◌∙◌, arith}
 use Rattle.std.specs.List.{list_all}
 use Rattle.std.specs.Option.{option_map_or}
 use Rattle.std.proofs.lemmas.Bool.{cond_both}
@@ -23,8 +23,10 @@ use Rattle.adr_state.specs.declared.keys.ShareKey.{ShareKey}
 use Rattle.adr_state.specs.Evidence.{joining, scan_with, evidence, gone, open_scan, scan_end}
 use Rattle.adr_state.specs.Mirror.{evidence_of}
 use Rattle.adr_state.specs.Names.{ven_name, resource_name, is_taken, is_taken_by_another, is_full, if_new, if_free}
+use Rattle.adr_state.specs.Participants.{participants}
 use Rattle.adr_state.specs.Portfolios.{PortfolioChange}
-use Rattle.adr_state.specs.BaseChanges.{ChangePortfolio}
+use Rattle.adr_state.specs.BaseChanges.{ChangePortfolio, changed as changed_by}
+use Rattle.adr_state.specs.Frozen.{is_frozen}
 use Rattle.adr_state.specs.Serials.{drawn}
 use Rattle.adr_state.specs.Shares.{weight_set, share_of, share_set}
 use Rattle.adr_state.specs.Resources.{resource_at, resource_under, resource_add, resource_put, resource_remove}
@@ -33,24 +35,27 @@ use Rattle.adr_queries.specs.declared.answer.Answer.{Answer}
 use Rattle.adr_queries.specs.declared.answer.Answer.TheVariants as answer
 use Rattle.adr_queries.specs.declared.answer.Object.{Object}
 use Rattle.adr_machine.specs.declared.command.Command.{Command}
-use Rattle.adr_machine.specs.declared.command.Command.TheVariants.{Evidence, Gone, ScanBegin, ScanEnd, VenAdd, VenPut, VenRemove, ResourceAdd, ResourcePut, ResourceRemove, ShareSet, ReportPost, ReportPut, ReportDelete, SubPost, SubPut, SubDelete, Lease, Sent, Failed}
+use Rattle.adr_machine.specs.declared.command.Command.TheVariants.{Evidence, Gone, ScanBegin, ScanEnd, VenAdd, VenPut, VenRemove, ResourceAdd, ResourcePut, ResourceRemove, ShareSet, Freeze, ReportPost, ReportPut, ReportDelete, SubPost, SubPut, SubDelete, Lease, Sent, Failed}
 use Rattle.adr_machine.specs.declared.outcome.Outcome.{Outcome}
 use Rattle.adr_machine.specs.declared.outcome.Outcome.TheVariants as outcome
 use Rattle.adr_queries.specs.declared.role.Role.{Role}
 use Rattle.adr_queries.specs.Roles.{is_operator, sight_of}
-use Rattle.adr_machine.specs.Edits.{Decision, is_allowed, draws_number, counted, answered, of_portfolio, ven_outcome, resource_outcome, share_outcome, sub_outcome, post_decided, put_decided, delete_decided, sub_post_decided, sub_put_decided, sub_delete_decided, is_delivery, is_quiet, decided, edit_of, edit}
+use Rattle.adr_machine.specs.Edits.{Decision, is_allowed, draws_number, counted, answered, of_portfolio, ven_outcome, resource_outcome, share_outcome, frozen_outcome, sub_outcome, post_decided, put_decided, delete_decided, sub_post_decided, sub_put_decided, sub_delete_decided, is_delivery, is_quiet, decided, edit_of, edit}
 use Rattle.adr_queries.specs.Listed.{is_of_machine, IsListed}
 use Rattle.adr_machine.specs.Commands.{Traits, traits_of}
 use Rattle.adr_machine.specs.Listed.{gate, wants, refusals, listed}
 use Rattle.adr_queries.specs.Shown.{object_at, told}
 use Rattle.adr_view.specs.declared.view.Content.TheVariants as content
+use Rattle.adr_view.specs.Frozen.{can_not_keep, freeze, pairs_of}
+use Rattle.adr_view.specs.Rollups.{event_at}
 use Rattle.adr_view.specs.Reports.{reported, fits, report_on, report_with_id, may_report, may_change, report_post, report_put, report_delete}
 use Rattle.adr_machine.specs.Runs.{AreListed}
 use Rattle.adr_machine.specs.Steps.{answered_by, changed, outbox_then, committed, delivery_step, edit_step, step}
 use Rattle.adr_machine.specs.Deliveries.{delivered}
 use Rattle.adr_machine.proofs.Delivered.{delivered_listed}
-use Rattle.adr_machine.proofs.Quiet.{IsQuiet, scan_is_quiet, put_is_quiet, drop_is_quiet, room_so, quiet_so}
+use Rattle.adr_machine.proofs.Quiet.{IsQuiet, scan_is_quiet, put_is_quiet, drop_is_quiet, room_so, quiet_so, unseen_serial}
 use Rattle.adr_view.specs.Views.{view}
+use Rattle.adr_view.proofs.FrozenLemmas.{freezing_leaves}
 use Rattle.adr_subscription.specs.declared.object.SubObject.{SubObject}
 use Rattle.adr_subscription.specs.declared.subscription.SubIn.{SubIn}
 use Rattle.adr_subscription.specs.Callbacks.{settled}
@@ -183,6 +188,10 @@ decided_own limits now n base (ResourceRemove role ven id) = portfolio_so _ limi
 decided_own limits now n base (ShareSet role program resource share) =
     portfolio_so _ limits base _ (share_set limits program resource share.share base.portfolio)
     (found_then _ NotFound (resource_at resource base.portfolio) _ (0, omega arith, refl) (λ m. share_so _ limits base (record { program = program; resource = m }) share.share (1, omega arith, refl) (2, omega arith, refl)))
+decided_own limits now n base (Freeze role event) =
+    let p = base.portfolio in
+    portfolio_so _ limits base _ (freeze limits event base.mirror p)
+    (found_then _ NotFound (event_at base.mirror event) _ (0, omega arith, refl) (λ body. either _ (is_frozen p event) _ _ (never _ _) (tested _ (can_not_keep limits event (pairs_of (participants p event body)) base.mirror p) LimitReached (Ok _) (1, omega arith, refl) (never _ _))))
 decided_own limits now n base (ReportPost role report) = post_so _ limits base (0, omega arith, refl) (1, omega arith, refl) (2, omega arith, refl) n role report (3, omega arith, refl)
 decided_own limits now n base (ReportPut role id report) = put_so _ limits base (0, omega arith, refl) (1, omega arith, refl) (2, omega arith, refl) n role id report
 decided_own limits now n base (ReportDelete role id) = delete_so _ limits base (0, omega arith, refl) (1, omega arith, refl) role id
@@ -270,6 +279,7 @@ decided_answered limits now n base (ResourceAdd role ven resource) = portfolio_a
 decided_answered limits now n base (ResourcePut role ven id resource) = portfolio_answered (ResourcePut role ven id resource) resource_outcome (λ x before after. never _ _) (resource_put now ven id resource.name base.portfolio)
 decided_answered limits now n base (ResourceRemove role ven id) = portfolio_answered (ResourceRemove role ven id) resource_outcome (λ x before after. never _ _) (resource_remove ven id base.portfolio)
 decided_answered limits now n base (ShareSet role program resource share) = portfolio_answered (ShareSet role program resource share) share_outcome (λ x before after. never _ _) (share_set limits program resource share.share base.portfolio)
+decided_answered limits now n base (Freeze role event) = portfolio_answered (Freeze role event) (frozen_outcome event) (λ x before after. never _ _) (freeze limits event base.mirror base.portfolio)
 decided_answered limits now n base (ReportPost role report) = any _ _ (λ d. answered_so _ (1, omega arith, refl) d.outcome)
 decided_answered limits now n base (ReportPut role id report) = any _ _ (λ d. answered_so _ (1, omega arith, refl) d.outcome)
 decided_answered limits now n base (ReportDelete role id) = any _ _ (λ d. answered_so _ (1, omega arith, refl) d.outcome)
@@ -293,8 +303,8 @@ edit_listed limits now base c = (edit_so limits now base c).so
 
 -- ---- what is told
 
-abbrev Stays : Decision → Type 0
-Stays d = IsQuiet d.change
+abbrev Stays : Base → Decision → Type 0
+Stays base d = (serial : ℕ) → view (record (changed_by d.change base) { serial = serial }) ≡ view base
 
 -- what it makes of the base is shown as before
 abbrev ShowsAs : Base → Result (Outcome × Base) Refusal → Type 0
@@ -304,27 +314,30 @@ ShowsAs base r = IfOk r (λ e. view e.1 ≡ view base)
 pub edit_of_quiet : (limits : Limits) (now : ℕ) (base : Base) (c : Command) → is_quiet c ≡ true → ShowsAs base (edit_of limits now base c)
 edit_of_quiet limits now base c is = by c is
   where
-    drawn_so : (c : Command) → IfOk (decided limits now (base.serial + 1) base c) Stays → ShowsAs base (edit_of limits now base c)
-    drawn_so c quiet = made_with (λ e. view e.1 ≡ view base) Stays (decided limits now (base.serial + 1) base c) _ quiet (λ d is. made (λ e. view e.1 ≡ view base) (drawn limits base.serial (draws_number c)) _ (λ serial. is base serial))
+    drawn_so : (c : Command) → IfOk (decided limits now (base.serial + 1) base c) (Stays base) → ShowsAs base (edit_of limits now base c)
+    drawn_so c quiet = made_with (λ e. view e.1 ≡ view base) (Stays base) (decided limits now (base.serial + 1) base c) _ quiet (λ d is. made (λ e. view e.1 ≡ view base) (drawn limits base.serial (draws_number c)) _ is)
 
-    unseen : {B : Type 0} (r : Result B Refusal) (f : B → Result Decision Refusal) → ((x : B) → IfOk (f x) Stays) → IfOk (r >>= f) Stays
-    unseen r f h = made_with Stays (λ x. Unit {0}) r f (any (λ x. Unit {0}) r (λ x. tt)) (λ x u. h x)
+    unseen : {B : Type 0} (r : Result B Refusal) (f : B → Result Decision Refusal) → ((x : B) → IfOk (f x) (Stays base)) → IfOk (r >>= f) (Stays base)
+    unseen r f h = made_with (Stays base) (λ x. Unit {0}) r f (any (λ x. Unit {0}) r (λ x. tt)) (λ x u. h x)
 
     by : (c : Command) → is_quiet c ≡ true → ShowsAs base (edit_of limits now base c)
-    by ScanBegin is = drawn_so ScanBegin (scan_is_quiet _)
-    by ScanEnd is = drawn_so ScanEnd (made_with Stays (λ d. IsQuiet d.1) (scan_end base) _ (made (λ d. IsQuiet d.1) (open_scan base.scan) _ (λ polled. scan_is_quiet None)) (λ d is. is))
+    by ScanBegin is = drawn_so ScanBegin (scan_is_quiet _ base)
+    by ScanEnd is = drawn_so ScanEnd (made_with (Stays base) (λ d. IsQuiet d.1) (scan_end base) _ (made (λ d. IsQuiet d.1) (open_scan base.scan) _ (λ polled. scan_is_quiet None)) (λ d is. is base))
+    by (Freeze role event) is =
+        drawn_so (Freeze role event) (made_with (Stays base) (λ d. view base ≡ view (changed_by (ChangePortfolio d.1) base)) (freeze limits event base.mirror base.portfolio) _ (freezing_leaves.what_is_shown limits event base) (λ d shown serial.
+        unseen_serial (changed_by (ChangePortfolio d.1) base) serial ∙ sym shown))
     by (SubPost role sub) is =
         drawn_so (SubPost role sub) (unseen (settled sub) _ (λ body. unseen (sight_of base role) _ (λ sight.
-        cond_both (is_full limits.subs base.portfolio.subs) (Err LimitReached) (Ok _) (λ r. IfOk (of_portfolio sub_outcome r) Stays) (λ full. tt) (λ room. put_is_quiet _ _))))
+        cond_both (is_full limits.subs base.portfolio.subs) (Err LimitReached) (Ok _) (λ r. IfOk (of_portfolio sub_outcome r) (Stays base)) (λ full. tt) (λ room. put_is_quiet _ _ base))))
     by (SubPut role id sub) is =
         drawn_so (SubPut role id sub) (unseen (settled sub) _ (λ body. unseen (sight_of base role) _ (λ sight.
-        made_with Stays (λ d. IsQuiet (ChangePortfolio d.1)) (sub_put sight now id body base.portfolio) _ (made (λ d. IsQuiet (ChangePortfolio d.1)) (sub_in_sight sight id base.portfolio) _ (λ old. put_is_quiet _ _)) (λ d is. is))))
+        made_with (Stays base) (λ d. IsQuiet (ChangePortfolio d.1)) (sub_put sight now id body base.portfolio) _ (made (λ d. IsQuiet (ChangePortfolio d.1)) (sub_in_sight sight id base.portfolio) _ (λ old. put_is_quiet _ _)) (λ d is. is base))))
     by (SubDelete role id) is =
         drawn_so (SubDelete role id) (unseen (sight_of base role) _ (λ sight.
-        made_with Stays (λ d. IsQuiet (ChangePortfolio d.1)) (sub_delete sight id base.portfolio) _ (made (λ d. IsQuiet (ChangePortfolio d.1)) (sub_in_sight sight id base.portfolio) _ (λ old. drop_is_quiet _)) (λ d is. is)))
-    by Lease is = drawn_so Lease (scan_is_quiet _)
-    by (Sent entry lease remote) is = drawn_so (Sent entry lease remote) (scan_is_quiet _)
-    by (Failed entry lease forget) is = drawn_so (Failed entry lease forget) (scan_is_quiet _)
+        made_with (Stays base) (λ d. IsQuiet (ChangePortfolio d.1)) (sub_delete sight id base.portfolio) _ (made (λ d. IsQuiet (ChangePortfolio d.1)) (sub_in_sight sight id base.portfolio) _ (λ old. drop_is_quiet _)) (λ d is. is base)))
+    by Lease is = drawn_so Lease (scan_is_quiet _ base)
+    by (Sent entry lease remote) is = drawn_so (Sent entry lease remote) (scan_is_quiet _ base)
+    by (Failed entry lease forget) is = drawn_so (Failed entry lease forget) (scan_is_quiet _ base)
     by c is = absurd (let no : false ≡ true = is in cc)
 
 -- so does its edit, where who gives it may not too

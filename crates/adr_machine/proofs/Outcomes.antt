@@ -14,7 +14,7 @@ module _ {A : Type 0} (comes : A → Outcome) (base : Base) (after : Portfolio) 
   abbrev left : Base
   left = record base { portfolio = after }
 
-  of_decision : (x : A) (decision : Result (A × PortfolioChange) Refusal) → carried_out base.portfolio decision ≡ Ok (x, after) → carried_out_on base (of_portfolio comes decision) ≡ Ok (comes x, left)
+  pub of_decision : (x : A) (decision : Result (A × PortfolioChange) Refusal) → carried_out base.portfolio decision ≡ Ok (x, after) → carried_out_on base (of_portfolio comes decision) ≡ Ok (comes x, left)
   of_decision x (Ok d) h =
       let same : (d.0, portfolio_after d.1 base.portfolio) ≡ (x, after) = cc in
       let made : A × Portfolio → Result (Outcome × Base) Refusal = λ e. Ok (comes e.0, record base { portfolio = e.1 }) in

@@ -33,6 +33,11 @@ pub drop_is_quiet : (n : ℕ) → IsQuiet (ChangePortfolio (DropSub n))
 unfolding view
 drop_is_quiet n base serial = refl
 
+-- a number that is drawn leaves it too
+pub unseen_serial : (base : Base) (serial : ℕ) → view (record base { serial = serial }) ≡ view base
+unfolding view
+unseen_serial base serial = refl
+
 module _ (P : Refusal → Type 0) (settings : Settings) (s : State) (now : ℕ) (after : Base) where
   -- where something is made, it may want numbers or room
   pub room_so : P Exhausted → P OutboxFull → Refuses P (outbox_then settings s now after)

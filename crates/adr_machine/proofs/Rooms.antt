@@ -1,11 +1,13 @@
 -- What a decision puts has a row of its key, or there is room for one more.
-use Rattle.std.proofs.Common.{◌≡◌, ℕ, ◌<◌, true, false, ◌==◌, ◌&&◌, ◌⊎◌, inl, inr, List, [], ◌∷◌, length, Option, Some, None, Result, Ok, Err, IfOk, Ordering, refl, ap}
+use Rattle.std.proofs.Common.{◌≡◌, ℕ, ◌+◌, ◌<◌, ◌≤◌, Bool, true, false, cond, ◌||◌, ◌==◌, ◌&&◌, ◌⊎◌, inl, inr, List, [], ◌∷◌, length, Option, Some, None, Result, Ok, Err, IfOk, Ordering, refl, ap}
 use Rattle.std.specs.Prelude.{nat_lt, is_none, is_some, IsSome, IfSome}
 use Rattle.std.specs.Ordering.{nat_cmp}
-use Rattle.std.proofs.lemmas.Bool.{and_cases, cond_both, leb-false}
-use Rattle.adr_text.specs.Refusals.{◌>>=◌}
+use Rattle.std.proofs.lemmas.Bool.{and_cases, cond_both, leb-false, ltb-false}
+use Rattle.std.specs.List.{list_any}
+use Rattle.adr_text.specs.Refusals.{◌>>=◌, or_else}
 use Rattle.adr_text.specs.declared.refusal.Refusal.{Refusal}
 use Rattle.adr_text.specs.declared.refusal.Refusal.TheVariants as refusal
+use Rattle.adr_objects.specs.declared.body.EventBody.{EventBody}
 use Rattle.adr_objects.specs.declared.site.ReportIn.{ReportIn}
 use Rattle.adr_state.specs.declared.base.Base.{Base}
 use Rattle.adr_state.specs.declared.base.Mark.{Mark}
@@ -16,10 +18,12 @@ use Rattle.adr_state.specs.declared.limits.Limits.{Limits}
 use Rattle.adr_state.specs.declared.portfolio.Portfolio.{Portfolio}
 use Rattle.adr_state.specs.BaseChanges.{BaseChange, ChangePortfolio, JoinMarks, SetScan}
 use Rattle.adr_state.specs.Evidence.{adds_beyond, joining, open_scan, scan_end, scan_with}
+use Rattle.adr_state.specs.Frozen.{is_frozen, pairs_kept}
 use Rattle.adr_state.specs.Keys.{at, share_cmp}
 use Rattle.adr_state.specs.Mirror.{evidence_of, joined}
 use Rattle.adr_state.specs.Names.{is_full, is_taken, is_taken_by_another, resource_name, ven_name}
-use Rattle.adr_state.specs.Portfolios.{PortfolioChange, PutVen, PutResource, PutShare, DropShare, PutReport, PutSub}
+use Rattle.adr_state.specs.Participants.{participants}
+use Rattle.adr_state.specs.Portfolios.{PortfolioChange, PutVen, PutResource, PutShare, DropShare, PutReport, PutSub, Freeze as FreezeEvent}
 use Rattle.adr_state.specs.Resources.{is_under, putting_resource, resource_at, resource_under, resource_with_id}
 use Rattle.adr_state.specs.Shares.{is_beyond, share_of, weight_set}
 use Rattle.adr_state.specs.Stamping.{fresh, modified_at}
@@ -27,12 +31,14 @@ use Rattle.adr_state.specs.Subs.{sub_post}
 use Rattle.adr_state.specs.Vens.{putting_ven, ven_at, ven_with_id}
 use Rattle.adr_state.specs.Weights.{most_weight}
 use Rattle.adr_subscription.specs.Callbacks.{settled}
+use Rattle.adr_view.specs.Frozen.{are_beyond, can_not_keep, freeze, frozen_as, frozen_with, mark_differs, pairs_of}
+use Rattle.adr_view.specs.Rollups.{event_at}
 use Rattle.adr_view.specs.Reports.{kept_report, may_change, may_report, putting_report, report_made, report_on, report_removed, report_replaced, report_with_id}
 use Rattle.adr_view.specs.Sights.{owner_in}
 use Rattle.adr_view.specs.Subs.{sub_delete, sub_in_sight, sub_put}
 use Rattle.adr_queries.specs.Roles.{sight_of}
 use Rattle.adr_machine.specs.declared.command.Command.{Command}
-use Rattle.adr_machine.specs.declared.command.Command.TheVariants.{Evidence, Gone, ScanBegin, ScanEnd, VenAdd, VenPut, VenRemove, ResourceAdd, ResourcePut, ResourceRemove, ShareSet, ReportPost, ReportPut, ReportDelete, SubPost, SubPut, SubDelete, Lease, Sent, Failed}
+use Rattle.adr_machine.specs.declared.command.Command.TheVariants.{Evidence, Gone, ScanBegin, ScanEnd, VenAdd, VenPut, VenRemove, ResourceAdd, ResourcePut, ResourceRemove, ShareSet, Freeze, ReportPost, ReportPut, ReportDelete, SubPost, SubPut, SubDelete, Lease, Sent, Failed}
 use Rattle.adr_machine.specs.declared.outcome.Outcome.{Outcome}
 use Rattle.adr_machine.specs.Edits.{Decision, counted, decided, of_portfolio, sub_outcome}
 use Rattle.adr_machine.proofs.EditLemmas.{allowed_then, first_then, found_then, free_then, new_then, tested, whatever}
@@ -42,6 +48,10 @@ use Rattle.adr_machine.proofs.Found.{IsFound, IsReportOf, IsSubOf, in_sight_ther
 abbrev pub HasRoom : {K V : Type 0} → (K → K → Ordering) → ℕ → List (K × V) → K → Type 0
 HasRoom cmp limit rows k = IsSome (at cmp k rows) ⊎ (length rows < limit)
 
+-- an event is frozen already, or there is room for so many pairs more
+abbrev pub HasPairRoom : Limits → Portfolio → List ℕ → List (ℕ × ℕ) → Type 0
+HasPairRoom limits p id pairs = (is_frozen p id ≡ true) ⊎ (length p.frozen_shares + length pairs ≤ limits.frozen)
+
 -- for what a change of the portfolio puts
 abbrev pub SitesHaveRoom : Limits → Portfolio → PortfolioChange → Type 0
 SitesHaveRoom limits p (PutVen n ven) = HasRoom nat_cmp limits.vens p.vens n
@@ -49,6 +59,7 @@ SitesHaveRoom limits p (PutResource n resource) = HasRoom nat_cmp limits.resourc
 SitesHaveRoom limits p (PutShare key weight) = HasRoom share_cmp limits.shares p.shares key
 SitesHaveRoom limits p (PutReport n report) = HasRoom nat_cmp limits.reports p.reports n
 SitesHaveRoom limits p (PutSub n sub) = HasRoom nat_cmp limits.subs p.subs n
+SitesHaveRoom limits p (FreezeEvent id pairs) = HasPairRoom limits p id pairs
 SitesHaveRoom limits p _ = Unit {0}
 
 -- and for what any change does
@@ -60,6 +71,24 @@ BaseHasRoom limits base (ChangePortfolio change) = SitesHaveRoom limits base.por
 some_there : {A : Type 0} (o : Option A) → is_none o ≡ false → IsSome o
 some_there None h = absurd (let no : true ≡ false = h in cc)
 some_there (Some x) h = refl
+
+-- whatever is decided of an event that is frozen, it is frozen already, or there is room for its pairs
+pub frozen_with_room : (limits : Limits) (id : List ℕ) (mirror : List (MirrorKey × Mark)) (p : Portfolio) (P : List (ℕ × ℕ) × PortfolioChange → Type 0) → ((told pairs : List (ℕ × ℕ)) → HasPairRoom limits p id pairs → P (told, FreezeEvent id pairs)) → IfOk (freeze limits id mirror p) P
+frozen_with_room limits id mirror p P each = by (event_at mirror id)
+  where
+    room : (a b : Bool) → (a || b) ≡ false → a ≡ false
+    room true b h = h
+    room false b h = refl
+
+    by_frozen : (event : EventBody) (b : Bool) → is_frozen p id ≡ b → IfOk (cond b (Ok (pairs_kept p id, FreezeEvent id [])) (frozen_with limits id (pairs_of (participants p id event)) mirror p)) P
+    by_frozen event true frozen = each (pairs_kept p id) [] (inl frozen)
+    by_frozen event false fresh =
+        let own : List (ℕ × ℕ) = pairs_of (participants p id event) in
+        tested P (can_not_keep limits id own mirror p) refusal.LimitReached (Ok (own, FreezeEvent id own)) (λ can. each own own (inr (ltb-false limits.frozen (length p.frozen_shares + length own) (room (are_beyond limits p own) (list_any (mark_differs id own p) mirror) can))))
+
+    by : (o : Option EventBody) → IfOk (or_else refusal.NotFound o >>= λ event. frozen_as limits id event mirror p) P
+    by None = tt
+    by (Some event) = by_frozen event (is_frozen p id) refl
 
 module _ (limits : Limits) (now next : ℕ) (base : Base) where
   abbrev p : Portfolio
@@ -98,6 +127,9 @@ module _ (limits : Limits) (now next : ℕ) (base : Base) where
         | inr room ↦ inr (leb-false limits.shares (length p.shares) room)
       ]))) (λ change h. h))
 
+  freeze_room : (id : List ℕ) → IfOk (freeze limits id base.mirror p) Puts
+  freeze_room id = frozen_with_room limits id base.mirror p Puts (λ told pairs room. room)
+
   made_room : (sent : ReportIn) → IfOk (report_made limits next sent base.mirror p) Puts
   made_room sent =
       first_then Puts (λ on. Unit {0}) (report_on sent base.mirror p) _ (whatever (report_on sent base.mirror p))
@@ -135,6 +167,7 @@ module _ (limits : Limits) (now next : ℕ) (base : Base) where
   decided_room (ShareSet role program resource share) =
       sites_room _ _ (found_then Puts (IsFound p.resources) refusal.NotFound (resource_at resource p) _ (number_there p.resources (resource_with_id resource p) (resource_there resource p)) (λ n there.
       share_room (record { program = program; resource = n }) share.share))
+  decided_room (Freeze role event) = sites_room _ _ (freeze_room event)
   decided_room (ReportPost role sent) =
       first_then Room (λ sight. Unit {0}) (sight_of base role) _ (whatever (sight_of base role)) (λ sight h.
       sites_room _ _ (allowed_then Puts (may_report sight sent p) refusal.Forbidden (report_made limits next sent base.mirror p) (made_room sent)))

@@ -4,7 +4,7 @@ use Rattle.adr_text.specs.declared.refusal.Refusal.{Refusal}
 use Rattle.adr_text.specs.declared.refusal.Refusal.TheVariants.{Exhausted, NotFound, Conflict, Forbidden, BadShare, LimitReached, ResourceNotOfEvent, NoScan, LeaseLost, BadShape}
 use Rattle.adr_queries.specs.declared.role.Role.{Role}
 use Rattle.adr_machine.specs.declared.command.Command.{Command}
-use Rattle.adr_machine.specs.declared.command.Command.TheVariants.{Evidence, Gone, ScanBegin, ScanEnd, VenAdd, VenPut, VenRemove, ResourceAdd, ResourcePut, ResourceRemove, ShareSet, ReportPost, ReportPut, ReportDelete, SubPost, SubPut, SubDelete, Lease, Sent, Failed}
+use Rattle.adr_machine.specs.declared.command.Command.TheVariants.{Evidence, Gone, ScanBegin, ScanEnd, VenAdd, VenPut, VenRemove, ResourceAdd, ResourcePut, ResourceRemove, ShareSet, Freeze, ReportPost, ReportPut, ReportDelete, SubPost, SubPut, SubDelete, Lease, Sent, Failed}
 
 -- who gives it, where the operator alone may; whether the next number is drawn for it; whether it is about an entry of the
 -- outbox, and leaves all else; whether it leaves all that is shown, whatever is decided; whether a subscription may go by it;
@@ -54,6 +54,7 @@ traits_of (ResourceAdd role ven resource) = given_by role (numbered (shown (NotF
 traits_of (ResourcePut role ven id resource) = given_by role (shown (NotFound ∷ Conflict ∷ []))
 traits_of (ResourceRemove role ven id) = given_by role (shown (NotFound ∷ []))
 traits_of (ShareSet role program resource share) = given_by role (shown (NotFound ∷ BadShare ∷ LimitReached ∷ []))
+traits_of (Freeze role event) = given_by role (unseen (NotFound ∷ LimitReached ∷ []))
 traits_of (ReportPost role report) = numbered (shown (Forbidden ∷ NotFound ∷ ResourceNotOfEvent ∷ LimitReached ∷ []))
 traits_of (ReportPut role id report) = numbered (shown (Forbidden ∷ NotFound ∷ ResourceNotOfEvent ∷ []))
 traits_of (ReportDelete role id) = shown (Forbidden ∷ NotFound ∷ [])

@@ -22,18 +22,20 @@ use Rattle.adr_subscription.specs.declared.object.SubObject.{SubObject}
 use Rattle.adr_subscription.specs.declared.subscription.SubIn.{SubIn}
 use Rattle.adr_subscription.specs.Callbacks.{settled}
 use Rattle.adr_state.specs.Subs.{sub_post}
+use Rattle.adr_view.specs.Frozen.{freeze}
 use Rattle.adr_view.specs.Sights.{owner_in}
 use Rattle.adr_view.specs.Subs.{sub_put, sub_delete}
 use Rattle.adr_view.specs.Reports.{report_post, report_put, report_delete}
 use Rattle.adr_queries.specs.declared.role.Role.{Role}
 use Rattle.adr_machine.specs.declared.command.Command.{Command}
-use Rattle.adr_machine.specs.declared.command.Command.TheVariants.{Evidence, Gone, ScanBegin, ScanEnd, VenAdd, VenPut, VenRemove, ResourceAdd, ResourcePut, ResourceRemove, ShareSet, ReportPost, ReportPut, ReportDelete, SubPost, SubPut, SubDelete}
+use Rattle.adr_machine.specs.declared.command.Command.TheVariants.{Evidence, Gone, ScanBegin, ScanEnd, VenAdd, VenPut, VenRemove, ResourceAdd, ResourcePut, ResourceRemove, ShareSet, Freeze, ReportPost, ReportPut, ReportDelete, SubPost, SubPut, SubDelete}
 use Rattle.adr_machine.specs.Commands.{traits_of}
 use Rattle.adr_queries.specs.declared.answer.Object.TheVariants as object
 use Rattle.adr_queries.specs.declared.answer.Answer.{Answer}
 use Rattle.adr_queries.specs.declared.answer.Answer.TheVariants as answer
 use Rattle.adr_machine.specs.declared.outcome.Outcome.{Outcome}
 use Rattle.adr_machine.specs.declared.outcome.Outcome.TheVariants as outcome
+use Rattle.adr_queries.specs.Frozen.{frozen_object}
 use Rattle.adr_queries.specs.Roles.{is_operator, sight_of}
 
 -- ---- who may give it
@@ -94,6 +96,10 @@ resource_outcome resource = outcome.Told (answer.Object (object.Resource resourc
 abbrev pub share_outcome : ShareObject → Outcome
 share_outcome share = outcome.Told (answer.Share share)
 
+-- what comes of an event that is frozen: the pairs that are kept for it are answered
+abbrev pub frozen_outcome : List ℕ → List (ℕ × ℕ) → Outcome
+frozen_outcome event pairs = outcome.Told (answer.Frozen (frozen_object event pairs))
+
 -- what comes of a report that is kept: its number and what it says
 abbrev pub report_kept : ℕ × Report → Outcome
 report_kept r = outcome.ReportKept r.0 r.1.body
@@ -145,6 +151,7 @@ decided limits now n base (ResourceAdd role ven resource) = of_portfolio resourc
 decided limits now n base (ResourcePut role ven id resource) = of_portfolio resource_outcome (resource_put now ven id resource.name base.portfolio)
 decided limits now n base (ResourceRemove role ven id) = of_portfolio resource_outcome (resource_remove ven id base.portfolio)
 decided limits now n base (ShareSet role program resource share) = of_portfolio share_outcome (share_set limits program resource share.share base.portfolio)
+decided limits now n base (Freeze role event) = of_portfolio (frozen_outcome event) (freeze limits event base.mirror base.portfolio)
 decided limits now n base (ReportPost role report) = post_decided limits n role report base
 decided limits now n base (ReportPut role id report) = put_decided n role id report base
 decided limits now n base (ReportDelete role id) = delete_decided role id base

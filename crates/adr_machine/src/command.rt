@@ -9,7 +9,7 @@ use adr_text::{ObjectId, Rows};
 use std::alloc::AllocError;
 
 /// A command. Each is one step, at a moment, and is refused as is said of it. One of which something may be told, that is
-/// all but those on scans, subscriptions and entries of the outbox, is also refused where the numbers are used up for the
+/// all but those on scans, frozen events, subscriptions and entries of the outbox, is also refused where the numbers are used up for the
 /// entries that it makes, or the outbox has no room for them.
 pub enum Command {
     /// Versions of upstream objects were found, in a page that was polled or in a notification.
@@ -75,6 +75,14 @@ pub enum Command {
         program: ObjectId,
         resource: ObjectId,
         share: ShareIn,
+    },
+    /// Freezes the upstream event of that id: those who take part in it now do so from then on with the weights that they
+    /// have, whatever shares, names or targets say later. One that is frozen already stays as it is. Answers what is kept
+    /// for it. Refused for another role than the operator, where the event is not live with an event's body, and at the
+    /// limit of frozen shares.
+    Freeze {
+        role: Role,
+        event: ObjectId,
     },
     /// Posts a report. Refused for the utility, for a ven that isn't enrolled, and where the report's
     /// event is of another ven's resource; where the event isn't shown, where the report names another
@@ -171,6 +179,7 @@ impl Drop for Command {
                 resource: _,
                 share: _,
             } => (),
+            Command::Freeze { role: _, event: _ } => (),
             Command::ReportPost { role: _, report: _ } => (),
             Command::ReportPut {
                 role: _,
@@ -299,6 +308,7 @@ impl Command {
                 resource,
                 share,
             } => copies::share_set(role, program, resource, *share),
+            Command::Freeze { role, event } => copies::freeze(role, event),
             Command::ReportPost { role, report } => copies::report_post(role, report),
             Command::ReportPut { role, id, report } => copies::report_put(role, id, report),
             Command::ReportDelete { role, id } => copies::report_delete(role, id),
@@ -339,6 +349,7 @@ impl Command {
             Command::ResourcePut { role, .. } => SHOWN.given_by(role),
             Command::ResourceRemove { role, .. } => SHOWN.given_by(role),
             Command::ShareSet { role, .. } => SHOWN.given_by(role),
+            Command::Freeze { role, .. } => UNSEEN.given_by(role),
             Command::ReportPost { .. } => SHOWN.numbered(),
             Command::ReportPut { .. } => SHOWN.numbered(),
             Command::ReportDelete { .. } => SHOWN,

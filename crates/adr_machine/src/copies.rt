@@ -1,6 +1,6 @@
 //! Commands again.
 ghost use Rattle.std.specs.Prelude.{◌≡◌, IfOk};
-ghost use Rattle.adr_machine.specs.declared.command.Command.TheVariants.{Evidence, Gone, VenAdd, VenPut, VenRemove, ResourceAdd, ResourcePut, ResourceRemove, ShareSet, ReportPost, ReportPut, ReportDelete, SubPost, SubPut, SubDelete, Sent};
+ghost use Rattle.adr_machine.specs.declared.command.Command.TheVariants.{Evidence, Gone, VenAdd, VenPut, VenRemove, ResourceAdd, ResourcePut, ResourceRemove, ShareSet, Freeze, ReportPost, ReportPut, ReportDelete, SubPost, SubPut, SubDelete, Sent};
 
 use crate::command::Command;
 use adr_objects::{Found, Kind, Number, ReportIn, ResourceIn, ShareIn, VenIn};
@@ -151,6 +151,14 @@ pub(crate) fn share_set(
         resource,
         share,
     })
+}
+
+pub(crate) fn freeze(role: &Role, event: &ObjectId) -> Result<Command, AllocError>
+    ensures { IfOk result (λ c. c ≡ Freeze role.now event.now) }
+{
+    let role = same_role(role)?;
+    let event = event.clone()?;
+    Ok(Command::Freeze { role, event })
 }
 
 pub(crate) fn report_post(role: &Role, report: &ReportIn) -> Result<Command, AllocError>

@@ -4,18 +4,20 @@ ghost use Rattle.adr_text.specs.declared.refusal.Refusal.TheVariants.{Store};
 ghost use Rattle.adr_text.specs.Refusals.{IsRefusalOf};
 ghost use Rattle.adr_queries.specs.declared.answer.Answer.TheVariants as answer;
 ghost use Rattle.adr_state.specs.Evidence.{scan_begin};
-ghost use Rattle.adr_machine.specs.Edits.{answered, post_decided, put_decided, delete_decided, decided, carried_out_on};
+ghost use Rattle.adr_view.specs.Frozen.{freeze};
+ghost use Rattle.adr_machine.specs.Edits.{answered, of_portfolio, frozen_outcome, post_decided, put_decided, delete_decided, decided, carried_out_on};
 
 use crate::command::Command;
 use crate::outcome::Outcome;
 use crate::subscribe::{resubscribed, subscribed, unsubscribed};
 use crate::told::{counted, of_report, of_report_gone, of_resource, of_scan, of_share, of_ven};
 use adr_edits::{
-    begin_scan, end_scan, report_delete, report_post, report_put, resource_add, resource_put,
-    resource_remove, share_set, take_deletion, take_evidence, ven_add, ven_put, ven_remove,
+    begin_scan, end_scan, freeze, report_delete, report_post, report_put, resource_add,
+    resource_put, resource_remove, share_set, take_deletion, take_evidence, ven_add, ven_put,
+    ven_remove,
 };
 use adr_objects::{Number, ReportIn};
-use adr_queries::{Answer, Role, sight_of};
+use adr_queries::{Answer, Role, frozen_object, sight_of};
 use adr_state::{Base, Limits};
 use adr_text::{Moment, ObjectId, Refusal};
 use std::alloc::Global;
@@ -25,6 +27,22 @@ fn begun(alloc: Global, base: &mut Base) -> Outcome
 {
     begin_scan(alloc, base);
     Outcome::Told(Answer::Done)
+}
+
+/// The event of an id is frozen.
+fn frozen(
+    alloc: Global,
+    limits: &Limits,
+    base: &mut Base,
+    event: &ObjectId,
+) -> Result<Outcome, Refusal>
+    ensures ok { IfOk result (λ comes. carried_out_on base.old (of_portfolio (frozen_outcome event.now) (freeze limits.now event.now base.old.mirror base.old.portfolio)) ≡ Ok (comes, base.new)) }
+    ensures refused { IfErr result (λ refusal. IsRefusalOf refusal (of_portfolio (frozen_outcome event.now) (freeze limits.now event.now base.old.mirror base.old.portfolio))) }
+    ensures no_store { result ≢ Err Store }
+{
+    let pairs = freeze(alloc, limits, &base.mirror, &mut base.portfolio, event)?;
+    let object = frozen_object(alloc, event, pairs.as_slice())?;
+    Ok(Outcome::Told(Answer::Frozen(object)))
 }
 
 /// A new report of who has the role.
@@ -138,6 +156,7 @@ pub(crate) fn carry_out(
             share,
             ..
         } => of_share(share_set(limits, &mut base.portfolio, program, resource, share.share)),
+        Command::Freeze { event, .. } => frozen(alloc, limits, base, event),
         Command::ReportPost { role, report } => posted(alloc, limits, number, base, role, report),
         Command::ReportPut { role, id, report } => put_again(alloc, number, base, role, id, report),
         Command::ReportDelete { role, id } => removed(base, role, id),

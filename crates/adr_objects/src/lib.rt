@@ -31,8 +31,8 @@ pub use report::{
 };
 pub use setpoint::{Priority, Setpoint};
 pub use shown::{
-    EventObject, ProgramObject, ResourceObject, ShareObject, ShownEvent, ShownInterval, Stamps,
-    VenObject,
+    EventObject, FrozenObject, ProgramObject, ResourceObject, ShareObject, ShownEvent,
+    ShownInterval, Stamps, VenObject,
 };
 pub use site::{ReportIn, ResourceIn, ResourceName, ShareIn, VenIn};
 pub use text::{EventName, PeriodText, Text};

@@ -114,6 +114,13 @@ pub struct ShareObject {
     pub share: u32,
 }
 
+/// The weights that are kept for an upstream event, each behind the number of its resource, in the order of these.
+#[derive(Clone, Drop)]
+pub struct FrozenObject {
+    pub event: ObjectId,
+    pub shares: Rows<(Number, u32)>,
+}
+
 fn same_intervals(intervals: &Rows<ShownInterval>) -> Result<Rows<ShownInterval>, AllocError>
     ensures { IfOk result (λ copy. copy ≡ intervals.now) }
 {

@@ -8,7 +8,7 @@ ghost use Rattle.adr_portfolio.specs.Parts.{parts_of};
 use adr_db_portfolio::named_participants;
 use adr_objects::{EventBody, Number};
 use adr_state::{Participant, Weight};
-use adr_text::{Refusal, Rows};
+use adr_text::{ObjectId, Refusal, Rows};
 use sqlite::{Alter, Transaction};
 use std::alloc::{AllocError, Global};
 
@@ -23,17 +23,18 @@ fn parts_of(alloc: Global, ps: &[Participant]) -> Result<Rows<(Number, Weight)>,
     Ok(Rows::from_vec(parts))
 }
 
-/// Who takes part in an event, in the order of their numbers, each by its number with its weight. It costs
+/// Who takes part in the event of an id, in the order of their numbers, each by its number with its weight. It costs
 /// what `named_participants` does.
 pub fn participants<S: Alter>(
     alloc: Global,
     tx: &mut Transaction<'_, S>,
+    id: &ObjectId,
     event: &EventBody,
 ) -> Result<Rows<(Number, Weight)>, Refusal>
     ensures lent { LeavesLent S.Store tx.old.conn tx.new.conn result }
-    ensures finds { Finds S.Store tx.old.conn.now tx.new.conn.now (λ kept parts. parts ≡ parts_of (participants kept.portfolio event.now)) result }
+    ensures finds { Finds S.Store tx.old.conn.now tx.new.conn.now (λ kept parts. parts ≡ parts_of (participants kept.portfolio id.now event.now)) result }
     ensures refused { IfErr result IsOfStore }
 {
-    let those = named_participants(alloc, tx, event)?;
+    let those = named_participants(alloc, tx, id, event)?;
     Ok(parts_of(alloc, those.as_slice())?)
 }

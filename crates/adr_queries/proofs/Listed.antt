@@ -13,6 +13,7 @@ use Rattle.adr_objects.specs.declared.report.Rollup.{Rollup}
 use Rattle.adr_state.specs.declared.portfolio.Report.{Report}
 use Rattle.adr_state.specs.declared.portfolio.Resource.{Resource}
 use Rattle.adr_state.specs.declared.portfolio.Ven.{Ven}
+use Rattle.adr_state.specs.Frozen.{is_frozen, pairs_kept}
 use Rattle.adr_state.specs.Resources.{is_under}
 use Rattle.adr_queries.specs.declared.answer.Object.{Object}
 use Rattle.adr_queries.specs.declared.query.Query.{Query}
@@ -77,6 +78,9 @@ rollup_so : {P : Refusal → Type 0} → P NotFound → (event : List ℕ) (o : 
 rollup_so missing event None = record { so = missing }
 rollup_so missing event (Some rollup) = never _ _
 
+frozen_so : {P : Refusal → Type 0} → P NotFound → (frozen : Bool) (pairs : List (ℕ × ℕ)) → Refuses P (cond frozen (Ok pairs) (Err NotFound))
+frozen_so missing frozen pairs = either _ frozen _ _ (never _ pairs) (record { so = missing })
+
 scan_told : (limit : ℕ) (base : Base) (scan : Option (List MirrorKey)) → Refuses (Contains (NoScan ∷ [])) (probes_reply limit base scan)
 scan_told limit base None = record { so = (0, omega arith, refl) }
 scan_told limit base (Some polled) = never _ _
@@ -92,6 +96,7 @@ reply_so s (query.Ven role id) = first_then _ _ _ (sight_so _ s.base (0, omega a
 reply_so s (query.Resources role ven page) = first_then _ _ _ (sight_so _ s.base (0, omega arith, refl) role) (λ sight. resources_so _ s.base (0, omega arith, refl) (1, omega arith, refl) sight page _)
 reply_so s (query.Resource role ven id) = first_then _ _ _ (sight_so _ s.base (0, omega arith, refl) role) (λ sight. resource_so _ s.base (0, omega arith, refl) (1, omega arith, refl) sight ven _)
 reply_so s (query.Shares role program) = shown _ s.base (0, omega arith, refl) _ _
+reply_so s (query.Frozen role event) = either _ (is_operator role) _ _ (first_then _ _ _ (frozen_so (1, omega arith, refl) (is_frozen s.base.portfolio event) (pairs_kept s.base.portfolio event)) (λ pairs. never _ _)) (record { so = (0, omega arith, refl) })
 reply_so s (query.Reports role filter page) = first_then _ _ _ (sight_so _ s.base (0, omega arith, refl) role) (λ sight. never _ _)
 reply_so s (query.Report role id) = first_then _ _ _ (sight_so _ s.base (0, omega arith, refl) role) (λ sight. report_so _ s.base (0, omega arith, refl) (1, omega arith, refl) sight s (report_with_id id s.base.portfolio))
 reply_so s (query.Rollup role event) = either _ (is_operator role) _ _ (rollup_so (1, omega arith, refl) event (rollup_at s.base.mirror s.base.portfolio event)) (record { so = (0, omega arith, refl) })
@@ -115,6 +120,7 @@ listed_for_of_machine (query.Ven role id) = refl
 listed_for_of_machine (query.Resources role ven page) = refl
 listed_for_of_machine (query.Resource role ven id) = refl
 listed_for_of_machine (query.Shares role program) = refl
+listed_for_of_machine (query.Frozen role event) = refl
 listed_for_of_machine (query.Reports role filter page) = refl
 listed_for_of_machine (query.Report role id) = refl
 listed_for_of_machine (query.Rollup role event) = refl

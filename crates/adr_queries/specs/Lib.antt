@@ -5,4 +5,5 @@ pub mod Shown
 pub mod Subscribed
 pub mod Reported
 pub mod Listed
+pub mod Frozen
 pub mod Replies

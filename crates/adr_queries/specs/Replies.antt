@@ -7,9 +7,10 @@ use Rattle.adr_state.specs.declared.state.State.{State}
 use Rattle.adr_state.specs.declared.keys.MirrorKey.{MirrorKey}
 use Rattle.adr_state.specs.Scans.{probes}
 use Rattle.adr_queries.specs.declared.query.Query.{Query}
-use Rattle.adr_queries.specs.declared.query.Query.TheVariants.{Programs, Program, Events, Event, Vens, Ven, Resources, Resource, Shares, Reports, Report, Rollup, Subs, Sub, Outbox, Probes}
+use Rattle.adr_queries.specs.declared.query.Query.TheVariants.{Programs, Program, Events, Event, Vens, Ven, Resources, Resource, Shares, Frozen, Reports, Report, Rollup, Subs, Sub, Outbox, Probes}
 use Rattle.adr_queries.specs.declared.answer.Answer.{Answer}
 use Rattle.adr_queries.specs.declared.answer.Answer.TheVariants as answer
+use Rattle.adr_queries.specs.Frozen.{frozen_reply}
 use Rattle.adr_queries.specs.Reported.{reports_reply, report_reply, rollup_reply}
 use Rattle.adr_queries.specs.Subscribed.{subs_reply, sub_reply, outbox_reply}
 use Rattle.adr_queries.specs.Shown.{programs_reply, program_reply, events_reply, event_reply}
@@ -31,6 +32,7 @@ reply s (Ven role id) = ven_reply s.base role id
 reply s (Resources role ven page) = resources_reply s.base role ven page
 reply s (Resource role ven id) = resource_reply s.base role ven id
 reply s (Shares role program) = shares_reply s.base role program
+reply s (Frozen role event) = frozen_reply s.base role event
 reply s (Reports role filter page) = reports_reply s role filter page
 reply s (Report role id) = report_reply s role id
 reply s (Rollup role event) = rollup_reply s.base role event

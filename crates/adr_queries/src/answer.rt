@@ -1,8 +1,8 @@
 //! What the machine answers.
 use adr_delivery::Job;
 use adr_objects::{
-    EventObject, OutboxCounts, ProgramObject, ReportObject, ResourceObject, Rollup, ShareObject,
-    VenObject,
+    EventObject, FrozenObject, OutboxCounts, ProgramObject, ReportObject, ResourceObject, Rollup,
+    ShareObject, VenObject,
 };
 use adr_state::MirrorKey;
 use adr_subscription::SubObject;
@@ -43,6 +43,8 @@ pub enum Answer {
     Object(Object),
     List(Rows<Object>),
     Share(ShareObject),
+    /// The weights that are kept for a frozen event.
+    Frozen(FrozenObject),
     /// The roll-up of the upstream event of that id.
     Rollup(ObjectId, Rollup),
     /// How many entries the outbox had, and what came of them.
@@ -60,6 +62,7 @@ impl Drop for Answer {
             Answer::Object(_) => (),
             Answer::List(_) => (),
             Answer::Share(_) => (),
+            Answer::Frozen(_) => (),
             Answer::Rollup(_, _) => (),
             Answer::Counts(_) => (),
             Answer::Job(_) => (),

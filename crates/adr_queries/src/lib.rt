@@ -4,6 +4,7 @@
 mod answer;
 mod event;
 mod filter;
+mod frozen;
 mod page;
 mod program;
 mod query;
@@ -22,6 +23,7 @@ pub use answer::{Answer, Object};
 pub use filter::{
     EventFilter, ReportFilter, TargetFilter, wanted_of, wanted_reports, wanted_subs, wants,
 };
+pub use frozen::frozen_object;
 pub use page::page_of;
 pub use query::{Page, Query};
 pub use replies::reply;

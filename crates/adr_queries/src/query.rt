@@ -64,6 +64,12 @@ pub enum Query {
         role: Role,
         program: ObjectId,
     },
+    /// The weights that are kept for an upstream event, by resource number. Refused for another role than the operator, and
+    /// where the event was never frozen.
+    Frozen {
+        role: Role,
+        event: ObjectId,
+    },
     /// The reports that the role sees and the filter wants, by number.
     Reports {
         role: Role,
@@ -129,6 +135,7 @@ impl Drop for Query {
                 role: _,
                 program: _,
             } => (),
+            Query::Frozen { role: _, event: _ } => (),
             Query::Reports {
                 role: _,
                 filter: _,

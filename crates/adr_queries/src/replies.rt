@@ -6,6 +6,7 @@ ghost use Rattle.adr_queries.specs.Replies.{reply};
 
 use crate::answer::Answer;
 use crate::event::{event_reply, events_reply};
+use crate::frozen::frozen_reply;
 use crate::program::{program_reply, programs_reply};
 use crate::query::Query;
 use crate::reported::{report_reply, reports_reply, rollup_reply};
@@ -37,6 +38,7 @@ pub fn reply(alloc: Global, state: &State, query: &Query) -> Result<Answer, Refu
         }
         Query::Resource { role, ven, id } => resource_reply(&state.base, role, ven, id),
         Query::Shares { role, program } => shares_reply(alloc, &state.base, role, program),
+        Query::Frozen { role, event } => frozen_reply(alloc, &state.base, role, event),
         Query::Reports { role, filter, page } => reports_reply(alloc, state, role, filter, *page),
         Query::Report { role, id } => report_reply(state, role, id),
         Query::Rollup { role, event } => rollup_reply(alloc, &state.base, role, event),

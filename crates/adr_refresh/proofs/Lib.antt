@@ -8,6 +8,7 @@ pub mod RefreshLemmas
 pub mod TurnLemmas
 pub mod StayLemmas
 pub mod ShareLemmas
+pub mod FreezeLemmas
 pub mod EditLemmas
 pub mod OtherLemmas
 pub mod TouchedLemmas

@@ -1,6 +1,8 @@
 -- Lists of which something is made of some elements, and of others nothing.
-use Rattle.std.proofs.Common.{◌≡◌, ℕ, Bool, true, false, cond, ◌||◌, List, [], ◌∷◌, map, filter, Option, Some, None, Ordering, Less, Equal, Greater, refl, sym, ap, ap₂, ◌∙◌, arith}
-use Rattle.adr_refresh.proofs.Common.{All, All-cons, All-contains, All-head, All-nil, All-tail, Contains, Contains-append_right, at, cons_option, exact_unsigned, filter_map, insert_entry, list_any, lookup, match_ordering, nat_cmp, remove_entry}
+use Rattle.std.proofs.Common.{◌≡◌, ℕ, Bool, true, false, cond, List, [], ◌∷◌, map, filter, Option, Some, None, Ordering, Less, Equal, Greater, refl, sym, ap, ap₂, ◌∙◌, arith}
+use Rattle.std.specs.Prelude.{is_some}
+pub use Rattle.adr_view.proofs.ListLemmas.{filter_map_same, none_of_all, none_passes}
+use Rattle.adr_refresh.proofs.Common.{All, All-head, All-tail, Contains, Contains-append_right, at, cons_option, exact_unsigned, filter_map, insert_entry, list_any, lookup, match_ordering, nat_cmp, remove_entry}
 
 pub false_unless : (b : Bool) → (b ≡ true → ⊥) → b ≡ false
 false_unless true h = absurd (h refl)
@@ -14,23 +16,20 @@ behind_first x xs y there = Contains-append_right (x ∷ []) xs y there
 pub the_first : {A : Type 0} (x : A) (xs : List A) → Contains (x ∷ xs) x
 the_first x xs = (0, omega arith, refl)
 
--- where none passes, one that is there does not
-pub none_passes : {A : Type 0} (p : A → Bool) (xs : List A) (x : A) → list_any p xs ≡ false → Contains xs x → p x ≡ false
-none_passes p xs x none = All-contains (λ y. p y ≡ false) xs x (each xs none)
+-- one that is there and passes is one that passes
+pub one_passes : {A : Type 0} (p : A → Bool) (xs : List A) (x : A) → Contains xs x → p x ≡ true → list_any p xs ≡ true
+one_passes p xs x there passed = by (list_any p xs) refl
   where
-    neither : (a b : Bool) → (a || b) ≡ false → (a ≡ false) × (b ≡ false)
-    neither true b h = absurd cc
-    neither false b h = (refl, h)
+    by : (b : Bool) → list_any p xs ≡ b → b ≡ true
+    by true is = refl
+    by false none = sym (none_passes p xs x none there) ∙ passed
 
-    each : (ys : List _) → list_any p ys ≡ false → All (λ y. p y ≡ false) ys
-    each [] h = All-nil (λ y. p y ≡ false)
-    each (y ∷ ys) h = let both = neither (p y) (list_any p ys) h in All-cons (λ y. p y ≡ false) y ys both.0 (each ys both.1)
+-- what is not there is nothing
+pub is_none_from : {A : Type 0} (o : Option A) → is_some o ≡ false → o ≡ None
+is_none_from None is = refl
+is_none_from (Some x) is = absurd cc
 
 module _ {A B : Type 0} where
-  pub filter_map_same : (f g : A → Option B) (xs : List A) → All (λ x. f x ≡ g x) xs → filter_map f xs ≡ filter_map g xs
-  filter_map_same f g [] h = refl
-  filter_map_same f g (x ∷ xs) h = ap₂ cons_option (All-head (λ x. f x ≡ g x) x xs h) (filter_map_same f g xs (All-tail (λ x. f x ≡ g x) x xs h))
-
   -- those that do not pass make nothing
   pub record MakesOfPassing (p : A → Bool) (f g : A → Option B) (x : A) : Type 0 where
     pub passes : p x ≡ true → f x ≡ g x

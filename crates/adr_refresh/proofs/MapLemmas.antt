@@ -1,40 +1,19 @@
 -- Maps in the order of their keys: what they have at a key behind rows put one after another, and at keys that pass; that maps which have the same at
 -- each key are one; and rows of several sources, each at keys of its own.
 use Rattle.std.proofs.Common.{◌≡◌, Bool, true, false, cond, not, ⊎_elim, List, [], ◌∷◌, Option, Some, None, Ordering, Less, Equal, Greater, refl, sym, ap, subst, ◌∙◌}
+pub use Rattle.adr_view.proofs.MapLemmas.{at-with_rows, or_none, past_head, tied}
 use Rattle.adr_refresh.specs.Maps.{rows_at, rows_beside}
-use Rattle.adr_refresh.proofs.Common.{CmpEqualImpliesEq, Contains, InOrder, IsDistinct-from_sorted, IsStrictlySortedBy, IsTotalOrder, at, at-insert_entry, cases_Bool, eq_by_cmp_equiv, equal_from_is, flat_map, fold-append, insert_entry, is_at, is_eq, keys_of, list_any, lookup-filter-keys, lookup-from_Contains, lookup-none, lookup_tail, none_below_head, none_past_head, option_or, ordering_reverse, tied_itself, with_rows}
+use Rattle.adr_refresh.proofs.Common.{CmpEqualImpliesEq, Contains, InOrder, IsDistinct-from_sorted, IsStrictlySortedBy, IsTotalOrder, at, cases_Bool, eq_by_cmp_equiv, equal_from_is, flat_map, fold-append, insert_entry, is_at, is_eq, keys_of, list_any, lookup-filter-keys, lookup-from_Contains, lookup-none, lookup_tail, none_below_head, option_or, ordering_reverse, with_rows}
 
 -- a value, or else another
-pub or_none : {V : Type 0} (o : Option V) → option_or o None ≡ o
-or_none None = refl
-or_none (Some v) = refl
-
 pub or_again : {V : Type 0} (o p : Option V) → option_or o (option_or o p) ≡ option_or o p
 or_again None p = refl
 or_again (Some v) p = refl
-
-pub tied : {K : Type 0} {cmp : K → K → Ordering} → IsTotalOrder cmp → (k : K) → is_eq (cmp k k) ≡ true
-tied order k = ap is_eq (tied_itself order k)
 
 alike : {K : Type 0} {cmp : K → K → Ordering} → CmpEqualImpliesEq cmp → (passes : K → Bool) (q k : K) → is_at (cmp q) k ≡ true → passes k ≡ passes q
 alike exact passes q k is = ap passes (sym (exact q k (equal_from_is _ is)))
 
 module _ {K V : Type 0} {cmp : K → K → Ordering} (order : IsTotalOrder cmp) where
-  pub past_head : (q : K) (e : K × V) (es : List (K × V)) → InOrder cmp (e ∷ es) → is_eq (cmp q e.0) ≡ true → at cmp q es ≡ None
-  past_head q e es up is = lookup-none (is_at (cmp q)) es (none_past_head (eq_by_cmp_equiv order) q e es (IsDistinct-from_sorted cmp (keys_of (e ∷ es)) up) is)
-
-  -- rows in order lie over what was there
-  pub at-with_rows : (q : K) (m rows : List (K × V)) → InOrder cmp rows → at cmp q (with_rows cmp m rows) ≡ option_or (at cmp q rows) (at cmp q m)
-  unfolding IsStrictlySortedBy
-  at-with_rows q m [] up = refl
-  at-with_rows q m (r ∷ rows) up =
-      at-with_rows q (insert_entry cmp m r.0 r.1) rows up.1
-      ∙ ap (option_or (at cmp q rows)) (at-insert_entry order q r.0 r.1 m)
-      ∙ ⊎_elim
-      (λ is. let none : at cmp q rows ≡ None = past_head q r rows up is in rw (is, none) refl)
-      (λ no. rw no refl)
-      (cases_Bool (is_eq (cmp q r.0)))
-
   -- what is among rows in order is found at its key
   pub found : (es : List (K × V)) (r : K × V) → InOrder cmp es → Contains es r → at cmp r.0 es ≡ Some r.1
   found es r up there = lookup-from_Contains (eq_by_cmp_equiv order) r.0 r.1 es (IsDistinct-from_sorted cmp (keys_of es) up) there
@@ -59,7 +38,7 @@ module _ {K V : Type 0} {cmp : K → K → Ordering} (order : IsTotalOrder cmp) 
         tails : e.0 ≡ f.0 → (q : K) → at cmp q es ≡ at cmp q fs
         tails one q =
             ⊎_elim
-            (λ is. past_head q e es up is ∙ sym (past_head q f fs rises (subst (λ (k : K). is_eq (cmp q k) ≡ true) one is)))
+            (λ is. past_head order q e es up is ∙ sym (past_head order q f fs rises (subst (λ (k : K). is_eq (cmp q k) ≡ true) one is)))
             (λ other. sym (lookup_tail (is_at (cmp q)) e es other) ∙ same q ∙ lookup_tail (is_at (cmp q)) f fs (subst (λ (k : K). is_eq (cmp q k) ≡ false) one other))
             (cases_Bool (is_eq (cmp q e.0)))
 
@@ -88,7 +67,7 @@ module _ {K V : Type 0} {cmp : K → K → Ordering} (order : IsTotalOrder cmp) 
     at-flat q m (s ∷ ss) =
         ap (at cmp q) (fold-append (λ m r. insert_entry cmp m r.0 r.1) m (f s) (flat_map f ss))
         ∙ at-flat q (with_rows cmp m (f s)) ss
-        ∙ ap (λ (x : Option V). cond (list_any (λ s. is_of s q) ss) (option_or (at cmp q (f (source_of q))) x) x) (at-with_rows q m (f s) (up s))
+        ∙ ap (λ (x : Option V). cond (list_any (λ s. is_of s q) ss) (option_or (at cmp q (f (source_of q))) x) x) (at-with_rows order q m (f s) (up s))
         ∙ ⊎_elim
         (λ is. rw is (mine (sym (same s q is)) (list_any (λ s. is_of s q) ss)))
         (λ other. let none : at cmp q (f s) ≡ None = own s q other in rw (other, none) refl)

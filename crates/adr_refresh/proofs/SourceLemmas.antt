@@ -66,9 +66,9 @@ module _ (base : Base) (stands : StandsInOrder base) where
 
   event_in_order : (id : List ℕ) (event : EventBody) → InOrder view_cmp (event_rows base id event)
   event_in_order id event =
-      let ps = participants base.portfolio event in
+      let ps = participants base.portfolio id event in
       let keys : IsStrictlySortedBy view_cmp (map (λ k. key.Event id k) (map (λ p. p.resource) ps)) =
-      sorted_map nat_cmp view_cmp (λ k. key.Event id k) (λ m n less. rw (tied_itself nat_list_cmp_total id) less) (map (λ p. p.resource) ps) (participants_rise base stands event) in
+      sorted_map nat_cmp view_cmp (λ k. key.Event id k) (λ m n less. rw (tied_itself nat_list_cmp_total id) less) (map (λ p. p.resource) ps) (participants_rise base stands id event) in
       cond_both (carries event) (rows_for id event ps) [] (InOrder view_cmp) (λ some. subst (IsStrictlySortedBy view_cmp) (sym (keys_shown id event _ 0 ps)) keys) (λ none. none_sorted view_cmp)
 
   known_in_order : (k : MirrorKey) (known : Option Mark) → InOrder view_cmp (rows_known base k known)

@@ -19,8 +19,8 @@ use Rattle.adr_refresh.proofs.Common.{Base, Contains, Contains-append_left, Cont
 
 -- those who take part stay, and what they report
 pub record StaysOf (p q : Portfolio) (id : List ℕ) (event : EventBody) : Type 0 where
-  pub part : participants p event ≡ participants q event
-  pub reports : reporters (reports_of id p.reports) (participants p event) ≡ reporters (reports_of id q.reports) (participants p event)
+  pub part : participants p id event ≡ participants q id event
+  pub reports : reporters (reports_of id p.reports) (participants p id event) ≡ reporters (reports_of id q.reports) (participants p id event)
 
 -- ---- by what is known of an upstream key
 
@@ -32,7 +32,7 @@ module _ (base after : Base) where
   programs_stay id (Some (Live moment (body.Event it))) = refl
   programs_stay id (Some (Live moment (body.Opaque reason))) = refl
 
-  events_stay : (id : List ℕ) (known : Option Mark) → ((event : EventBody) → event_body known ≡ Some event → participants base.portfolio event ≡ participants after.portfolio event) → rows_known base (event_key id) known ≡ rows_known after (event_key id) known
+  events_stay : (id : List ℕ) (known : Option Mark) → ((event : EventBody) → event_body known ≡ Some event → participants base.portfolio id event ≡ participants after.portfolio id event) → rows_known base (event_key id) known ≡ rows_known after (event_key id) known
   events_stay id None same = refl
   events_stay id (Some Dead) same = refl
   events_stay id (Some (Live moment (body.Program name))) same = refl
@@ -40,7 +40,7 @@ module _ (base after : Base) where
   events_stay id (Some (Live moment (body.Opaque reason))) same = refl
 
   -- where those who take part in an event stay
-  pub known_stay : (which : Kind) (id : List ℕ) (known : Option Mark) → (which ≡ kind.Event → (event : EventBody) → event_body known ≡ Some event → participants base.portfolio event ≡ participants after.portfolio event)
+  pub known_stay : (which : Kind) (id : List ℕ) (known : Option Mark) → (which ≡ kind.Event → (event : EventBody) → event_body known ≡ Some event → participants base.portfolio id event ≡ participants after.portfolio id event)
       → rows_known base (record { kind = which; id = id }) known ≡ rows_known after (record { kind = which; id = id }) known
   known_stay kind.Program id known same = programs_stay id known
   known_stay kind.Event id known same = events_stay id known (same refl)
@@ -56,7 +56,7 @@ module _ (base : Base) (q : Portfolio) where
   after = record base { portfolio = q }
 
   abbrev pub PartsStay : List ℕ → Type 0
-  PartsStay id = (event : EventBody) → event_body (at mirror_cmp (event_key id) base.mirror) ≡ Some event → participants base.portfolio event ≡ participants q event
+  PartsStay id = (event : EventBody) → event_body (at mirror_cmp (event_key id) base.mirror) ≡ Some event → participants base.portfolio id event ≡ participants q id event
 
   abbrev pub Stays : List ℕ → Type 0
   Stays id = (event : EventBody) → event_body (at mirror_cmp (event_key id) base.mirror) ≡ Some event → StaysOf base.portfolio q id event

@@ -1,18 +1,22 @@
 -- Laws of the refresh.
-use Rattle.std.specs.Prelude.{◌≡◌, ℕ, List}
+use Rattle.std.specs.Prelude.{◌≡◌, ℕ, true, List, [], IfOk}
 use Rattle.std.specs.List.{Contains, flat_map}
 use Rattle.std.specs.List.Sorted.{IsStrictlySortedBy}
 use Rattle.adr_objects.specs.declared.shown.Stamps.{Stamps}
 use Rattle.adr_state.specs.declared.base.Base.{Base}
+use Rattle.adr_state.specs.declared.keys.ShareKey.{ShareKey}
 use Rattle.adr_state.specs.declared.keys.ViewKey.{ViewKey}
-use Rattle.adr_state.specs.BaseChanges.{BaseChange, changed}
+use Rattle.adr_state.specs.declared.limits.Limits.{Limits}
+use Rattle.adr_state.specs.BaseChanges.{BaseChange, ChangePortfolio, changed}
+use Rattle.adr_state.specs.Frozen.{is_frozen}
 use Rattle.adr_state.specs.Keys.{view_cmp, at}
 use Rattle.adr_view.specs.declared.changes.Change.{Change}
 use Rattle.adr_view.specs.Changes.{changes, restamped}
+use Rattle.adr_view.specs.Frozen.{freeze}
 use Rattle.adr_view.specs.Laws.{StandsInOrder}
 use Rattle.adr_view.specs.Views.{view}
 use Rattle.adr_refresh.specs.Sources.{Source, source_cmp, source_of, rows_of}
-use Rattle.adr_refresh.specs.Touched.{touched}
+use Rattle.adr_refresh.specs.Touched.{events_by_share, touched}
 use Rattle.adr_refresh.specs.Refresh.{refreshed_each, AreStamped, books_before, books_after}
 
 -- where rows stand in order, what the view has at a key is what is shown there of its source
@@ -38,6 +42,14 @@ abbrev pub TouchedIsEnough : Type 0
 TouchedIsEnough = (c : BaseChange) (base : Base) (now : ℕ) (stamps : List (ViewKey × Stamps)) (ss : List Source) → StandsInOrder base → StandsInOrder (changed c base)
     → ((s : Source) → Contains (touched c base) s → Contains ss s) → AreStamped stamps base
     → refreshed_each base (changed c base) now (books_before base stamps) ss ≡ books_after base (changed c base) now stamps
+
+-- the freezing of an event touches nothing
+abbrev pub FreezingTouchesNothing : Type 0
+FreezingTouchesNothing = (limits : Limits) (id : List ℕ) (base : Base) → IfOk (freeze limits id base.mirror base.portfolio) (λ d. touched (ChangePortfolio d.1) base ≡ [])
+
+-- a share that is put or goes touches no event that is frozen
+abbrev pub SharesTouchNoFrozen : Type 0
+SharesTouchNoFrozen = (key : ShareKey) (base : Base) (id : List ℕ) → is_frozen base.portfolio id ≡ true → Contains (events_by_share key.program base) id → ⊥
 
 -- exactly what is shown behind a change has stamps then
 abbrev pub StampsAreGivenBack : Type 0

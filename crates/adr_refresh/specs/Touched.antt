@@ -1,5 +1,5 @@
 -- Which sources a change of the base touches: a list that has each of which something else may be shown then.
-use Rattle.std.specs.Prelude.{ℕ, Bool, true, false, ◌&&◌, ◌==◌, List, [], ◌∷◌, ◌++◌, map, Option, None, Some, is_some, option_map, if◌then◌else◌}
+use Rattle.std.specs.Prelude.{ℕ, Bool, true, false, not, ◌&&◌, ◌==◌, List, [], ◌∷◌, ◌++◌, map, filter, Option, None, Some, is_some, option_map, if◌then◌else◌}
 use Rattle.std.specs.List.{list_any, filter_map, flat_map}
 use Rattle.std.specs.Option.{option_map_or, option_to_list}
 use Rattle.std.specs.Ordering.{nat_cmp}
@@ -12,10 +12,12 @@ use Rattle.adr_state.specs.declared.keys.MirrorKey.{MirrorKey}
 use Rattle.adr_state.specs.declared.portfolio.Portfolio.{Portfolio}
 use Rattle.adr_state.specs.declared.portfolio.Report.{Report}
 use Rattle.adr_state.specs.BaseChanges.{BaseChange, JoinMarks, SetScan, ChangePortfolio}
+use Rattle.adr_state.specs.Frozen.{is_frozen}
 use Rattle.adr_state.specs.Keys.{mirror_cmp, share_cmp, at}
 use Rattle.adr_state.specs.Marks.{is_below}
-use Rattle.adr_state.specs.Portfolios.{PortfolioChange, PutVen, DropVen, PutResource, DropResource, PutShare, DropShare, PutReport, DropReport, PutSub, DropSub, is_of_ven, reported_on}
-use Rattle.adr_view.specs.Rollups.{event_key, event_body}
+use Rattle.adr_state.specs.Portfolios.{PortfolioChange, PutVen, DropVen, PutResource, DropResource, PutShare, DropShare, PutReport, DropReport, PutSub, DropSub, Freeze, is_of_ven, reported_on}
+use Rattle.adr_view.specs.Frozen.{freezing_differs}
+use Rattle.adr_view.specs.Rollups.{event_key, event_body, event_at}
 use Rattle.adr_refresh.specs.Sources.{Source, Upstream, Reported, RolledUp}
 
 -- ---- evidence
@@ -64,6 +66,38 @@ shares_in p n program = is_some (at share_cmp (record { program = program; resou
 abbrev pub one_shares : Portfolio → ℕ → List ℕ → Bool
 one_shares p ven program = list_any (λ r. (r.1.ven == ven) && shares_in p r.0 program) p.resources
 
+-- those of events that are not frozen
+abbrev pub not_frozen : Portfolio → List (List ℕ) → List (List ℕ)
+not_frozen p ids = filter (λ id. not (is_frozen p id)) ids
+
+-- the events in which a resource of a number that passes is frozen
+abbrev pub events_frozen_in : (ℕ → Bool) → Portfolio → List (List ℕ)
+events_frozen_in passes p = map (λ s. s.0.event) (filter (λ s. passes s.0.resource) p.frozen_shares)
+
+-- whether a ven has a resource of that number
+abbrev pub has_resource : Portfolio → ℕ → ℕ → Bool
+has_resource p ven n = list_any (λ r. (r.1.ven == ven) && (r.0 == n)) p.resources
+
+-- the live events of programs in which a resource has a share, and the events in which it is frozen
+abbrev pub events_of_resource : ℕ → Base → List (List ℕ)
+events_of_resource n base = events_in (shares_in base.portfolio n) base ++ events_frozen_in (λ m. m == n) base.portfolio
+
+-- those of the resources of a ven
+abbrev pub events_of_ven : ℕ → Base → List (List ℕ)
+events_of_ven n base = events_in (one_shares base.portfolio n) base ++ events_frozen_in (has_resource base.portfolio n) base.portfolio
+
+-- the live events of a program that are not frozen
+abbrev pub events_by_share : List ℕ → Base → List (List ℕ)
+events_by_share id base = not_frozen base.portfolio (events_in (λ program. bytes_eq program id) base)
+
+-- whether a live event has other participants, or others' weights, once it is frozen with these pairs
+abbrev pub freezing_touches : List ℕ → List (ℕ × ℕ) → Base → Bool
+freezing_touches id pairs base = option_map_or (freezing_differs id pairs base.portfolio) (event_at base.mirror id) false
+
+-- the event that is frozen with these pairs, where that changes who takes part in it
+abbrev pub events_by_freezing : List ℕ → List (ℕ × ℕ) → Base → List (List ℕ)
+events_by_freezing id pairs base = if freezing_touches id pairs base then id ∷ [] else []
+
 -- the event that the report of a number is on, where there is one
 abbrev pub event_reported : Portfolio → ℕ → List (List ℕ)
 event_reported p n = option_to_list (option_map (λ (r : Report). r.body.head.event) (at nat_cmp n p.reports))
@@ -75,19 +109,21 @@ report_by goes r = if goes (reported_on r) then Some r.0 else None
 abbrev pub reports_by : (ℕ → Bool) → Portfolio → List ℕ
 reports_by goes p = filter_map (report_by goes) p.reports
 
--- a share touches the live events of its program; a resource those of the programs in which it has a share, and a ven
--- those of its resources; and a report the events that the old one and the new one are on
+-- a share touches the live events of its program that are not frozen; a resource those of the programs in which it has a
+-- share and those in which it is frozen, and a ven those of its resources; a report the events that the old one and the
+-- new one are on; and a freeze its event alone, where the pairs are others than those of who takes part
 abbrev pub events_touched : PortfolioChange → Base → List (List ℕ)
-events_touched (PutVen n ven) base = events_in (one_shares base.portfolio n) base
-events_touched (DropVen n) base = events_in (one_shares base.portfolio n) base
-events_touched (PutResource n resource) base = events_in (shares_in base.portfolio n) base
-events_touched (DropResource n) base = events_in (shares_in base.portfolio n) base
-events_touched (PutShare key weight) base = events_in (λ program. bytes_eq program key.program) base
-events_touched (DropShare key) base = events_in (λ program. bytes_eq program key.program) base
+events_touched (PutVen n ven) base = events_of_ven n base
+events_touched (DropVen n) base = events_of_ven n base
+events_touched (PutResource n resource) base = events_of_resource n base
+events_touched (DropResource n) base = events_of_resource n base
+events_touched (PutShare key weight) base = events_by_share key.program base
+events_touched (DropShare key) base = events_by_share key.program base
 events_touched (PutReport n report) base = report.body.head.event ∷ event_reported base.portfolio n
 events_touched (DropReport n) base = event_reported base.portfolio n
 events_touched (PutSub n sub) base = []
 events_touched (DropSub n) base = []
+events_touched (Freeze id pairs) base = events_by_freezing id pairs base
 
 -- a report touches itself, and a resource and a ven the reports that go with them
 abbrev pub reports_touched : PortfolioChange → Base → List ℕ

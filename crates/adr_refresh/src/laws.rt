@@ -1,5 +1,5 @@
 //! Laws of the refresh: what is refreshed source by source is what whole views give.
-ghost use Rattle.adr_refresh.specs.Laws.{ViewIsOfSources, OthersAreShownAsBefore, RefreshedIsAsComputed, TouchedIsEnough, StampsAreGivenBack, ChangesStandInTurn};
+ghost use Rattle.adr_refresh.specs.Laws.{ViewIsOfSources, OthersAreShownAsBefore, RefreshedIsAsComputed, TouchedIsEnough, FreezingTouchesNothing, SharesTouchNoFrozen, StampsAreGivenBack, ChangesStandInTurn};
 
 /// Where rows stand in order, what the view has at a key is what is shown there of its source.
 pub fn view_is_of_sources()
@@ -21,6 +21,16 @@ pub fn refreshed_is_as_computed()
 /// So it is where each source is among them that a change of the base touches.
 pub fn touched_is_enough()
     ensures { TouchedIsEnough }
+{}
+
+/// The freezing of an event touches nothing.
+pub fn freezing_touches_nothing()
+    ensures { FreezingTouchesNothing }
+{}
+
+/// A share that is put or goes touches no event that is frozen.
+pub fn shares_touch_no_frozen()
+    ensures { SharesTouchNoFrozen }
 {}
 
 /// After that exactly what is shown has stamps again.

@@ -1,1 +1,3 @@
 pub mod Testing
+pub mod FrozenStatements
+pub mod TakesPart

@@ -2,6 +2,7 @@
 //! upstream event.
 #![tactic(auto)]
 
+mod frozen_share;
 mod on;
 mod posting;
 mod rolled_up;

@@ -2,15 +2,17 @@
 ghost use Rattle.std.specs.Prelude.{◌≡◌, is_some, option_map, IfOk, IfErr};
 ghost use Rattle.adr_state.specs.Resources.{resource_with_id};
 ghost use Rattle.adr_state.specs.ShownIds.{resource_named};
-ghost use Rattle.adr_state.specs.Participants.{as_participant, participant_of};
+ghost use Rattle.adr_state.specs.Frozen.{frozen_key, frozen_weight};
+ghost use Rattle.adr_state.specs.Participants.{weight_by_share, weight_in, participant_of};
 ghost use Rattle.adr_view.specs.Reports.{is_shown_to, reported_of, reported_by, reported_in, reported};
 ghost use Rattle.adr_sql.specs.Calls.{LeavesLent};
 ghost use Rattle.adr_db.specs.Calls.{Finds, IsOfStore};
 
+use crate::frozen_share::read_frozen_share;
 use adr_db_mirror::read_known;
-use adr_db_portfolio::{read_resource, read_share, read_ven};
+use adr_db_portfolio::{is_frozen, read_resource, read_share, read_ven};
 use adr_objects::{EventBody, Number};
-use adr_state::{Resource, ShareKey, id_in, id_parts, is_for, number_in};
+use adr_state::{FrozenKey, Resource, ShareKey, id_in, id_parts, is_for, number_in};
 use adr_text::{ObjectId, Refusal};
 use adr_view::{Reported, carries, event_body, event_key};
 use sqlite::{Alter, Transaction};
@@ -68,58 +70,106 @@ fn key_of(program: &ObjectId, resource: Number) -> Result<ShareKey, AllocError>
     })
 }
 
-// Whether the resource has a share in the program, and its ven is there.
-fn is_enrolled<S: Alter>(
-    alloc: Global,
-    tx: &mut Transaction<'_, S>,
-    program: &ObjectId,
-    number: Number,
-    resource: &Resource,
-) -> Result<bool, Refusal>
-    ensures lent { LeavesLent S.Store tx.old.conn tx.new.conn result }
-    ensures finds { Finds S.Store tx.old.conn.now tx.new.conn.now (λ kept yes. yes ≡ is_some (as_participant kept.portfolio program.now (number, resource.now))) result }
-    ensures refused { IfErr result IsOfStore }
+fn frozen_key_of(event: &ObjectId, resource: Number) -> Result<FrozenKey, AllocError>
+    ensures { IfOk result (λ key. key ≡ frozen_key event.now resource) }
 {
-    let key = key_of(program, number)?;
-    let share = read_share(tx, &key)?;
-    let ven = read_ven(alloc, tx, resource.ven)?;
-    Ok(share.is_some() && ven.is_some())
+    Ok(FrozenKey {
+        event: event.clone()?,
+        resource,
+    })
 }
 
-// Whether the resource takes part in the event.
-fn takes_part<S: Alter>(
-    alloc: Global,
+// Whether a weight is kept for the resource in the event, of those that are frozen.
+fn has_frozen<S: Alter>(
+    tx: &mut Transaction<'_, S>,
+    id: &ObjectId,
+    number: Number,
+) -> Result<bool, Refusal>
+    ensures lent { LeavesLent S.Store tx.old.conn tx.new.conn result }
+    ensures finds { Finds S.Store tx.old.conn.now tx.new.conn.now (λ kept yes. yes ≡ is_some (frozen_weight kept.portfolio id.now number)) result }
+    ensures refused { IfErr result IsOfStore }
+{
+    let key = frozen_key_of(id, number)?;
+    let weight = read_frozen_share(tx, &key)?;
+    Ok(weight.is_some())
+}
+
+// Whether the resource has a share in the event's program, and the event is for a resource of its name.
+fn has_share<S: Alter>(
     tx: &mut Transaction<'_, S>,
     event: &EventBody,
     number: Number,
     resource: &Resource,
 ) -> Result<bool, Refusal>
     ensures lent { LeavesLent S.Store tx.old.conn tx.new.conn result }
-    ensures finds { Finds S.Store tx.old.conn.now tx.new.conn.now (λ kept yes. yes ≡ is_some (participant_of kept.portfolio event.now (number, resource.now))) result }
+    ensures finds { Finds S.Store tx.old.conn.now tx.new.conn.now (λ kept yes. yes ≡ is_some (weight_by_share kept.portfolio event.now (number, resource.now))) result }
     ensures refused { IfErr result IsOfStore }
 {
     if !is_for(&event.resource_names, resource.name.as_name()) {
         return Ok(false);
     }
-    is_enrolled(alloc, tx, &event.program, number, resource)
+    let key = key_of(&event.program, number)?;
+    let share = read_share(tx, &key)?;
+    Ok(share.is_some())
 }
 
-// Whether the event is shown to the resource.
-fn is_shown_to<S: Alter>(
+// Whether the resource has a weight in the event of the id.
+fn has_weight<S: Alter>(
     alloc: Global,
     tx: &mut Transaction<'_, S>,
+    id: &ObjectId,
     event: &EventBody,
     number: Number,
     resource: &Resource,
 ) -> Result<bool, Refusal>
     ensures lent { LeavesLent S.Store tx.old.conn tx.new.conn result }
-    ensures finds { Finds S.Store tx.old.conn.now tx.new.conn.now (λ kept yes. yes ≡ is_shown_to kept.portfolio event.now (number, resource.now)) result }
+    ensures finds { Finds S.Store tx.old.conn.now tx.new.conn.now (λ kept yes. yes ≡ is_some (weight_in kept.portfolio id.now event.now (number, resource.now))) result }
+    ensures refused { IfErr result IsOfStore }
+{
+    if is_frozen(alloc, tx, id)? {
+        return has_frozen(tx, id, number);
+    }
+    has_share(tx, event, number, resource)
+}
+
+// Whether the resource takes part in the event of the id.
+fn takes_part<S: Alter>(
+    alloc: Global,
+    tx: &mut Transaction<'_, S>,
+    id: &ObjectId,
+    event: &EventBody,
+    number: Number,
+    resource: &Resource,
+) -> Result<bool, Refusal>
+    ensures lent { LeavesLent S.Store tx.old.conn tx.new.conn result }
+    ensures finds { Finds S.Store tx.old.conn.now tx.new.conn.now (λ kept yes. yes ≡ is_some (participant_of kept.portfolio id.now event.now (number, resource.now))) result }
+    ensures refused { IfErr result IsOfStore }
+{
+    let has = has_weight(alloc, tx, id, event, number, resource)?;
+    if !has {
+        return Ok(false);
+    }
+    let ven = read_ven(alloc, tx, resource.ven)?;
+    Ok(ven.is_some())
+}
+
+// Whether the event of the id is shown to the resource.
+fn is_shown_to<S: Alter>(
+    alloc: Global,
+    tx: &mut Transaction<'_, S>,
+    id: &ObjectId,
+    event: &EventBody,
+    number: Number,
+    resource: &Resource,
+) -> Result<bool, Refusal>
+    ensures lent { LeavesLent S.Store tx.old.conn tx.new.conn result }
+    ensures finds { Finds S.Store tx.old.conn.now tx.new.conn.now (λ kept yes. yes ≡ is_shown_to kept.portfolio id.now event.now (number, resource.now)) result }
     ensures refused { IfErr result IsOfStore }
 {
     if !carries(event) {
         return Ok(false);
     }
-    takes_part(alloc, tx, event, number, resource)
+    takes_part(alloc, tx, id, event, number, resource)
 }
 
 fn on(
@@ -151,7 +201,7 @@ fn reported_of<S: Alter>(
     ensures finds { Finds S.Store tx.old.conn.now tx.new.conn.now (λ kept found. found ≡ reported_of kept.portfolio (number, resource.now) id.now event.now) result }
     ensures refused { IfErr result IsOfStore }
 {
-    let shown = is_shown_to(alloc, tx, event, number, resource)?;
+    let shown = is_shown_to(alloc, tx, id, event, number, resource)?;
     if !shown {
         return Ok(None);
     }

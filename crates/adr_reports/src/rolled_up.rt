@@ -50,7 +50,7 @@ fn event_rollup<S: Alter>(
     ensures finds { Finds S.Store tx.old.conn.now tx.new.conn.now (λ kept rollup. rollup ≡ rollup_of kept.portfolio id.now event.now) result }
     ensures refused { IfErr result IsOfStore }
 {
-    let ps = named_participants(alloc, tx, event)?;
+    let ps = named_participants(alloc, tx, id, event)?;
     let rows = read_reports_of(alloc, tx, id)?;
     let reports = without_numbers(alloc, rows)?;
     Ok(rolled_up(alloc, event, ps.as_slice(), reports.as_slice())?)
@@ -59,8 +59,9 @@ fn event_rollup<S: Alter>(
 /// The roll-up of an upstream event over its participants: for each interval that carries a setpoint the
 /// sum of the latest values, in the utility's unit, and the names of those that have none. There is one
 /// where the event is live, its body was read, and a participant has a value in such an interval. It costs
-/// a look-up of a resource and a ven for each share in the event's program, and one of its intervals for
-/// each report on the event; no report on another event is read.
+/// a look-up of a resource and a ven for each share in the event's program, or for each that is kept for
+/// the event where it is frozen, and one of its intervals for each report on the event; no report on
+/// another event is read.
 pub fn rollup<S: Alter>(
     alloc: Global,
     tx: &mut Transaction<'_, S>,

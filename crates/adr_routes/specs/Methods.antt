@@ -21,6 +21,9 @@ get_post = record { get = true; post = true; put = false; delete = false }
 abbrev pub get_put_delete : Methods
 get_put_delete = record { get = true; post = false; put = true; delete = true }
 
+abbrev pub get_put : Methods
+get_put = record { get = true; post = false; put = true; delete = false }
+
 abbrev pub put_delete : Methods
 put_delete = record { get = false; post = false; put = true; delete = true }
 

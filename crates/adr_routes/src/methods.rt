@@ -24,6 +24,8 @@ pub(crate) const POST: Methods = Methods { post: true, ..NONE };
 
 pub(crate) const GET_POST: Methods = Methods { get: true, ..POST };
 
+pub(crate) const GET_PUT: Methods = Methods { put: true, ..GET };
+
 pub(crate) const PUT_DELETE: Methods = Methods {
     put: true,
     delete: true,

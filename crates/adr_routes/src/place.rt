@@ -2,7 +2,7 @@
 ghost use Rattle.std.specs.Prelude.{◌≡◌};
 ghost use Rattle.adr_routes.specs.Places.{served, text_of, methods_of};
 
-use crate::methods::{GET, GET_POST, GET_PUT_DELETE, Methods, POST, PUT_DELETE};
+use crate::methods::{GET, GET_POST, GET_PUT, GET_PUT_DELETE, Methods, POST, PUT_DELETE};
 
 /// A place with no id.
 #[derive(Clone, Copy, Debug, PartialEq, Eq)]
@@ -29,6 +29,8 @@ pub enum One {
     Resources,
     /// The shares of a program.
     Shares,
+    /// The shares that are kept for an event.
+    Frozen,
 }
 
 /// A place with two ids.
@@ -70,6 +72,7 @@ fn served(place: Place) -> (&'static str, Methods)
         Place::Two(Two::Resource) => ("/vens/{venID}/resources/{resourceID}", GET_PUT_DELETE),
         Place::One(One::Shares) => ("/shares/{programID}", GET),
         Place::Two(Two::Share) => ("/shares/{programID}/{resourceID}", PUT_DELETE),
+        Place::One(One::Frozen) => ("/frozen/{eventID}", GET_PUT),
     }
 }
 

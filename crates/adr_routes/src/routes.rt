@@ -73,6 +73,7 @@ impl Routes {
             Place::Two(Two::Resource),
             Place::One(One::Shares),
             Place::Two(Two::Share),
+            Place::One(One::Frozen),
         ];
         let router = router_of(alloc, &places)?;
         Ok(Routes { router })

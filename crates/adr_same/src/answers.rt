@@ -1,5 +1,6 @@
 //! Answers, and the objects in them.
 use crate::sameness::Same;
+use adr_objects::{FrozenObject, Number};
 use adr_queries::{Answer, Object};
 
 impl Same for Object {
@@ -17,6 +18,18 @@ impl Same for Object {
     }
 }
 
+impl Same for (Number, u32) {
+    fn is_same(&self, other: &(Number, u32)) -> bool {
+        self.0.is_same(&other.0) && self.1.is_same(&other.1)
+    }
+}
+
+impl Same for FrozenObject {
+    fn is_same(&self, other: &FrozenObject) -> bool {
+        self.event.is_same(&other.event) && self.shares.is_same(&other.shares)
+    }
+}
+
 impl Same for Answer {
     fn is_same(&self, other: &Answer) -> bool {
         match (self, other) {
@@ -26,6 +39,7 @@ impl Same for Answer {
             (Answer::Object(object), Answer::Object(another)) => object.is_same(another),
             (Answer::List(objects), Answer::List(others)) => objects.is_same(others),
             (Answer::Share(share), Answer::Share(another)) => share.is_same(another),
+            (Answer::Frozen(frozen), Answer::Frozen(another)) => frozen.is_same(another),
             (Answer::Rollup(event, rollup), Answer::Rollup(other_event, another)) => {
                 event.is_same(other_event) && rollup.is_same(another)
             }

@@ -2,8 +2,8 @@
 use crate::delivery_commands::{is_failed, is_sent};
 use crate::mirror_commands::{is_evidence, is_gone};
 use crate::operator_commands::{
-    is_resource_add, is_resource_put, is_resource_remove, is_share_set, is_ven_add, is_ven_put,
-    is_ven_remove,
+    is_freeze, is_resource_add, is_resource_put, is_resource_remove, is_share_set, is_ven_add,
+    is_ven_put, is_ven_remove,
 };
 use crate::sameness::Same;
 use crate::site_commands::{
@@ -39,6 +39,7 @@ impl Same for Command {
                 resource,
                 share,
             } => is_share_set(other, role, program, resource, share),
+            Command::Freeze { role, event } => is_freeze(other, role, event),
             Command::ReportPost { role, report } => is_report_post(other, role, report),
             Command::ReportPut { role, id, report } => is_report_put(other, role, id, report),
             Command::ReportDelete { role, id } => is_report_delete(other, role, id),

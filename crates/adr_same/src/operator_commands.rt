@@ -1,6 +1,6 @@
 //! Commands on vens, resources and shares.
 ghost use Rattle.std.specs.Prelude.{◌≡◌, ◌↔◌, IsTrue};
-ghost use Rattle.adr_machine.specs.declared.command.Command.TheVariants.{VenAdd, VenPut, VenRemove, ResourceAdd, ResourcePut, ResourceRemove, ShareSet};
+ghost use Rattle.adr_machine.specs.declared.command.Command.TheVariants.{VenAdd, VenPut, VenRemove, ResourceAdd, ResourcePut, ResourceRemove, ShareSet, Freeze};
 
 use crate::sameness::Same;
 use adr_machine::Command;
@@ -130,6 +130,19 @@ pub(crate) fn is_share_set(
             && its_program.is_same(program)
             && its_resource.is_same(resource)
             && its_share.is_same(share),
+        _ => false,
+    }
+}
+
+/// Whether the command freezes that event, by that role.
+pub(crate) fn is_freeze(command: &Command, role: &Role, event: &ObjectId) -> bool
+    ensures { IsTrue result ↔ (command.now ≡ Freeze role.now event.now) }
+{
+    match command {
+        Command::Freeze {
+            role: its_role,
+            event: its_event,
+        } => its_role.is_same(role) && its_event.is_same(event),
         _ => false,
     }
 }

@@ -42,3 +42,11 @@ resource_of bytes = as_refusal (bytes_as resource_in bytes)
 -- the share that the bytes are, or the refusal of who posts them
 unfoldable pub share_of : List ℕ → Result ShareIn Refusal
 share_of bytes = as_refusal (bytes_as share_in bytes)
+
+-- anything that is JSON: what it says is passed over
+abbrev pub anything_in : List ℕ → Result Unit Fault
+anything_in bytes = bytes_as (λ d. Ok tt) bytes
+
+-- nothing of the bytes but that they are JSON, or the refusal of who posts them
+unfoldable pub anything_of : List ℕ → Result Unit Refusal
+anything_of bytes = as_refusal (anything_in bytes)

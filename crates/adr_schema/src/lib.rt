@@ -23,6 +23,6 @@ pub use notice::NoticeIn;
 pub use read_found::{read_one, read_page, reason_of};
 pub use read_notices::read_notice;
 pub use read_reports::read_report;
-pub use read_site::{read_resource, read_share, read_ven};
+pub use read_site::{read_anything, read_resource, read_share, read_ven};
 pub use read_targets::{is_resource_target, names_of_target, names_resources};
 pub use read_typed::{is_of_type, only_of_type, text_at, typed, value_of, values_of};

@@ -3,7 +3,7 @@ ghost use Rattle.std.specs.Prelude.{◌≡◌};
 ghost use Rattle.serde_json.specs.View.{view};
 ghost use Rattle.adr_text.specs.Faults.{Finds, as_refusal};
 ghost use Rattle.adr_text.specs.Refusals.{Gives};
-ghost use Rattle.adr_schema.specs.Sites.{ven_in, resource_in, share_in, ven_of, resource_of, share_of};
+ghost use Rattle.adr_schema.specs.Sites.{ven_in, resource_in, share_in, ven_of, resource_of, share_of, anything_in, anything_of};
 
 use crate::read_typed::text_at;
 use adr_objects::{ResourceIn, ResourceName, ShareIn, VenIn};
@@ -33,6 +33,14 @@ fn share(alloc: Global, value: &Value) -> Result<ShareIn, Fault>
 {
     let share = needed(alloc, value, "share")?;
     Ok(ShareIn { share })
+}
+
+// Nothing of what is there but that it is JSON.
+fn anything(alloc: Global, bytes: &[u8]) -> Result<(), Fault>
+    ensures { Finds (λ found. found) result (anything_in bytes.now) }
+{
+    let _passed_over = read_value(alloc, bytes)?;
+    Ok(())
 }
 
 // The fault, told as a refusal.
@@ -68,4 +76,12 @@ pub fn read_share(alloc: Global, bytes: &[u8]) -> Result<ShareIn, Refusal>
     ensures { Gives (λ x. x) result (share_of bytes.now) }
 {
     told(read_value(alloc, bytes).and_then(|value| share(alloc, &value)))
+}
+
+/// Nothing of the bytes but that they are JSON, of whatever kind; `BadShape` where they are not.
+#[tactic(auto, using(crate::proofs::Refusals::told_gives), unfolding(crate::specs::Sites::anything_of))]
+pub fn read_anything(alloc: Global, bytes: &[u8]) -> Result<(), Refusal>
+    ensures { Gives (λ x. x) result (anything_of bytes.now) }
+{
+    told(anything(alloc, bytes))
 }

@@ -8,7 +8,7 @@ use Rattle.std.specs.List.Sorted.{IsStrictlySortedBy}
 use Rattle.adr_delivery.specs.declared.entry.Entry.{Entry}
 use Rattle.adr_state.specs.declared.portfolio.Portfolio.{Portfolio}
 use Rattle.adr_state.specs.declared.state.State.{State}
-use Rattle.adr_state.specs.Keys.{mirror_cmp, share_cmp}
+use Rattle.adr_state.specs.Keys.{id_cmp, mirror_cmp, share_cmp, frozen_cmp}
 use Rattle.adr_state.specs.Limits.{largest}
 
 -- rows in the order of their keys, at most so many
@@ -16,13 +16,15 @@ pub record IsMap {K V : Type 0} (cmp : K → K → Ordering) (most : ℕ) (rows 
   pub rises : IsStrictlySortedBy cmp (keys_of rows)
   pub few : length rows ≤ most
 
--- the maps of a portfolio are within the largest limits
+-- the maps of a portfolio are within the largest limits; how many events are frozen has no limit of its own
 pub record SitesFit (p : Portfolio) : Type 0 where
   pub vens : IsMap nat_cmp largest.vens p.vens
   pub resources : IsMap nat_cmp largest.resources p.resources
   pub shares : IsMap share_cmp largest.shares p.shares
   pub reports : IsMap nat_cmp largest.reports p.reports
   pub subs : IsMap nat_cmp largest.subs p.subs
+  pub frozen : IsStrictlySortedBy id_cmp (keys_of p.frozen)
+  pub frozen_shares : IsMap frozen_cmp largest.frozen p.frozen_shares
 
 -- an entry was leased at most as often as the largest limit admits
 abbrev pub HasFewLeases : Entry → Type 0

@@ -10,6 +10,7 @@ use Rattle.adr_objects.specs.declared.kind.Kind.{Kind}
 use Rattle.adr_objects.specs.declared.kind.Kind.TheVariants as kind
 use Rattle.adr_state.specs.declared.keys.MirrorKey.{MirrorKey}
 use Rattle.adr_state.specs.declared.keys.ShareKey.{ShareKey}
+use Rattle.adr_state.specs.declared.keys.FrozenKey.{FrozenKey}
 use Rattle.adr_state.specs.declared.keys.ViewKey.{ViewKey}
 use Rattle.adr_state.specs.declared.keys.ViewKey.TheVariants.{Program, Event, Report, Rollup}
 
@@ -31,6 +32,10 @@ mirror_cmp a b = ordering_then (kind_cmp a.kind b.kind) (id_cmp a.id b.id)
 -- shares by the id of the program, and then by the number of the resource
 abbrev pub share_cmp : ShareKey → ShareKey → Ordering
 share_cmp a b = ordering_then (id_cmp a.program b.program) (nat_cmp a.resource b.resource)
+
+-- frozen shares by the id of the event, and then by the number of the resource
+abbrev pub frozen_cmp : FrozenKey → FrozenKey → Ordering
+frozen_cmp a b = ordering_then (id_cmp a.event b.event) (nat_cmp a.resource b.resource)
 
 -- where a key stands by what is shown at it: programs, then events, reports and roll-ups
 abbrev pub place_of : ViewKey → ℕ

@@ -6,6 +6,7 @@ pub mod Marks
 pub mod Mirror
 pub mod Scans
 pub mod Portfolios
+pub mod Frozen
 pub mod Participants
 pub mod Digits
 pub mod Serials

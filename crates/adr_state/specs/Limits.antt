@@ -13,6 +13,7 @@ largest = record {
   resources = 10_000;
   shares = 100_000;
   reports = 100_000;
+  frozen = 100_000;
   pending = 100_000;
   serial = 9_000_000_000_000_000;
   trail = 1_000_000;
@@ -26,6 +27,7 @@ pub record AreSmall (limits : Limits) : Type 0 where
   pub resources : limits.resources ≤ largest.resources
   pub shares : limits.shares ≤ largest.shares
   pub reports : limits.reports ≤ largest.reports
+  pub frozen : limits.frozen ≤ largest.frozen
   pub pending : limits.pending ≤ largest.pending
   pub serial : limits.serial ≤ largest.serial
 
@@ -38,7 +40,8 @@ limits_set name n l =
     else (if bytes_eq name (codes "resources") then option_map (λ v. record l { resources = v }) (where_within 10_000 n)
     else (if bytes_eq name (codes "shares") then option_map (λ v. record l { shares = v }) (where_within 100_000 n)
     else (if bytes_eq name (codes "reports") then option_map (λ v. record l { reports = v }) (where_within 100_000 n)
+    else (if bytes_eq name (codes "frozen") then option_map (λ v. record l { frozen = v }) (where_within 100_000 n)
     else (if bytes_eq name (codes "pending") then option_map (λ v. record l { pending = v }) (where_within 100_000 n)
     else (if bytes_eq name (codes "serial") then option_map (λ v. record l { serial = v }) (where_within 9_000_000_000_000_000 n)
     else (if bytes_eq name (codes "trail") then option_map (λ v. record l { trail = v }) (where_within 1_000_000 n)
-    else None))))))))
+    else None)))))))))

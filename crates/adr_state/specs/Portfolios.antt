@@ -13,10 +13,11 @@ use Rattle.adr_state.specs.declared.portfolio.Resource.{Resource}
 use Rattle.adr_state.specs.declared.portfolio.Report.{Report}
 use Rattle.adr_state.specs.declared.keys.ShareKey.{ShareKey}
 use Rattle.adr_state.specs.Keys.{share_cmp, at}
+use Rattle.adr_state.specs.Frozen.{with_frozen}
 
--- the portfolio at first: no vens, resources, shares, reports or subscriptions
+-- the portfolio at first: no vens, resources, shares, reports or subscriptions, and no event that is frozen
 abbrev pub nobody : Portfolio
-nobody = record { vens = []; resources = []; shares = []; reports = []; subs = [] }
+nobody = record { vens = []; resources = []; shares = []; reports = []; subs = []; frozen = []; frozen_shares = [] }
 
 -- ---- with one more, or another at its key: each in its place in the order
 
@@ -54,7 +55,8 @@ reported_on r = r.1.body.head.resource
 abbrev pub is_sub_of : ℕ → Sub → Bool
 is_sub_of ven sub = option_map_or (λ owner. owner == ven) sub.owner false
 
--- without a ven: its resources go, their shares, and the reports on them; and its subscriptions
+-- without a ven: its resources go, their shares, those that are frozen too, and the reports on them; and its
+-- subscriptions
 abbrev pub without_ven : ℕ → Portfolio → Portfolio
 without_ven n p = record p {
   vens = remove_entry (is_at (nat_cmp n)) p.vens;
@@ -62,14 +64,16 @@ without_ven n p = record p {
   shares = filter (λ s. not (is_of_ven n p.resources s.0.resource)) p.shares;
   reports = filter (λ r. not (is_of_ven n p.resources (reported_on r))) p.reports;
   subs = filter (λ s. not (is_sub_of n s.1)) p.subs;
+  frozen_shares = filter (λ s. not (is_of_ven n p.resources s.0.resource)) p.frozen_shares;
 }
 
--- without a resource: its shares go, and the reports on it
+-- without a resource: its shares go, those that are frozen too, and the reports on it
 abbrev pub without_resource : ℕ → Portfolio → Portfolio
 without_resource n p = record p {
   resources = remove_entry (is_at (nat_cmp n)) p.resources;
   shares = filter (λ s. not (s.0.resource == n)) p.shares;
   reports = filter (λ r. not (reported_on r == n)) p.reports;
+  frozen_shares = filter (λ s. not (s.0.resource == n)) p.frozen_shares;
 }
 
 -- without the share of a program and a resource
@@ -86,7 +90,7 @@ without_sub n p = record p { subs = remove_entry (is_at (nat_cmp n)) p.subs }
 
 -- ---- the kinds of change
 
--- one is put at its key, or goes with all that hangs on it
+-- one is put at its key, or goes with all that hangs on it; or an event is frozen with pairs of resources and weights
 pub data PortfolioChange : Type 0 where
   PutVen : ℕ → Ven → PortfolioChange
   DropVen : ℕ → PortfolioChange
@@ -98,6 +102,7 @@ pub data PortfolioChange : Type 0 where
   DropReport : ℕ → PortfolioChange
   PutSub : ℕ → Sub → PortfolioChange
   DropSub : ℕ → PortfolioChange
+  Freeze : List ℕ → List (ℕ × ℕ) → PortfolioChange
 
 -- the portfolio after a change of one of these kinds
 abbrev pub portfolio_after : PortfolioChange → Portfolio → Portfolio
@@ -111,6 +116,7 @@ portfolio_after (PutReport n report) p = with_report n report p
 portfolio_after (DropReport n) p = without_report n p
 portfolio_after (PutSub n sub) p = with_sub n sub p
 portfolio_after (DropSub n) p = without_sub n p
+portfolio_after (Freeze id pairs) p = with_frozen id pairs p
 
 -- a decision is an answer and a change: the answer, and the portfolio after the change
 abbrev pub carried_out : {A : Type 0} → Portfolio → Result (A × PortfolioChange) Refusal → Result (A × Portfolio) Refusal

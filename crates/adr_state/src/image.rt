@@ -1,6 +1,8 @@
 //! A state as a desk tells it, and as one is made of it.
 ghost use Rattle.std.specs.Prelude.{◌≡◌, ◌↔◌, nat_le, IsTrue, IfOk, IfSome, IfNone};
 ghost use Rattle.std.specs.List.{list_all};
+ghost use Rattle.std.specs.Map.{keys_of};
+ghost use Rattle.std.specs.List.Sorted.{IsStrictlySortedBy};
 ghost use Rattle.adr_state.specs.Digits.{most_number};
 ghost use Rattle.adr_state.specs.Fitting.{IsMap, SitesFit, EntriesFit, Fits};
 
@@ -13,9 +15,9 @@ use adr_text::Table;
 use std::alloc::AllocError;
 use std::marker::Model;
 
-/// A state that a desk may hold, whatever it is set to: its vens, resources, shares, reports, subscriptions, marks and
-/// entries are at most as many as the largest limits admit, and no entry was leased more often. How many stamps and ids of
-/// the utility's there are has no limit of its own.
+/// A state that a desk may hold, whatever it is set to: its vens, resources, shares, reports, subscriptions, frozen shares,
+/// marks and entries are at most as many as the largest limits admit, and no entry was leased more often. How many stamps,
+/// ids of the utility's and frozen events there are has no limit of its own.
 pub struct Image {
     state: State,
 }
@@ -45,6 +47,13 @@ fn is_within<K: Ord + Drop, V: Drop>(rows: &Table<K, V>, most: usize) -> bool
     rows.len() <= most
 }
 
+/// The rows are in the order of their keys.
+fn are_in_order<K: Ord + Drop, V: Drop>(rows: &Table<K, V>)
+    ensures { IsStrictlySortedBy K.cmp (keys_of rows.now) }
+{
+    let _ordered = rows.iter();
+}
+
 /// Whether the maps of a portfolio are within the largest limits.
 fn sites_fit(portfolio: &Portfolio) -> bool
     ensures { IsTrue result ↔ SitesFit portfolio.now }
@@ -54,7 +63,9 @@ fn sites_fit(portfolio: &Portfolio) -> bool
     let shares = is_within(&portfolio.shares, 100_000);
     let reports = is_within(&portfolio.reports, 100_000);
     let subs = is_within(&portfolio.subs, 1_000);
-    vens & resources & shares & reports & subs
+    let frozen_shares = is_within(&portfolio.frozen_shares, 100_000);
+    are_in_order(&portfolio.frozen);
+    vens & resources & shares & reports & subs & frozen_shares
 }
 
 /// Whether each entry was leased at most as often as the largest limit admits.

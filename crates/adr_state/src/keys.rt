@@ -22,6 +22,13 @@ pub struct ShareKey {
     pub resource: Number,
 }
 
+/// The key of a share that is frozen: an event, by its upstream id, and a resource.
+#[derive(Clone, PartialEq, Eq, PartialOrd, Ord, Drop)]
+pub struct FrozenKey {
+    pub event: ObjectId,
+    pub resource: Number,
+}
+
 /// The key of what is shown.
 #[derive(Clone, PartialEq, Eq, PartialOrd, Ord)]
 pub enum ViewKey {

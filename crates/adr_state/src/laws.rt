@@ -1,8 +1,8 @@
 //! Laws of what is kept, over all evidence.
-ghost use Rattle.adr_state.specs.Keys.{mirror_cmp, share_cmp, view_cmp};
+ghost use Rattle.adr_state.specs.Keys.{mirror_cmp, share_cmp, frozen_cmp, view_cmp};
 ghost use Rattle.adr_state.specs.Laws.{MarksAreOrdered, JoinsAreGreatest, IsSameOrder};
 
-use crate::keys::{MirrorKey, ShareKey, ViewKey};
+use crate::keys::{FrozenKey, MirrorKey, ShareKey, ViewKey};
 
 /// Nothing known is below every mark, a deletion is below none, and versions are in order between.
 pub fn marks_are_ordered()
@@ -18,5 +18,6 @@ pub fn joins_are_greatest()
 pub fn keys_have_their_orders()
     ensures mirror { IsSameOrder ⟦<MirrorKey as Ord>⟧.cmp mirror_cmp }
     ensures share { IsSameOrder ⟦<ShareKey as Ord>⟧.cmp share_cmp }
+    ensures frozen { IsSameOrder ⟦<FrozenKey as Ord>⟧.cmp frozen_cmp }
     ensures view { IsSameOrder ⟦<ViewKey as Ord>⟧.cmp view_cmp }
 {}

@@ -4,6 +4,7 @@
 
 mod base;
 mod digits;
+mod frozen;
 mod image;
 mod keys;
 pub mod laws;
@@ -22,8 +23,9 @@ mod state;
 
 pub use base::{Base, Mark};
 pub use digits::{MOST_NUMBER, number_in, number_within};
+pub use frozen::{frozen_weight, is_frozen, pairs_kept};
 pub use image::Image;
-pub use keys::{MirrorKey, ShareKey, ViewKey};
+pub use keys::{FrozenKey, MirrorKey, ShareKey, ViewKey};
 pub use limits::{Limit, Limits, Settings};
 pub use lists::push_some;
 pub use mirror::{join, key_of, mark_of, raise};

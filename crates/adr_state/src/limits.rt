@@ -64,6 +64,8 @@ pub struct Limits {
     pub resources: Limit<10_000>,
     pub shares: Limit<100_000>,
     pub reports: Limit<100_000>,
+    /// Shares that are kept for frozen events.
+    pub frozen: Limit<100_000>,
     /// Entries of the outbox.
     pub pending: Limit<100_000>,
     /// The largest number that is drawn.
@@ -112,6 +114,7 @@ impl Limits {
             resources: Limit::largest(),
             shares: Limit::largest(),
             reports: Limit::largest(),
+            frozen: Limit::largest(),
             pending: Limit::largest(),
             serial: Limit::largest(),
             trail: Limit::largest(),
@@ -128,6 +131,7 @@ impl Limits {
         let _resources = self.resources.get();
         let _shares = self.shares.get();
         let _reports = self.reports.get();
+        let _frozen = self.frozen.get();
         let _pending = self.pending.get();
         let _serial = self.serial.get();
     }
@@ -156,6 +160,7 @@ impl Limits {
             "resources" => self.resources = Limit::new(value)?,
             "shares" => self.shares = Limit::new(value)?,
             "reports" => self.reports = Limit::new(value)?,
+            "frozen" => self.frozen = Limit::new(value)?,
             "pending" => self.pending = Limit::new(value)?,
             "serial" => self.serial = Limit::new(value)?,
             "trail" => self.trail = Limit::new(value)?,

@@ -1,6 +1,6 @@
 //! The vens that are enrolled, their resources, the shares of those in programs, the reports on them, and
 //! subscriptions.
-ghost use Rattle.std.specs.Prelude.{◌≡◌, ◌≤◌, ◌<◌, ◌==◌, not, [], length, filter, IsSome, IsTrue, OnOk, OnErr};
+ghost use Rattle.std.specs.Prelude.{◌≡◌, ◌≤◌, ◌<◌, ◌==◌, not, [], length, filter, IsSome, IsTrue, IfOk, OnOk, OnErr};
 ghost use Rattle.std.specs.Ordering.{nat_cmp};
 ghost use Rattle.std.specs.Option.{option_copied};
 ghost use Rattle.std.specs.Map.{remove_entry};
@@ -9,10 +9,10 @@ ghost use Rattle.adr_state.specs.Weights.{is_weight, weight_of, most_weight, mos
 ghost use Rattle.adr_state.specs.Keys.{at};
 ghost use Rattle.adr_state.specs.Portfolios.{nobody, is_of_ven, is_sub_of, without_ven, without_resource};
 
-use crate::keys::ShareKey;
+use crate::keys::{FrozenKey, ShareKey};
 use adr_objects::{Number, ReportBody, ResourceName, Stamps};
 use adr_subscription::Sub;
-use adr_text::{Name, Table};
+use adr_text::{Name, ObjectId, Table};
 use std::alloc::{AllocError, Global};
 use std::collections::btree_map::Iter;
 use std::marker::Model;
@@ -177,13 +177,16 @@ pub struct Report {
 }
 
 /// Who takes part in events, what they report of them, and of what they want to be told.
-#[derive(Clone)]
 pub struct Portfolio {
     pub vens: Table<Number, Ven>,
     pub resources: Resources,
     pub shares: Table<ShareKey, Weight>,
     pub reports: Table<Number, Report>,
     pub subs: Table<Number, Sub>,
+    /// The upstream events that are frozen.
+    pub frozen: Table<ObjectId, ()>,
+    /// The weights that are kept for them.
+    pub frozen_shares: Table<FrozenKey, Weight>,
 }
 
 impl Drop for Portfolio {
@@ -194,6 +197,8 @@ impl Drop for Portfolio {
             shares: _,
             reports: _,
             subs: _,
+            frozen: _,
+            frozen_shares: _,
         } = self;
     }
 }
@@ -217,6 +222,20 @@ fn remove_shares_of_ven(shares: &mut Table<ShareKey, Weight>, resources: &Resour
 
 /// Removes the shares of the resource.
 fn remove_shares_of(shares: &mut Table<ShareKey, Weight>, resource: Number)
+    ensures { shares.new ≡ filter (λ s. not (s.0.resource == resource)) shares.old }
+{
+    shares.retain(|key, _| key.resource != resource)
+}
+
+/// Removes the frozen shares of the ven's resources.
+fn remove_frozen_of_ven(shares: &mut Table<FrozenKey, Weight>, resources: &Resources, ven: Number)
+    ensures { shares.new ≡ filter (λ s. not (is_of_ven ven resources.now s.0.resource)) shares.old }
+{
+    shares.retain(|key, _| !is_of_ven(ven, resources, key.resource))
+}
+
+/// Removes the frozen shares of the resource.
+fn remove_frozen_of(shares: &mut Table<FrozenKey, Weight>, resource: Number)
     ensures { shares.new ≡ filter (λ s. not (s.0.resource == resource)) shares.old }
 {
     shares.retain(|key, _| key.resource != resource)
@@ -264,26 +283,46 @@ impl Portfolio {
             shares: Table::new(alloc),
             reports: Table::new(alloc),
             subs: Table::new(alloc),
+            frozen: Table::new(alloc),
+            frozen_shares: Table::new(alloc),
         }
     }
 
-    /// Removes the ven, its resources, their shares and the reports on them, and its subscriptions.
+    /// The same portfolio again.
+    pub fn copy(&self) -> Result<Portfolio, AllocError>
+        ensures { IfOk result (λ portfolio. portfolio ≡ self.now) }
+    {
+        Ok(Portfolio {
+            vens: self.vens.clone()?,
+            resources: self.resources.clone()?,
+            shares: self.shares.clone()?,
+            reports: self.reports.clone()?,
+            subs: self.subs.clone()?,
+            frozen: self.frozen.clone()?,
+            frozen_shares: self.frozen_shares.clone()?,
+        })
+    }
+
+    /// Removes the ven, its resources, their shares, those that are frozen too, and the reports on them, and its
+    /// subscriptions.
     pub fn remove_ven(&mut self, ven: Number)
         ensures { self.new ≡ without_ven ven self.old }
     {
         remove_subs_of(&mut self.subs, ven);
         remove_reports_of_ven(&mut self.reports, &self.resources, ven);
         remove_shares_of_ven(&mut self.shares, &self.resources, ven);
+        remove_frozen_of_ven(&mut self.frozen_shares, &self.resources, ven);
         self.resources.remove_of(ven);
         self.vens.remove(&ven);
     }
 
-    /// Removes the resource, its shares and the reports on it.
+    /// Removes the resource, its shares, those that are frozen too, and the reports on it.
     pub fn remove_resource(&mut self, resource: Number)
         ensures { self.new ≡ without_resource resource self.old }
     {
         remove_reports_of(&mut self.reports, resource);
         remove_shares_of(&mut self.shares, resource);
+        remove_frozen_of(&mut self.frozen_shares, resource);
         self.resources.remove(resource);
     }
 }

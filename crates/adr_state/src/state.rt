@@ -35,10 +35,17 @@ impl Base {
         Ok(Base {
             mirror: self.mirror.clone()?,
             scan: self.scan.clone()?,
-            portfolio: self.portfolio.clone()?,
+            portfolio: self.portfolio.copy()?,
             serial: self.serial,
         })
     }
+}
+
+/// The same stamps again.
+fn stamps_again(stamps: &Table<ViewKey, Stamps>) -> Result<Table<ViewKey, Stamps>, AllocError>
+    ensures { IfOk result (λ again. again ≡ stamps.now) }
+{
+    stamps.clone()
 }
 
 impl State {
@@ -66,7 +73,7 @@ impl State {
     {
         Ok(State {
             base: self.base.copy()?,
-            stamps: self.stamps.clone()?,
+            stamps: stamps_again(&self.stamps)?,
             outbox: self.outbox.copy()?,
         })
     }

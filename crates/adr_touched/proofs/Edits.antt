@@ -14,7 +14,7 @@ use Rattle.adr_state.specs.Portfolios.{PortfolioChange, PutShare, DropShare, Put
 use Rattle.adr_view.specs.Rollups.{event_key}
 use Rattle.adr_view.proofs.ListLemmas.{in_filter_map}
 use Rattle.adr_refresh.specs.Sources.{Source, Reported, source_cmp, reported_rows}
-use Rattle.adr_refresh.specs.Touched.{is_shared, event_reported, events_touched, reports_touched}
+use Rattle.adr_refresh.specs.Touched.{is_shared, not_frozen, event_reported, events_touched, reports_touched}
 use Rattle.adr_refresh.proofs.Common.{All-cons, All-map, All-nil, Contains, Contains-append_left, Contains-append_right, IsStrictlySortedBy, at, each_there, exact_bytes, exact_unsigned, id_cmp, is_eq, nat_cmp, nat_cmp_total, nat_list_cmp_total, none_sorted, view_cmp}
 use Rattle.adr_refresh.proofs.MapLemmas.{tied}
 use Rattle.adr_db.specs.Bases.{Beside, kept_beside}
@@ -90,9 +90,9 @@ module _ (beside : Beside) (base : Base) (keys : List MirrorKey) where
   pub events_covered : (c : PortfolioChange) → reports_touched c base ≡ [] → HasEvents keys (events_touched c base) → Covers (ChangePortfolio c) base (of_keys keys [])
   events_covered c none events = shared_covered beside base c keys [] events (subst (λ ns. ReportsStood ns kept_then []) (sym none) (none_stood kept_then))
 
-  pub shares_covered : (program : List ℕ) → HasEvents keys (live_events (λ p. bytes_eq p program) kept_then) → CoversShares program base (of_keys keys [])
+  pub shares_covered : (program : List ℕ) → HasEvents keys (not_frozen base.portfolio (live_events (λ p. bytes_eq p program) kept_then)) → CoversShares program base (of_keys keys [])
   shares_covered program events =
-      let of_program : (p : List ℕ) → p ≡ program → HasEvents keys (live_events (λ q. bytes_eq q p) kept_then) = λ p is. subst (λ (p : List ℕ). HasEvents keys (live_events (λ q. bytes_eq q p) kept_then)) (sym is) events in
+      let of_program : (p : List ℕ) → p ≡ program → HasEvents keys (not_frozen base.portfolio (live_events (λ q. bytes_eq q p) kept_then)) = λ p is. subst (λ (p : List ℕ). HasEvents keys (not_frozen base.portfolio (live_events (λ q. bytes_eq q p) kept_then))) (sym is) events in
       record {
         put = λ key weight is. events_covered (PutShare key weight) refl (of_program key.program is);
         dropped = λ key is. events_covered (DropShare key) refl (of_program key.program is);

@@ -2,6 +2,7 @@ pub mod Gathered
 pub mod Tested
 pub mod Statements
 pub mod Found
+pub mod FrozenFound
 pub mod Live
 pub mod Covered
 pub mod Evidence

@@ -1,7 +1,8 @@
 -- What an edit of the portfolio touches, as calls on the tables answer it before the edit.
-use Rattle.std.specs.Prelude.{ℕ, Bool, ◌==◌, List, map, filter}
+use Rattle.std.specs.Prelude.{ℕ, Bool, ◌==◌, List, map, filter, Option, Some, None, if◌then◌else◌}
 use Rattle.std.specs.List.{Contains, filter_map}
 use Rattle.adr_state.specs.declared.keys.MirrorKey.{MirrorKey}
+use Rattle.adr_state.specs.declared.keys.FrozenKey.{FrozenKey}
 use Rattle.adr_state.specs.declared.portfolio.Portfolio.{Portfolio}
 use Rattle.adr_view.specs.Rollups.{event_key}
 use Rattle.adr_refresh.specs.Touched.{live_in}
@@ -22,6 +23,10 @@ live_events passes kept = filter_map (live_in passes) kept.mirror
 -- the programs in which a resource has a share
 abbrev pub programs_of : ℕ → Portfolio → List (List ℕ)
 programs_of n p = map (λ s. s.0.program) (filter (λ s. s.0.resource == n) p.shares)
+
+-- the event in which a share of a resource that passes is frozen
+abbrev pub frozen_by : (ℕ → Bool) → FrozenKey × ℕ → Option (List ℕ)
+frozen_by passes s = if passes s.0.resource then Some s.0.event else None
 
 -- the resources of a ven
 abbrev pub resources_of : ℕ → Portfolio → List ℕ

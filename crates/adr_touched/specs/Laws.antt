@@ -8,7 +8,7 @@ use Rattle.adr_state.specs.Mirror.{joined}
 use Rattle.adr_state.specs.Portfolios.{PortfolioChange, DropVen, is_of_ven}
 use Rattle.adr_db.specs.Bases.{Beside, kept_beside}
 use Rattle.adr_refresh.specs.Sources.{Source, Upstream, Reported, RolledUp}
-use Rattle.adr_refresh.specs.Touched.{one_shares, reports_by, events_touched, reports_touched, touched_by, touched}
+use Rattle.adr_refresh.specs.Touched.{one_shares, has_resource, events_frozen_in, reports_by, events_touched, reports_touched, touched_by, touched}
 use Rattle.adr_mirror.specs.Raises.{HaveRisen}
 use Rattle.adr_touched.specs.Answers.{HasEach, HasEvents, live_events}
 
@@ -23,7 +23,7 @@ AnswersSuffice = (c : PortfolioChange) (base : Base) (keys : List MirrorKey) (nu
 -- so have those of the keys and the numbers that are answered for a ven, where tables hold a base, all that is touched
 -- where it goes
 abbrev pub VenIsCovered : Type 0
-VenIsCovered = (ven : ℕ) (beside : Beside) (base : Base) (keys : List MirrorKey) (numbers : List ℕ) → HasEvents keys (live_events (one_shares base.portfolio ven) (kept_beside beside base))
+VenIsCovered = (ven : ℕ) (beside : Beside) (base : Base) (keys : List MirrorKey) (numbers : List ℕ) → HasEvents keys (live_events (one_shares base.portfolio ven) (kept_beside beside base) ++ events_frozen_in (has_resource base.portfolio ven) base.portfolio)
     → HasEach numbers (reports_by (is_of_ven ven base.portfolio.resources) base.portfolio) → HasEach (sources_of keys numbers) (touched_by (DropVen ven) base)
 
 -- the keys that are answered where evidence joins the mirror have all that it touches

@@ -19,7 +19,8 @@ use adr_text::{Refusal, Rows};
 use sqlite::{Alter, Transaction};
 use std::alloc::Global;
 
-/// What a resource touches that is put: the live events of the programs in which it has a share, and their roll-ups.
+/// What a resource touches that is put: the live events of the programs in which it has a share and those in which a share of
+/// it is frozen, and their roll-ups.
 pub fn touched_by_resource<S: Alter>(
     alloc: Global,
     tx: &mut Transaction<'_, S>,

@@ -5,7 +5,7 @@ ghost use Rattle.adr_db.specs.BaseCalls.{FindsOn};
 ghost use Rattle.adr_db.specs.Calls.{IsOfStore};
 ghost use Rattle.adr_touched.specs.Touched.{CoversShares};
 
-use crate::events::events_of_program;
+use crate::events::events_by_share;
 use crate::ordered::ids_of;
 use crate::touched::{Touched, with_rollups};
 use adr_objects::Kind;
@@ -13,7 +13,7 @@ use adr_text::{ObjectId, Refusal, Rows};
 use sqlite::{Alter, Transaction};
 use std::alloc::Global;
 
-/// What an edit of a share in a program touches: the live events of the program, and their roll-ups.
+/// What an edit of a share in a program touches: the live events of the program that are not frozen, and their roll-ups.
 pub fn touched_by_share<S: Alter>(
     alloc: Global,
     tx: &mut Transaction<'_, S>,
@@ -23,7 +23,7 @@ pub fn touched_by_share<S: Alter>(
     ensures finds { FindsOn S.Store tx.old.conn.now tx.new.conn.now (CoversShares program.now) result }
     ensures refused { IfErr result IsOfStore }
 {
-    let keys = events_of_program(alloc, tx, program)?;
+    let keys = events_by_share(alloc, tx, program)?;
     let events = ids_of(alloc, Kind::Event, keys.as_slice())?;
     Ok(with_rollups(alloc, Rows::new(alloc), events, Rows::new(alloc))?)
 }

@@ -19,8 +19,8 @@ use adr_text::{Refusal, Rows};
 use sqlite::{Alter, Transaction};
 use std::alloc::Global;
 
-/// What a ven touches that is put: the live events of the programs in which a resource of it has a share, and their
-/// roll-ups.
+/// What a ven touches that is put: the live events of the programs in which a resource of it has a share and those in which a
+/// share of one is frozen, and their roll-ups.
 pub fn touched_by_ven<S: Alter>(
     alloc: Global,
     tx: &mut Transaction<'_, S>,

@@ -19,7 +19,12 @@ module _ {S : Type 0} (g : Ghosts S) (old new : Held S) where
   FindsThose program before after result =
       HasCleanDisk (state g new) → OnOk result ((kept : Kept) → Keeps kept (state g old) → AreThoseOf kept before → (after.those ≡ sharers program kept) × AreThoseOf kept after × Keeps kept (state g new))
 
-  -- after Ok, where they were right, the answer is, and so are they still
+  -- after Ok, where they were right, the answer is by what is kept, and so are they still
+  abbrev pub FindsOf : {T E : Type 0} → Sharers → Sharers → (Kept → T → Type 0) → Result T E → Type 0
+  FindsOf before after IsRight result =
+      HasCleanDisk (state g new) → IfOk result (λ x. (kept : Kept) → Keeps kept (state g old) → AreThoseOf kept before → IsRight kept x × AreThoseOf kept after × Keeps kept (state g new))
+
+  -- so it is by the base that is held
   abbrev pub FindsSharing : {T E : Type 0} → Sharers → Sharers → (Base → T → Type 0) → Result T E → Type 0
   FindsSharing before after IsRight result =
       HasCleanDisk (state g new)

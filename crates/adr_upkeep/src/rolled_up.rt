@@ -38,7 +38,7 @@ fn event_rollup<S: Alter>(
     ensures finds { FindsSharing S.Store tx.old.conn.now tx.new.conn.now sharers.old sharers.new (λ base rollup. rollup ≡ rollup_of base.portfolio id.now event.now) result }
     ensures refused { IfErr result IsOfStore }
 {
-    let ps = sharers.participants(alloc, tx, event)?;
+    let ps = sharers.participants(alloc, tx, id, event)?;
     let rows = read_reports_of(alloc, tx, id)?;
     let reports = without_numbers(alloc, rows)?;
     let rs = reporters(alloc, &reports, ps.as_slice())?;

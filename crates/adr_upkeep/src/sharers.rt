@@ -6,10 +6,10 @@ ghost use Rattle.adr_state.specs.Weights.{most_resources};
 ghost use Rattle.adr_sql.specs.Calls.{LeavesLent};
 ghost use Rattle.adr_db.specs.Calls.{IsOfStore};
 ghost use Rattle.adr_db.specs.Kept.{Kept};
-ghost use Rattle.adr_db.specs.Sharing.{those_for};
-ghost use Rattle.adr_upkeep.specs.Sharing.{AreThoseOf, FindsThose, FindsSharing};
+ghost use Rattle.adr_db.specs.Sharing.{sharers, those_for};
+ghost use Rattle.adr_upkeep.specs.Sharing.{AreThoseOf, FindsThose, FindsOf, FindsSharing};
 
-use adr_db_portfolio::read_sharers;
+use adr_db_portfolio::{is_frozen, read_frozen_sharers, read_sharers};
 use adr_objects::{EventBody, NameSet};
 use adr_state::{Participant, is_for, push_some};
 use adr_text::{ObjectId, Refusal, Rows};
@@ -107,16 +107,16 @@ impl Sharers {
         Ok(())
     }
 
-    /// The participants of an event. Those who share in its program are read unless they are known. The store's refusal
-    /// where they are more than resources there may be, which what is kept rules out.
-    pub(crate) fn participants<S: Alter>(
+    // Those who share in the program of an event and for whose names it is. They are read unless they are known. The store's
+    // refusal where they are more than resources there may be, which what is kept rules out.
+    fn sharing<S: Alter>(
         &mut self,
         alloc: Global,
         tx: &mut Transaction<'_, S>,
         event: &EventBody,
     ) -> Result<Rows<Participant>, Refusal>
         ensures lent { LeavesLent S.Store tx.old.conn tx.new.conn result }
-        ensures finds { FindsSharing S.Store tx.old.conn.now tx.new.conn.now self.old self.new (λ base ps. ps ≡ participants base.portfolio event.now) result }
+        ensures finds { FindsOf S.Store tx.old.conn.now tx.new.conn.now self.old self.new (λ kept ps. ps ≡ those_for event.now.resource_names (sharers event.now.program kept)) result }
         ensures few { IfOk result (λ ps. length ps ≤ most_resources) }
         ensures refused { IfErr result IsOfStore }
     {
@@ -126,5 +126,25 @@ impl Sharers {
             return Err(Refusal::Store);
         }
         Ok(Rows::from_vec(ps))
+    }
+
+    /// The participants of the event of an id: of one that is frozen those for whom a weight is kept, and else those who
+    /// share in its program, which are read unless they are known.
+    pub(crate) fn participants<S: Alter>(
+        &mut self,
+        alloc: Global,
+        tx: &mut Transaction<'_, S>,
+        id: &ObjectId,
+        event: &EventBody,
+    ) -> Result<Rows<Participant>, Refusal>
+        ensures lent { LeavesLent S.Store tx.old.conn tx.new.conn result }
+        ensures finds { FindsSharing S.Store tx.old.conn.now tx.new.conn.now self.old self.new (λ base ps. ps ≡ participants base.portfolio id.now event.now) result }
+        ensures few { IfOk result (λ ps. length ps ≤ most_resources) }
+        ensures refused { IfErr result IsOfStore }
+    {
+        if is_frozen(alloc, tx, id)? {
+            return read_frozen_sharers(alloc, tx, id);
+        }
+        self.sharing(alloc, tx, event)
     }
 }

@@ -29,7 +29,7 @@ fn event_rows<S: Alter>(
     if !carries(event) {
         return Ok(Rows::new(alloc));
     }
-    let ps = sharers.participants(alloc, tx, event)?;
+    let ps = sharers.participants(alloc, tx, id, event)?;
     Ok(rows_for(alloc, id, event, ps.as_slice())?)
 }
 

@@ -5,13 +5,18 @@ use Rattle.adr_objects.specs.declared.kind.Kind.TheVariants as kind
 use Rattle.adr_state.specs.declared.keys.MirrorKey.{MirrorKey}
 use Rattle.adr_state.specs.declared.keys.ViewKey.{ViewKey}
 use Rattle.adr_state.specs.declared.keys.ViewKey.TheVariants as key
-use Rattle.adr_state.specs.Keys.{kind_cmp, place_of}
+use Rattle.adr_state.specs.Keys.{frozen_cmp, kind_cmp, place_of}
 use Rattle.adr_view.specs.Rollups.{event_key}
 
 pub share_exact : CmpEqualImpliesEq share_cmp
 share_exact a b h =
     let same : (a.program, a.resource) ≡ (b.program, b.resource) = exact_pairs id_cmp nat_cmp exact_bytes exact_unsigned (a.program, a.resource) (b.program, b.resource) h in
     λ j. record { program = (same j).0; resource = (same j).1 }
+
+pub frozen_exact : CmpEqualImpliesEq frozen_cmp
+frozen_exact a b h =
+    let same : (a.event, a.resource) ≡ (b.event, b.resource) = exact_pairs id_cmp nat_cmp exact_bytes exact_unsigned (a.event, a.resource) (b.event, b.resource) h in
+    λ j. record { event = (same j).0; resource = (same j).1 }
 
 kind_exact : CmpEqualImpliesEq kind_cmp
 kind_exact kind.Program kind.Program h = refl

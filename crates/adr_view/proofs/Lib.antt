@@ -10,4 +10,6 @@ pub mod LawLemmas
 pub mod LatestLemmas
 pub mod ReportedLemmas
 pub mod RollupLemmas
+pub mod MapLemmas
+pub mod FrozenLemmas
 pub mod Quiet

@@ -1,7 +1,7 @@
 -- Lists that are made by map, filter_map and flat_map: what they contain, what holds of each element, and in which order the keys of rows stand.
-use Rattle.std.proofs.Common.{◌≡◌, ℕ, suc, ◌+◌, Bool, true, false, cond, List, [], ◌∷◌, ◌++◌, length, map, filter, Option, Some, None, Ordering, Less, Equal, Greater, refl, sym, ap, ap₂, subst, ◌∙◌, arith}
+use Rattle.std.proofs.Common.{◌≡◌, ℕ, suc, ◌+◌, Bool, true, false, cond, ◌||◌, List, [], ◌∷◌, ◌++◌, length, map, filter, Option, Some, None, Ordering, Less, Equal, Greater, refl, sym, ap, ap₂, subst, ◌∙◌, arith}
 use Rattle.std.specs.Prelude.{IfSome, option_map, slice_get}
-use Rattle.std.specs.List.{filter_map, cons_option, enumerate_from}
+use Rattle.std.specs.List.{filter_map, cons_option, enumerate_from, list_any}
 use Rattle.std.proofs.lemmas.List.Elements.{Contains-append_left, Contains-append_right}
 use Rattle.std.proofs.lemmas.List.FromFn.{length-enumerate_from, get_or-enumerate_from}
 use Rattle.std.proofs.lemmas.Option.{IfSome_then}
@@ -101,6 +101,32 @@ module _ {A B : Type 0} (f : A → Option B) where
       one : (o : Option B) (ys : List B) → map g (cons_option o ys) ≡ cons_option (option_map g o) (map g ys)
       one None ys = refl
       one (Some y) ys = refl
+
+-- where none passes, one that is there does not
+pub none_passes : {A : Type 0} (p : A → Bool) (xs : List A) (x : A) → list_any p xs ≡ false → Contains xs x → p x ≡ false
+none_passes p xs x none = All-contains (λ y. p y ≡ false) xs x (each xs none)
+  where
+    neither : (a b : Bool) → (a || b) ≡ false → (a ≡ false) × (b ≡ false)
+    neither true b h = absurd cc
+    neither false b h = (refl, h)
+
+    each : (ys : List _) → list_any p ys ≡ false → All (λ y. p y ≡ false) ys
+    each [] h = All-nil (λ y. p y ≡ false)
+    each (y ∷ ys) h = let both = neither (p y) (list_any p ys) h in All-cons (λ y. p y ≡ false) y ys both.0 (each ys both.1)
+
+-- and where each fails, none passes
+pub none_of_all : {A : Type 0} (p : A → Bool) (xs : List A) → All (λ x. p x ≡ false) xs → list_any p xs ≡ false
+none_of_all p [] all = refl
+none_of_all p (x ∷ xs) all = ap₂ ◌||◌ (All-head (λ x. p x ≡ false) x xs all) (none_of_all p xs (All-tail (λ x. p x ≡ false) x xs all))
+
+-- alike of each
+pub filter_map_same : {A B : Type 0} (f g : A → Option B) (xs : List A) → All (λ x. f x ≡ g x) xs → filter_map f xs ≡ filter_map g xs
+filter_map_same f g [] h = refl
+filter_map_same f g (x ∷ xs) h = ap₂ cons_option (All-head (λ x. f x ≡ g x) x xs h) (filter_map_same f g xs (All-tail (λ x. f x ≡ g x) x xs h))
+
+pub flat_map_same : {A B : Type 0} (f g : A → List B) (xs : List A) → All (λ x. f x ≡ g x) xs → flat_map f xs ≡ flat_map g xs
+flat_map_same f g [] h = refl
+flat_map_same f g (x ∷ xs) h = ap₂ ◌++◌ (All-head (λ x. f x ≡ g x) x xs h) (flat_map_same f g xs (All-tail (λ x. f x ≡ g x) x xs h))
 
 -- what each is given by its place
 pub map_by_place : {A B : Type 0} (f : A → Option B) (xs : List A) (ys : List B) → length ys ≡ length xs → ((k : ℕ) (x : A) → slice_get xs k ≡ Some x → f x ≡ slice_get ys k) → map f xs ≡ map (λ y. Some y) ys

@@ -4,7 +4,6 @@ use Rattle.std.specs.List.{filter_map}
 use Rattle.adr_state.specs.declared.keys.ViewKey.{ViewKey}
 use Rattle.adr_state.specs.Keys.{view_cmp, at}
 use Rattle.adr_view.specs.declared.view.Content.{Content}
-use Rattle.adr_view.specs.declared.changes.Change.{Change}
 use Rattle.adr_view.specs.Changes.{change_by, both_keys, changes}
 use Rattle.adr_view.proofs.LawLemmas.{contents_equal}
 

@@ -5,7 +5,7 @@ use Rattle.std.specs.List.{enumerate_from}
 use Rattle.std.proofs.lemmas.Cmp.{nat_list_cmp_total, tied_itself}
 use Rattle.std.proofs.lemmas.Map.Views.{lookup-from_Contains}
 use Rattle.std.proofs.lemmas.Option.{same_Some, slice_get_read}
-use Rattle.adr_view.proofs.Common.{Contains, keys_of, is_eq, nat_cmp, nat_cmp_total, eq_by_cmp_equiv, false≢true, exact_unsigned, tells_apart, Contains-from_lookup, IsDistinct-from_sorted, at, share_cmp, mirror_cmp, view_cmp, Base}
+use Rattle.adr_view.proofs.Common.{Contains, keys_of, is_eq, nat_cmp, nat_cmp_total, eq_by_cmp_equiv, false≢true, exact_unsigned, tells_apart, Contains-from_lookup, IsDistinct-from_sorted, IsStrictlySortedBy, at, mirror_cmp, view_cmp, Base}
 use Rattle.adr_objects.specs.declared.body.Body.TheVariants as body
 use Rattle.adr_objects.specs.declared.body.EventBody.{EventBody}
 use Rattle.adr_objects.specs.declared.shown.ShownEvent.{ShownEvent}
@@ -17,7 +17,7 @@ use Rattle.adr_state.specs.declared.participants.Participant.{Participant}
 use Rattle.adr_state.specs.declared.portfolio.Portfolio.{Portfolio}
 use Rattle.adr_state.specs.declared.portfolio.Resource.{Resource}
 use Rattle.adr_state.specs.declared.portfolio.Ven.{Ven}
-use Rattle.adr_state.specs.Participants.{is_for, participant_of, participants}
+use Rattle.adr_state.specs.Participants.{weight_in, participant_of, participants}
 use Rattle.adr_view.specs.declared.report.Reported.{Reported}
 use Rattle.adr_view.specs.declared.view.Content.{Content}
 use Rattle.adr_view.specs.declared.view.Content.TheVariants as content
@@ -33,21 +33,32 @@ use Rattle.adr_view.proofs.ShownLemmas.{view_total, shown_in_order, keys_shown, 
 -- ---- who takes part
 
 -- a participant is one of its resource
-abbrev IsOf : ℕ × Resource → Participant → Type 0
+abbrev pub IsOf : ℕ × Resource → Participant → Type 0
 IsOf r p = (p.resource ≡ r.0) × (p.name ≡ r.1.name)
 
-its_own : (portfolio : Portfolio) (event : EventBody) (r : ℕ × Resource) → IfSome (participant_of portfolio event r) (IsOf r)
-its_own portfolio event r = by (is_for event.resource_names r.1.name) (at share_cmp (record { program = event.program; resource = r.0 }) portfolio.shares) (at nat_cmp r.1.ven portfolio.vens)
+its_own : (portfolio : Portfolio) (id : List ℕ) (event : EventBody) (r : ℕ × Resource) → IfSome (participant_of portfolio id event r) (IsOf r)
+its_own portfolio id event r = by (weight_in portfolio id event r) (at nat_cmp r.1.ven portfolio.vens)
   where
-    by : (b : Bool) (weight : Option ℕ) (ven : Option Ven)
-        → IfSome (cond b (option_and_then (λ (w : ℕ). option_map (λ (v : Ven). record { resource = r.0; weight = w; name = r.1.name; ven_name = v.name }) ven) weight) None) (IsOf r)
-    by true None ven = tt
-    by true (Some w) None = tt
-    by true (Some w) (Some v) = (refl, refl)
-    by false weight ven = tt
+    by : (weight : Option ℕ) (ven : Option Ven) → IfSome (option_and_then (λ (w : ℕ). option_map (λ (v : Ven). record { resource = r.0; weight = w; name = r.1.name; ven_name = v.name }) ven) weight) (IsOf r)
+    by None ven = tt
+    by (Some w) None = tt
+    by (Some w) (Some v) = (refl, refl)
 
-own_of : (portfolio : Portfolio) (event : EventBody) (r : ℕ × Resource) (p : Participant) → participant_of portfolio event r ≡ Some p → IsOf r p
-own_of portfolio event r p is = subst (λ o. IfSome o (IsOf r)) is (its_own portfolio event r)
+pub own_of : (portfolio : Portfolio) (id : List ℕ) (event : EventBody) (r : ℕ × Resource) (p : Participant) → participant_of portfolio id event r ≡ Some p → IsOf r p
+own_of portfolio id event r p is = subst (λ o. IfSome o (IsOf r)) is (its_own portfolio id event r)
+
+-- a resource is one of those who take part, where one of its number is
+pub one_of_number : (portfolio : Portfolio) → IsStrictlySortedBy nat_cmp (keys_of portfolio.resources) → (id : List ℕ) (event : EventBody) (n : ℕ) (r : Resource) → at nat_cmp n portfolio.resources ≡ Some r → Contains (map (λ p. p.resource) (participants portfolio id event)) n
+    → IsSome (participant_of portfolio id event (n, r))
+one_of_number portfolio rise id event n r known there =
+    let p = from_map (λ (p : Participant). p.resource) (participants portfolio id event) n there in
+    let x = from_filter_map (participant_of portfolio id event) portfolio.resources p.0 p.1 in
+    let number : x.0.0 ≡ n = sym (p.2 ∙ (own_of portfolio id event x.0 p.0 x.2).0) in
+    let found : at nat_cmp x.0.0 portfolio.resources ≡ Some x.0.1 =
+    lookup-from_Contains (eq_by_cmp_equiv nat_cmp_total) x.0.0 x.0.1 portfolio.resources (IsDistinct-from_sorted nat_cmp (keys_of portfolio.resources) rise) x.1 in
+    let same : x.0.1 ≡ r = same_Some x.0.1 r (sym found ∙ ap (λ m. at nat_cmp m portfolio.resources) number ∙ known) in
+    let whole : x.0 ≡ (n, r) = λ i. (number i, same i) in
+    ap (λ o. is_some o) (sym (ap (participant_of portfolio id event) whole) ∙ x.2)
 
 module _ (base : Base) (stands : StandsInOrder base) (id : List ℕ) where
   -- ---- the keys of the event in the view
@@ -70,26 +81,18 @@ module _ (base : Base) (stands : StandsInOrder base) (id : List ℕ) where
 
     module _ (event : EventBody) where
       abbrev ps : List Participant
-      ps = participants base.portfolio event
+      ps = participants base.portfolio id event
 
       abbrev row : ℕ × Participant → ViewKey × Content
       row = event_row id event (map (split_interval (weights_of ps)) event.intervals)
 
       -- the resource takes part, where it is a participant
-      takes_part : (p : Participant) → participant_of base.portfolio event (n, r) ≡ Some p → Contains ps p
-      takes_part p is = in_filter_map (participant_of base.portfolio event) base.portfolio.resources (n, r) p is (Contains-from_lookup (tells_apart exact_unsigned) n r base.portfolio.resources known)
+      takes_part : (p : Participant) → participant_of base.portfolio id event (n, r) ≡ Some p → Contains ps p
+      takes_part p is = in_filter_map (participant_of base.portfolio id event) base.portfolio.resources (n, r) p is (Contains-from_lookup (tells_apart exact_unsigned) n r base.portfolio.resources known)
 
       -- and is one, where one of its number takes part
-      is_one : Contains (map (λ p. p.resource) ps) n → IsSome (participant_of base.portfolio event (n, r))
-      is_one there =
-          let p = from_map (λ (p : Participant). p.resource) ps n there in
-          let x = from_filter_map (participant_of base.portfolio event) base.portfolio.resources p.0 p.1 in
-          let number : x.0.0 ≡ n = sym (p.2 ∙ (own_of base.portfolio event x.0 p.0 x.2).0) in
-          let found : at nat_cmp x.0.0 base.portfolio.resources ≡ Some x.0.1 =
-          lookup-from_Contains (eq_by_cmp_equiv nat_cmp_total) x.0.0 x.0.1 base.portfolio.resources (IsDistinct-from_sorted nat_cmp (keys_of base.portfolio.resources) stands.resources) x.1 in
-          let same : x.0.1 ≡ r = same_Some x.0.1 r (sym found ∙ ap (λ m. at nat_cmp m base.portfolio.resources) number ∙ known) in
-          let whole : x.0 ≡ (n, r) = λ i. (number i, same i) in
-          ap (λ o. is_some o) (sym (ap (participant_of base.portfolio event) whole) ∙ x.2)
+      is_one : Contains (map (λ p. p.resource) ps) n → IsSome (participant_of base.portfolio id event (n, r))
+      is_one = one_of_number base.portfolio stands.resources id event n r known
 
       -- what a participant is shown is among the rows
       its_row : (p : Participant) → Contains ps p → (k : ℕ) × Contains (rows_for id event ps) (row (k, p))
@@ -112,13 +115,13 @@ module _ (base : Base) (stands : StandsInOrder base) (id : List ℕ) where
     on_event event = record { event = id; program = event.program; resource = n; resource_name = r.name }
 
     event_shown : (event : EventBody) (on : Reported) → reported_of base.portfolio (n, r) id event ≡ Some on → HaveShown (event_rows base id event) on
-    event_shown event on = by (carries event) (participant_of base.portfolio event (n, r)) refl
+    event_shown event on = by (carries event) (participant_of base.portfolio id event (n, r)) refl
       where
-        by : (b : Bool) (o : Option Participant) → participant_of base.portfolio event (n, r) ≡ o → cond (b && is_some o) (Some (on_event event)) None ≡ Some on → HaveShown (cond b (rows_for id event (ps event)) []) on
+        by : (b : Bool) (o : Option Participant) → participant_of base.portfolio id event (n, r) ≡ o → cond (b && is_some o) (Some (on_event event)) None ≡ Some on → HaveShown (cond b (rows_for id event (ps event)) []) on
         by false o is h = absurd (cc)
         by true None is h = absurd (cc)
         by true (Some p) is h =
-            let own : IsOf (n, r) p = own_of base.portfolio event (n, r) p is in
+            let own : IsOf (n, r) p = own_of base.portfolio id event (n, r) p is in
             let there = its_row event p (takes_part event p is) in
             let its : on_event event ≡ on = same_Some (on_event event) on h in
             let shown : ShownEvent = record {
@@ -143,9 +146,9 @@ module _ (base : Base) (stands : StandsInOrder base) (id : List ℕ) where
     event_reported : (event : EventBody) (c : Content) → Contains (event_rows base id event) (key.Event id n, c) → IsSome (reported_of base.portfolio (n, r) id event)
     event_reported event c = by (carries event)
       where
-        by : (b : Bool) → Contains (cond b (rows_for id event (ps event)) []) (key.Event id n, c) → IsSome (cond (b && is_some (participant_of base.portfolio event (n, r))) (Some (on_event event)) None)
+        by : (b : Bool) → Contains (cond b (rows_for id event (ps event)) []) (key.Event id n, c) → IsSome (cond (b && is_some (participant_of base.portfolio id event (n, r))) (Some (on_event event)) None)
         by false there = absurd (omega (arith, there.1))
-        by true there = let some : is_some (participant_of base.portfolio event (n, r)) ≡ true = is_one event (its_number event c there) in rw some refl
+        by true there = let some : is_some (participant_of base.portfolio id event (n, r)) ≡ true = is_one event (its_number event c there) in rw some refl
 
     -- ---- of what is known of its key
 

@@ -165,5 +165,5 @@ all_apart reports (p ∷ ps) rise =
 pub counts_each_once : RollupsCountEachOnce
 counts_each_once = record {
   each_by_its_latest = each_counts;
-  each_report_of_one = λ base id event stands. all_apart (reports_of id base.portfolio.reports) (participants base.portfolio event) (participants_rise base stands event);
+  each_report_of_one = λ base id event stands. all_apart (reports_of id base.portfolio.reports) (participants base.portfolio id event) (participants_rise base stands id event);
 }

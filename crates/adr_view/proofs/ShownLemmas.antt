@@ -1,9 +1,9 @@
 -- The view as it is made: the rows of each mark as they stand, and among them those of one event.
-use Rattle.std.proofs.Common.{◌≡◌, ◌≤◌, ◌<◌, ℕ, ◌+◌, Bool, true, false, cond, List, [], ◌∷◌, ◌++◌, map, filter, Option, Some, None, refl, sym, ap, subst, ◌∙◌, arith}
+use Rattle.std.proofs.Common.{◌≡◌, ◌≤◌, ◌<◌, ℕ, ◌+◌, Bool, false, cond, List, [], ◌∷◌, ◌++◌, map, filter, Option, Some, None, refl, sym, ap, subst, ◌∙◌, arith}
 use Rattle.std.specs.Prelude.{IfSome, option_map, option_and_then}
 use Rattle.std.specs.List.{enumerate_from}
 use Rattle.std.proofs.lemmas.Cmp.{nat_list_cmp_total, tied_itself}
-use Rattle.adr_view.proofs.Common.{All, All-append, All-contains, All-map, All-weaker, append-nil, filter-append, flat_map, IsStrictlySortedBy, IsTotalOrder, keys_of, cond_both, nat_cmp, is_eq, Base, at, mirror_cmp, share_cmp, view_cmp, map-map}
+use Rattle.adr_view.proofs.Common.{All, All-append, All-contains, All-map, All-weaker, append-nil, filter-append, flat_map, IsStrictlySortedBy, IsTotalOrder, keys_of, cond_both, nat_cmp, is_eq, Base, at, mirror_cmp, view_cmp, map-map}
 use Rattle.adr_objects.specs.declared.body.EventBody.{EventBody}
 use Rattle.adr_objects.specs.declared.kind.Kind.{Kind}
 use Rattle.adr_objects.specs.declared.kind.Kind.TheVariants as kind
@@ -13,12 +13,13 @@ use Rattle.adr_state.specs.declared.base.Mark.{Mark}
 use Rattle.adr_state.specs.declared.keys.MirrorKey.{MirrorKey}
 use Rattle.adr_state.specs.declared.keys.ViewKey.{ViewKey}
 use Rattle.adr_state.specs.declared.keys.ViewKey.TheVariants as key
+use Rattle.adr_state.specs.declared.portfolio.Portfolio.{Portfolio}
 use Rattle.adr_state.specs.declared.portfolio.Resource.{Resource}
 use Rattle.adr_state.specs.declared.portfolio.Ven.{Ven}
 use Rattle.adr_state.specs.declared.portfolio.Report.{Report}
 use Rattle.adr_state.specs.Keys.{place_of}
 use Rattle.adr_state.specs.declared.participants.Participant.{Participant}
-use Rattle.adr_state.specs.Participants.{is_for, participant_of, participants}
+use Rattle.adr_state.specs.Participants.{weight_in, participant_of, participants}
 use Rattle.adr_state.proofs.KeyLemmas.{view_order}
 use Rattle.adr_view.specs.declared.parts.SplitInterval.{SplitInterval}
 use Rattle.adr_view.specs.declared.view.Content.{Content}
@@ -46,27 +47,29 @@ pub keys_shown : (id : List ℕ) (event : EventBody) (is : List SplitInterval) (
 keys_shown id event is n [] = refl
 keys_shown id event is n (p ∷ ps) = ap (λ ks. key.Event id p.resource ∷ ks) (keys_shown id event is (n + 1) ps)
 
-module _ (base : Base) (stands : StandsInOrder base) where
+module _ (portfolio : Portfolio) (rise : IsStrictlySortedBy nat_cmp (keys_of portfolio.resources)) where
   abbrev by_number : Participant → ℕ × Participant
   by_number p = (p.resource, p)
 
   -- participants stand in the order of their numbers
-  pub participants_rise : (event : EventBody) → IsStrictlySortedBy nat_cmp (map (λ p. p.resource) (participants base.portfolio event))
-  participants_rise event =
-      let one : ℕ × Resource → Option (ℕ × Participant) = λ r. option_map by_number (participant_of base.portfolio event r) in
+  pub by_number_rise : (id : List ℕ) (event : EventBody) → IsStrictlySortedBy nat_cmp (map (λ p. p.resource) (participants portfolio id event))
+  by_number_rise id event =
+      let one : ℕ × Resource → Option (ℕ × Participant) = λ r. option_map by_number (participant_of portfolio id event r) in
       subst (IsStrictlySortedBy nat_cmp)
-      (ap keys_of (sym (map_filter_map (participant_of base.portfolio event) by_number one base.portfolio.resources (λ i d l. refl))) ∙ map-map (λ (e : ℕ × Participant). e.0) by_number (participants base.portfolio event))
-      (in_order_filter_map nat_cmp one own base.portfolio.resources stands.resources)
+      (ap keys_of (sym (map_filter_map (participant_of portfolio id event) by_number one portfolio.resources (λ i d l. refl))) ∙ map-map (λ (e : ℕ × Participant). e.0) by_number (participants portfolio id event))
+      (in_order_filter_map nat_cmp one own portfolio.resources rise)
     where
-      own : (r : ℕ × Resource) → IfSome (option_map by_number (participant_of base.portfolio event r)) (λ e. e.0 ≡ r.0)
-      own r = by (is_for event.resource_names r.1.name) (at share_cmp (record { program = event.program; resource = r.0 }) base.portfolio.shares) (at nat_cmp r.1.ven base.portfolio.vens)
+      own : (r : ℕ × Resource) → IfSome (option_map by_number (participant_of portfolio id event r)) (λ e. e.0 ≡ r.0)
+      own r = by (weight_in portfolio id event r) (at nat_cmp r.1.ven portfolio.vens)
         where
-          by : (b : Bool) (weight : Option ℕ) (ven : Option Ven)
-              → IfSome (option_map by_number (cond b (option_and_then (λ (w : ℕ). option_map (λ (v : Ven). record { resource = r.0; weight = w; name = r.1.name; ven_name = v.name }) ven) weight) None)) (λ e. e.0 ≡ r.0)
-          by true None ven = tt
-          by true (Some w) None = tt
-          by true (Some w) (Some v) = refl
-          by false weight ven = tt
+          by : (weight : Option ℕ) (ven : Option Ven) → IfSome (option_map by_number (option_and_then (λ (w : ℕ). option_map (λ (v : Ven). record { resource = r.0; weight = w; name = r.1.name; ven_name = v.name }) ven) weight)) (λ e. e.0 ≡ r.0)
+          by None ven = tt
+          by (Some w) None = tt
+          by (Some w) (Some v) = refl
+
+module _ (base : Base) (stands : StandsInOrder base) where
+  pub participants_rise : (id : List ℕ) (event : EventBody) → IsStrictlySortedBy nat_cmp (map (λ p. p.resource) (participants base.portfolio id event))
+  participants_rise = by_number_rise base.portfolio stands.resources
 
   program_in_order : (id name : List ℕ) → InOrder view_cmp (program_rows id name)
   unfolding IsStrictlySortedBy
@@ -74,9 +77,9 @@ module _ (base : Base) (stands : StandsInOrder base) where
 
   event_in_order : (id : List ℕ) (event : EventBody) → InOrder view_cmp (event_rows base id event)
   event_in_order id event =
-      let ps = participants base.portfolio event in
+      let ps = participants base.portfolio id event in
       let keys : IsStrictlySortedBy view_cmp (map (λ k. key.Event id k) (map (λ p. p.resource) ps)) =
-      sorted_map nat_cmp view_cmp (λ k. key.Event id k) (λ m n less. rw (tied_itself nat_list_cmp_total id) less) (map (λ p. p.resource) ps) (participants_rise event) in
+      sorted_map nat_cmp view_cmp (λ k. key.Event id k) (λ m n less. rw (tied_itself nat_list_cmp_total id) less) (map (λ p. p.resource) ps) (participants_rise id event) in
       cond_both (carries event) (rows_for id event ps) [] (InOrder view_cmp) (λ some. subst (IsStrictlySortedBy view_cmp) (sym (keys_shown id event _ 0 ps)) keys) (λ none. none_sorted view_cmp)
 
 -- ---- reports and roll-ups

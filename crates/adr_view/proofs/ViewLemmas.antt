@@ -47,7 +47,7 @@ module _ (base : Base) where
   each_by_mark P program event =
       by_mark (λ k rows. All (P k) rows) (λ k. All-nil (P k)) (λ id name. let it : MirrorKey = record { kind = kind.Program; id = id } in All-cons (P it) (key.Program id, content.Program name) [] (program id name) (All-nil (P it))) (λ id shown.
       let it : MirrorKey = record { kind = kind.Event; id = id } in
-      let ps : List Participant = participants base.portfolio shown in
+      let ps : List Participant = participants base.portfolio id shown in
       let row : ℕ × Participant → ViewKey × Content = event_row id shown (map (split_interval (weights_of ps)) shown.intervals) in
       cond_both (carries shown) (rows_for id shown ps) [] (All (P it)) (λ some. All-map (P it) row (enumerate_from 0 ps) (each_there (λ p. P it (row p)) (enumerate_from 0 ps) (λ p there. event id shown (map (split_interval (weights_of ps)) shown.intervals) p))) (λ none. All-nil (P it)))
 

@@ -1,6 +1,6 @@
 -- Laws of what is shown, whatever the definitions are given.
-use Rattle.std.specs.Prelude.{◌≡◌, ◌≤◌, ℕ, ℤ, Bool, false, List, filter, None, Some, option_map, IsSome, IfSome, IsSomeAnd}
-use Rattle.std.specs.List.{All, AllPairs, Contains, filter_map}
+use Rattle.std.specs.Prelude.{◌≡◌, ◌≤◌, ℕ, ℤ, Bool, true, false, List, filter, None, Some, option_map, IsSome, IfSome, IsSomeAnd, IfOk}
+use Rattle.std.specs.List.{All, AllPairs, Contains, filter_map, list_any}
 use Rattle.std.specs.Bool.{Decides}
 use Rattle.std.specs.List.Sorted.{IsStrictlySortedBy}
 use Rattle.std.specs.Map.{keys_of}
@@ -16,15 +16,22 @@ use Rattle.adr_state.specs.declared.keys.ViewKey.{ViewKey}
 use Rattle.adr_state.specs.declared.keys.ViewKey.TheVariants as key
 use Rattle.adr_state.specs.declared.portfolio.Resource.{Resource}
 use Rattle.adr_state.specs.declared.portfolio.Report.{Report}
+use Rattle.adr_state.specs.declared.keys.ShareKey.{ShareKey}
+use Rattle.adr_state.specs.declared.limits.Limits.{Limits}
+use Rattle.adr_state.specs.declared.portfolio.Portfolio.{Portfolio}
+use Rattle.adr_state.specs.BaseChanges.{ChangePortfolio, changed}
+use Rattle.adr_state.specs.Frozen.{is_frozen, with_frozen}
 use Rattle.adr_state.specs.Keys.{id_cmp, mirror_cmp, view_cmp, at}
 use Rattle.adr_state.specs.Participants.{participants}
+use Rattle.adr_state.specs.Portfolios.{PortfolioChange, portfolio_after, with_share, without_share}
 use Rattle.adr_view.specs.declared.report.Reported.{Reported}
 use Rattle.adr_view.specs.declared.rollup.Reporter.{Reporter}
 use Rattle.adr_view.specs.declared.view.Content.{Content}
 use Rattle.adr_view.specs.declared.view.Content.TheVariants as content
 use Rattle.adr_view.specs.Same.{is_same_content}
+use Rattle.adr_view.specs.Frozen.{pairs_of, mark_differs, freeze}
 use Rattle.adr_view.specs.Reports.{reported_by}
-use Rattle.adr_view.specs.Rollups.{value_in, latest_of, latest, reports_of, reporters, rollup_for, rollup_at}
+use Rattle.adr_view.specs.Rollups.{value_in, latest_of, latest, reports_of, reporters, rollup_for, event_at, rollup_at}
 use Rattle.adr_view.specs.Views.{split_interval, shown_of, view}
 
 -- two contents count as the same exactly where they are equal
@@ -114,4 +121,33 @@ HaveNoneInCommon a b = (report : Report) → Contains a.reports report → Conta
 -- where rows stand in order, no report of an event is of two of its participants
 pub record RollupsCountEachOnce : Type 0 where
   pub each_by_its_latest : (event : EventBody) (rs : List Reporter) → IfSome (rollup_for event rs) (λ rollup. All (CountsEachOnce rs) rollup.intervals)
-  pub each_report_of_one : (base : Base) (id : List ℕ) (event : EventBody) → StandsInOrder base → AllPairs HaveNoneInCommon (reporters (reports_of id base.portfolio.reports) (participants base.portfolio event))
+  pub each_report_of_one : (base : Base) (id : List ℕ) (event : EventBody) → StandsInOrder base → AllPairs HaveNoneInCommon (reporters (reports_of id base.portfolio.reports) (participants base.portfolio id event))
+
+-- ---- freezing
+
+-- those who take part in each live event stay, with their weights
+abbrev pub LeavesWhoTakesPart : Base → PortfolioChange → Type 0
+LeavesWhoTakesPart base change = (id : List ℕ) (event : EventBody) → event_at base.mirror id ≡ Some event → participants base.portfolio id event ≡ participants (portfolio_after change base.portfolio) id event
+
+-- what is decided of an event that is frozen leaves who takes part in it, and in each other, and all that is shown
+pub record FreezingLeavesAll : Type 0 where
+  pub who_takes_part : (limits : Limits) (id : List ℕ) (base : Base) → IfOk (freeze limits id base.mirror base.portfolio) (λ d. LeavesWhoTakesPart base d.1)
+  pub what_is_shown : (limits : Limits) (id : List ℕ) (base : Base) → IfOk (freeze limits id base.mirror base.portfolio) (λ d. view base ≡ view (changed (ChangePortfolio d.1) base))
+
+-- where rows stand in order, no others take part in a live event once it is frozen with the pairs of those who do: so it
+-- is refused only for want of room
+abbrev pub FreezingKeepsWhoTakesPart : Type 0
+FreezingKeepsWhoTakesPart = (base : Base) (id : List ℕ) (event : EventBody) → StandsInOrder base → event_at base.mirror id ≡ Some event
+    → list_any (mark_differs id (pairs_of (participants base.portfolio id event)) base.portfolio) base.mirror ≡ false
+
+-- of an event that is frozen those who take part stay, whatever body it has, whatever share is put or goes, and where it
+-- is frozen again
+pub record FrozenStay (p : Portfolio) (id : List ℕ) : Type 0 where
+  pub whatever_body : (one other : EventBody) → participants p id one ≡ participants p id other
+  pub whatever_share : (key : ShareKey) (weight : ℕ) (event : EventBody) → participants p id event ≡ participants (with_share key weight p) id event
+  pub without_a_share : (key : ShareKey) (event : EventBody) → participants p id event ≡ participants (without_share key p) id event
+  pub frozen_again : (pairs : List (ℕ × ℕ)) → with_frozen id pairs p ≡ p
+
+-- an event that is frozen keeps those who take part against any other body and any edit of shares
+abbrev pub FrozenIsKept : Type 0
+FrozenIsKept = (p : Portfolio) (id : List ℕ) → is_frozen p id ≡ true → FrozenStay p id

@@ -2,6 +2,7 @@ pub mod Rollups
 pub mod Views
 pub mod Sights
 pub mod Subs
+pub mod Frozen
 pub mod Reports
 pub mod Same
 pub mod Changes

@@ -29,13 +29,13 @@ use Rattle.adr_view.specs.Sights.{sees_ven}
 -- ---- what a report is on
 
 -- whether an event is shown to a resource: it carries a setpoint, and the resource takes part in it
-abbrev pub is_shown_to : Portfolio → EventBody → ℕ × Resource → Bool
-is_shown_to p event r = carries event && is_some (participant_of p event r)
+abbrev pub is_shown_to : Portfolio → List ℕ → EventBody → ℕ × Resource → Bool
+is_shown_to p id event r = carries event && is_some (participant_of p id event r)
 
 -- what a report may be on: an upstream event and a resource, with the event's program and the resource's name, where
 -- the event is shown to it
 abbrev pub reported_of : Portfolio → ℕ × Resource → List ℕ → EventBody → Option Reported
-reported_of p r id event = if is_shown_to p event r then Some (record { event = id; program = event.program; resource = r.0; resource_name = r.1.name }) else None
+reported_of p r id event = if is_shown_to p id event r then Some (record { event = id; program = event.program; resource = r.0; resource_name = r.1.name }) else None
 
 -- what a report on a resource may be on, by the event's upstream id, where that event is live and shown to it
 abbrev pub reported_by : List (MirrorKey × Mark) → Portfolio → List ℕ → ℕ × Resource → Option Reported

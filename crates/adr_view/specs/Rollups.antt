@@ -117,7 +117,7 @@ rollup_for event rs =
 
 -- the roll-up of an event over its participants
 abbrev pub rollup_of : Portfolio → List ℕ → EventBody → Option Rollup
-rollup_of p id event = rollup_for event (reporters (reports_of id p.reports) (participants p event))
+rollup_of p id event = rollup_for event (reporters (reports_of id p.reports) (participants p id event))
 
 -- the upstream key of an event
 abbrev pub event_key : List ℕ → MirrorKey

@@ -62,7 +62,7 @@ carries event = list_any (λ i. is_some i.setpoint) event.intervals
 
 -- what the participants of an event are shown, where it carries a setpoint, else nothing
 abbrev pub event_rows : Base → List ℕ → EventBody → List (ViewKey × Content)
-event_rows base id event = if carries event then rows_for id event (participants base.portfolio event) else []
+event_rows base id event = if carries event then rows_for id event (participants base.portfolio id event) else []
 
 -- what is shown of a program
 abbrev pub program_rows : List ℕ → List ℕ → List (ViewKey × Content)

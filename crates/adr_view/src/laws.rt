@@ -1,5 +1,5 @@
 //! Laws of what is shown.
-ghost use Rattle.adr_view.specs.Laws.{SameContentsAreEqual, PartsSumUp, ShownIsOfTheView, ReportsAndRollupsAreShown, LatestIsOfGreatestRevision, ReportsAreOnTheShown, RollupsCountEachOnce};
+ghost use Rattle.adr_view.specs.Laws.{SameContentsAreEqual, PartsSumUp, ShownIsOfTheView, ReportsAndRollupsAreShown, LatestIsOfGreatestRevision, ReportsAreOnTheShown, RollupsCountEachOnce, FreezingLeavesAll, FreezingKeepsWhoTakesPart, FrozenIsKept};
 
 /// Two contents count as the same exactly where they are equal, so no change is missed or made up.
 pub fn same_contents_are_equal()
@@ -38,4 +38,21 @@ pub fn reports_are_on_the_shown()
 /// is of two of its participants, so no value is counted twice.
 pub fn rollups_count_each_once()
     ensures { RollupsCountEachOnce }
+{}
+
+/// Freezing an event changes who takes part in no live event, no weight, and nothing of what is shown.
+pub fn freezing_leaves_all()
+    ensures { FreezingLeavesAll }
+{}
+
+/// Where rows stand in order, the pairs of those who take part in an event keep them: so freezing it is refused only
+/// where there is no room for the pairs.
+pub fn freezing_keeps_who_takes_part()
+    ensures { FreezingKeepsWhoTakesPart }
+{}
+
+/// Who takes part in a frozen event, and with which weights, stays whatever body it has and whatever share is put or goes;
+/// and freezing it again changes nothing.
+pub fn frozen_is_kept()
+    ensures { FrozenIsKept }
 {}

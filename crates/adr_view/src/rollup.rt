@@ -276,7 +276,7 @@ pub fn rollup_of(
 ) -> Result<Option<Rollup>, AllocError>
     ensures { IfOk result (λ rollup. rollup ≡ rollup_of portfolio.now id.now event.now) }
 {
-    let ps = participants_of(alloc, portfolio, event)?;
+    let ps = participants_of(alloc, portfolio, id, event)?;
     let reports = reports_of(alloc, id, &portfolio.reports)?;
     let rs = reporters(alloc, &reports, &ps)?;
     rollup_for(alloc, event, &rs)

@@ -183,7 +183,7 @@ fn put_event(
     if !carries(event) {
         return Ok(());
     }
-    let ps = participants_of(alloc, &base.portfolio, event)?;
+    let ps = participants_of(alloc, &base.portfolio, id, event)?;
     put_rows(view, rows_for(alloc, id, event, &ps)?)
 }
 

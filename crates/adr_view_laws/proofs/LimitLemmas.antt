@@ -1,5 +1,5 @@
 -- A step leaves a state that is within the limits of its node.
-use Rattle.std.proofs.Common.{◌≡◌, ℕ, ◌+◌, ◌≤◌, Bool, true, false, ◌==◌, inl, inr, List, [], ◌∷◌, length, filter, Option, Some, None, Result, Ok, Err, IfOk, Ordering, refl, ap, arith}
+use Rattle.std.proofs.Common.{◌≡◌, ℕ, ◌+◌, ◌≤◌, Bool, true, false, ◌==◌, inl, inr, List, [], ◌∷◌, length, filter, Option, Some, None, Result, Ok, Err, IfOk, Ordering, refl, sym, ap, ◌∙◌, arith}
 use Rattle.std.specs.Prelude.{nat_le, nat_lt, is_some, option_map, IsSome, IfSome}
 use Rattle.std.specs.BTreeMap.{insert_entry, is_at}
 use Rattle.std.specs.BTreeSet.{insert_key}
@@ -8,7 +8,7 @@ use Rattle.std.specs.List.{All, Contains, enumerate_from}
 use Rattle.std.specs.Map.{keys_of, remove_entry, values_of}
 use Rattle.std.specs.Option.{option_map_or}
 use Rattle.std.specs.Ordering.{nat_cmp}
-use Rattle.std.proofs.lemmas.Bool.{and_cases, cond_both, leb-false, ltb-false}
+use Rattle.std.proofs.lemmas.Bool.{and_cases, cond_both, leb-false, ltb-false, true≢false}
 use Rattle.std.proofs.lemmas.Cmp.{eq_by_cmp_equiv, nat_cmp_total, nat_list_cmp_total, on_total, then_total}
 use Rattle.std.proofs.lemmas.List.Elements.{All-cons, All-head, All-nil, All-tail, All-weaker, Contains-append_right}
 use Rattle.std.proofs.lemmas.List.FromFn.{length-enumerate_from}
@@ -38,11 +38,15 @@ use Rattle.adr_state.specs.declared.state.State.{State}
 use Rattle.adr_state.specs.BaseChanges.{BaseChange, ChangePortfolio, JoinMarks, SetScan, changed}
 use Rattle.adr_state.specs.Fitting.{Fits, IsMap}
 use Rattle.adr_state.specs.Fitting.{HasFewLeases as HasLargestLeases}
-use Rattle.adr_state.specs.Keys.{at, mirror_cmp, share_cmp}
+use Rattle.adr_state.specs.Keys.{at, id_cmp, mirror_cmp, share_cmp}
 use Rattle.adr_state.specs.Limits.{AreSmall}
 use Rattle.adr_state.specs.Marks.{is_below}
 use Rattle.adr_state.specs.Mirror.{joined, raised}
-use Rattle.adr_state.specs.Portfolios.{PortfolioChange, PutVen, DropVen, PutResource, DropResource, PutShare, DropShare, PutReport, DropReport, PutSub, DropSub, portfolio_after}
+use Rattle.adr_state.specs.Frozen.{is_frozen}
+use Rattle.adr_view.proofs.FrozenLemmas.{frozen_now}
+use Rattle.adr_machine.proofs.Fitting.{pairs_fit}
+use Rattle.adr_machine.proofs.Rooms.{HasPairRoom}
+use Rattle.adr_state.specs.Portfolios.{PortfolioChange, PutVen, DropVen, PutResource, DropResource, PutShare, DropShare, PutReport, DropReport, PutSub, DropSub, Freeze, portfolio_after}
 use Rattle.adr_state.specs.Serials.{drawn}
 use Rattle.adr_state.specs.States.{empty}
 use Rattle.adr_state.proofs.LawLemmas.{key_order}
@@ -115,16 +119,29 @@ joined_in_order (e ∷ marks) mirror h =
 
 module _ (limits : Limits) where
   sites_after : (p : Portfolio) (change : PortfolioChange) → AreSitesWithin limits p → SitesHaveRoom limits p change → AreSitesWithin limits (portfolio_after change p)
-  sites_after p (PutVen n ven) h room = record { vens = put_fits nat_cmp_total n ven h.vens room; resources = h.resources; shares = h.shares; reports = h.reports; subs = h.subs }
-  sites_after p (DropVen n) h room = record { vens = removed_fits n h.vens; resources = left_fits _ h.resources; shares = left_fits _ h.shares; reports = left_fits _ h.reports; subs = left_fits _ h.subs }
-  sites_after p (PutResource n resource) h room = record { vens = h.vens; resources = put_fits nat_cmp_total n resource h.resources room; shares = h.shares; reports = h.reports; subs = h.subs }
-  sites_after p (DropResource n) h room = record { vens = h.vens; resources = removed_fits n h.resources; shares = left_fits _ h.shares; reports = left_fits _ h.reports; subs = h.subs }
-  sites_after p (PutShare key weight) h room = record { vens = h.vens; resources = h.resources; shares = put_fits share_order key weight h.shares room; reports = h.reports; subs = h.subs }
-  sites_after p (DropShare key) h room = record { vens = h.vens; resources = h.resources; shares = removed_fits key h.shares; reports = h.reports; subs = h.subs }
-  sites_after p (PutReport n report) h room = record { vens = h.vens; resources = h.resources; shares = h.shares; reports = put_fits nat_cmp_total n report h.reports room; subs = h.subs }
-  sites_after p (DropReport n) h room = record { vens = h.vens; resources = h.resources; shares = h.shares; reports = removed_fits n h.reports; subs = h.subs }
-  sites_after p (PutSub n sub) h room = record { vens = h.vens; resources = h.resources; shares = h.shares; reports = h.reports; subs = put_fits nat_cmp_total n sub h.subs room }
-  sites_after p (DropSub n) h room = record { vens = h.vens; resources = h.resources; shares = h.shares; reports = h.reports; subs = removed_fits n h.subs }
+  sites_after p (PutVen n ven) h room = record { vens = put_fits nat_cmp_total n ven h.vens room; resources = h.resources; shares = h.shares; reports = h.reports; subs = h.subs; frozen = h.frozen; frozen_shares = h.frozen_shares }
+  sites_after p (DropVen n) h room = record { vens = removed_fits n h.vens; resources = left_fits _ h.resources; shares = left_fits _ h.shares; reports = left_fits _ h.reports; subs = left_fits _ h.subs; frozen = h.frozen; frozen_shares = left_fits _ h.frozen_shares }
+  sites_after p (PutResource n resource) h room = record { vens = h.vens; resources = put_fits nat_cmp_total n resource h.resources room; shares = h.shares; reports = h.reports; subs = h.subs; frozen = h.frozen; frozen_shares = h.frozen_shares }
+  sites_after p (DropResource n) h room = record { vens = h.vens; resources = removed_fits n h.resources; shares = left_fits _ h.shares; reports = left_fits _ h.reports; subs = h.subs; frozen = h.frozen; frozen_shares = left_fits _ h.frozen_shares }
+  sites_after p (PutShare key weight) h room = record { vens = h.vens; resources = h.resources; shares = put_fits share_order key weight h.shares room; reports = h.reports; subs = h.subs; frozen = h.frozen; frozen_shares = h.frozen_shares }
+  sites_after p (DropShare key) h room = record { vens = h.vens; resources = h.resources; shares = removed_fits key h.shares; reports = h.reports; subs = h.subs; frozen = h.frozen; frozen_shares = h.frozen_shares }
+  sites_after p (PutReport n report) h room = record { vens = h.vens; resources = h.resources; shares = h.shares; reports = put_fits nat_cmp_total n report h.reports room; subs = h.subs; frozen = h.frozen; frozen_shares = h.frozen_shares }
+  sites_after p (DropReport n) h room = record { vens = h.vens; resources = h.resources; shares = h.shares; reports = removed_fits n h.reports; subs = h.subs; frozen = h.frozen; frozen_shares = h.frozen_shares }
+  sites_after p (PutSub n sub) h room = record { vens = h.vens; resources = h.resources; shares = h.shares; reports = h.reports; subs = put_fits nat_cmp_total n sub h.subs room; frozen = h.frozen; frozen_shares = h.frozen_shares }
+  sites_after p (DropSub n) h room = record { vens = h.vens; resources = h.resources; shares = h.shares; reports = h.reports; subs = removed_fits n h.subs; frozen = h.frozen; frozen_shares = h.frozen_shares }
+  sites_after p (Freeze id pairs) h room = cond_both (is_frozen p id) p (frozen_now p id pairs) (AreSitesWithin limits) (λ frozen. h) (λ fresh. now fresh room)
+    where
+      now : is_frozen p id ≡ false → HasPairRoom limits p id pairs → AreSitesWithin limits (frozen_now p id pairs)
+      now fresh (inl frozen) = absurd (true≢false (sym frozen ∙ fresh))
+      now fresh (inr room) = record {
+        vens = h.vens;
+        resources = h.resources;
+        shares = h.shares;
+        reports = h.reports;
+        subs = h.subs;
+        frozen = in_order_put nat_list_cmp_total id tt p.frozen h.frozen;
+        frozen_shares = pairs_fit {most = limits.frozen} (omega arith) p id pairs h.frozen_shares room;
+      }
 
   record BaseFits (base : Base) : Type 0 where
     sites : AreSitesWithin limits base.portfolio
@@ -336,7 +353,7 @@ step_within settings s now c h =
 
 -- the state at first is within any limits
 empty_within : (limits : Limits) → IsWithin limits empty
-empty_within limits = record { sites = record { vens = none; resources = none; shares = none; reports = none; subs = none }; keys = none; entries = record { rows = none; leases = All-nil (HasFewLeases limits) }; serial = omega arith }
+empty_within limits = record { sites = record { vens = none; resources = none; shares = none; reports = none; subs = none; frozen = none_sorted id_cmp; frozen_shares = none }; keys = none; entries = record { rows = none; leases = All-nil (HasFewLeases limits) }; serial = omega arith }
   where
     none : {K V : Type 0} {cmp : K → K → Ordering} {most : ℕ} → IsMap {K = K} {V = V} cmp most []
     none {cmp = cmp} = record { rises = none_sorted cmp; few = omega arith }
@@ -361,6 +378,8 @@ fits_within limits small s h = record {
     shares = larger small.shares h.sites.shares;
     reports = larger small.reports h.sites.reports;
     subs = larger small.subs h.sites.subs;
+    frozen = h.sites.frozen;
+    frozen_shares = larger small.frozen h.sites.frozen_shares;
   };
   mirror = larger small.keys h.keys;
   entries = record {

@@ -20,7 +20,7 @@ use Rattle.adr_state.specs.Evidence.{adds_beyond, joining, open_scan, scan_end, 
 use Rattle.adr_state.specs.Keys.{at, share_cmp}
 use Rattle.adr_state.specs.Mirror.{evidence_of, joined}
 use Rattle.adr_state.specs.Names.{is_full, is_taken, is_taken_by_another, resource_name, ven_name}
-use Rattle.adr_state.specs.Portfolios.{PortfolioChange, PutVen, PutResource, PutShare, DropShare, PutReport, DropReport, PutSub}
+use Rattle.adr_state.specs.Portfolios.{PortfolioChange, PutVen, PutResource, PutShare, DropShare, PutReport, DropReport, PutSub, Freeze as FreezeEvent}
 use Rattle.adr_state.specs.Resources.{is_under, putting_resource, resource_at, resource_under, resource_with_id}
 use Rattle.adr_state.specs.Shares.{is_beyond, share_of, weight_set}
 use Rattle.adr_state.specs.Stamping.{fresh, modified_at}
@@ -33,10 +33,11 @@ use Rattle.adr_view.specs.Sights.{owner_in}
 use Rattle.adr_view.specs.Subs.{sub_delete, sub_in_sight, sub_put}
 use Rattle.adr_queries.specs.Roles.{sight_of}
 use Rattle.adr_machine.specs.declared.command.Command.{Command}
-use Rattle.adr_machine.specs.declared.command.Command.TheVariants.{Evidence, Gone, ScanBegin, ScanEnd, VenAdd, VenPut, VenRemove, ResourceAdd, ResourcePut, ResourceRemove, ShareSet, ReportPost, ReportPut, ReportDelete, SubPost, SubPut, SubDelete, Lease, Sent, Failed}
+use Rattle.adr_machine.specs.declared.command.Command.TheVariants.{Evidence, Gone, ScanBegin, ScanEnd, VenAdd, VenPut, VenRemove, ResourceAdd, ResourcePut, ResourceRemove, ShareSet, Freeze, ReportPost, ReportPut, ReportDelete, SubPost, SubPut, SubDelete, Lease, Sent, Failed}
 use Rattle.adr_machine.specs.declared.outcome.Outcome.{Outcome}
 use Rattle.adr_machine.specs.Edits.{Decision, counted, decided, of_portfolio, sub_outcome}
 use Rattle.adr_machine.proofs.EditLemmas.{allowed_then, first_then, found_then, free_then, new_then, tested, whatever}
+use Rattle.adr_machine.proofs.Rooms.{HasPairRoom, frozen_with_room}
 use Rattle.adr_machine.proofs.Found.{IsFound, IsReportOf, IsSubOf, in_sight_there, number_there, passing, report_there, resource_there, ven_there}
 use Rattle.adr_view_laws.specs.KeptReports.{NamesReport}
 
@@ -51,6 +52,7 @@ SitesHaveRoom limits p (PutResource n resource) = HasRoom nat_cmp limits.resourc
 SitesHaveRoom limits p (PutShare key weight) = HasRoom share_cmp limits.shares p.shares key
 SitesHaveRoom limits p (PutReport n report) = HasRoom nat_cmp limits.reports p.reports n
 SitesHaveRoom limits p (PutSub n sub) = HasRoom nat_cmp limits.subs p.subs n
+SitesHaveRoom limits p (FreezeEvent id pairs) = HasPairRoom limits p id pairs
 SitesHaveRoom limits p _ = Unit {0}
 
 -- and for what any change does
@@ -151,6 +153,7 @@ module _ (limits : Limits) (now next : ℕ) (base : Base) (IsNamed : ℕ → Typ
   decided_room (ShareSet role program resource share) named =
       sites_room _ _ (found_then Puts (IsFound p.resources) refusal.NotFound (resource_at resource p) _ (number_there p.resources (resource_with_id resource p) (resource_there resource p)) (λ n there.
       share_room (record { program = program; resource = n }) share.share))
+  decided_room (Freeze role event) named = sites_room _ _ (frozen_with_room limits event base.mirror p Puts (λ told pairs room. (room, tt)))
   decided_room (ReportPost role sent) named =
       first_then Room (λ sight. Unit {0}) (sight_of base role) _ (whatever (sight_of base role)) (λ sight h.
       sites_room _ _ (allowed_then Puts (may_report sight sent p) refusal.Forbidden (report_made limits next sent base.mirror p) (made_room sent)))

@@ -4,6 +4,7 @@ use Rattle.std.specs.Prelude.{◌≢◌, IsSome}
 use Rattle.std.specs.Map.{remove_entry}
 use Rattle.std.specs.Option.{option_map_or}
 use Rattle.std.specs.Ordering.{is_eq}
+use Rattle.std.proofs.lemmas.Bool.{cond_both}
 use Rattle.std.proofs.lemmas.Cmp.{tied_itself}
 use Rattle.std.proofs.lemmas.Map.{lookup-remove_entry}
 use Rattle.std.proofs.lemmas.Map.Entries.{lookup-filter-values, option_filter}
@@ -11,7 +12,9 @@ use Rattle.adr_text.specs.declared.refusal.Refusal.{Refusal}
 use Rattle.adr_state.specs.declared.portfolio.Portfolio.{Portfolio}
 use Rattle.adr_state.specs.declared.portfolio.Report.{Report}
 use Rattle.adr_state.specs.declared.portfolio.Resource.{Resource}
-use Rattle.adr_state.specs.Portfolios.{PortfolioChange, PutVen, DropVen, PutResource, DropResource, PutShare, DropShare, PutReport, DropReport, PutSub, DropSub, is_of_ven, portfolio_after, reported_on}
+use Rattle.adr_state.specs.Frozen.{is_frozen}
+use Rattle.adr_view.proofs.FrozenLemmas.{frozen_now}
+use Rattle.adr_state.specs.Portfolios.{PortfolioChange, PutVen, DropVen, PutResource, DropResource, PutShare, DropShare, PutReport, DropReport, PutSub, DropSub, Freeze, is_of_ven, portfolio_after, reported_on}
 use Rattle.adr_state.proofs.LawLemmas.{at-insert_entry}
 use Rattle.adr_view.specs.Laws.{StandsInOrder}
 use Rattle.adr_view.proofs.OrderLemmas.{InOrder}
@@ -89,6 +92,7 @@ module _ (next : ℕ) (c : Command) (n : ℕ) (report : Report) (drawn : n ≢ n
     portfolio_stays (DropReport m) named there = found_removed n p.reports m reports ∙ rw (apart m n (λ same. free (subst (NamesReport c) same named))) was
     portfolio_stays (PutSub m sub) named there = was
     portfolio_stays (DropSub m) named there = was
+    portfolio_stays (Freeze id pairs) named there = cond_both (is_frozen p id) p (frozen_now p id pairs) (StaysIn (n, report)) (λ frozen found. was) (λ fresh found. was) there
 
   base_stays : (base : Base) → StandsInOrder base → at nat_cmp n base.portfolio.reports ≡ Some report → (change : BaseChange) → ChangesAsNamed next (NamesReport c) change → StaysIn (n, report) (changed change base).portfolio
   base_stays base stands was (JoinMarks marks scan) named there = was

@@ -4,7 +4,7 @@ use Rattle.adr_objects.specs.declared.body.Found.{Found}
 use Rattle.adr_queries.specs.declared.role.Role.{Role}
 use Rattle.adr_queries.specs.declared.role.Role.TheVariants.{Operator, Utility, Ven}
 use Rattle.adr_machine.specs.declared.command.Command.{Command}
-use Rattle.adr_machine.specs.declared.command.Command.TheVariants.{Evidence, Gone, ScanBegin, ScanEnd, VenAdd, VenPut, VenRemove, ResourceAdd, ResourcePut, ResourceRemove, ShareSet, ReportPost, ReportPut, ReportDelete, SubPost, SubPut, SubDelete, Lease, Sent, Failed}
+use Rattle.adr_machine.specs.declared.command.Command.TheVariants.{Evidence, Gone, ScanBegin, ScanEnd, VenAdd, VenPut, VenRemove, ResourceAdd, ResourcePut, ResourceRemove, ShareSet, Freeze, ReportPost, ReportPut, ReportDelete, SubPost, SubPut, SubDelete, Lease, Sent, Failed}
 use Rattle.adr_weight.specs.declared.places.TheConstants.{FOUND}
 use Rattle.adr_weight.specs.Sums.{text_weight, option_weight, list_weight}
 use Rattle.adr_weight.specs.Upstream.{found_weight}
@@ -34,6 +34,7 @@ command_weight (ResourceAdd role ven resource) = role_weight role + text_weight 
 command_weight (ResourcePut role ven id resource) = role_weight role + text_weight ven + text_weight id + resource_in_weight resource
 command_weight (ResourceRemove role ven id) = role_weight role + text_weight ven + text_weight id
 command_weight (ShareSet role program resource share) = role_weight role + text_weight program + text_weight resource
+command_weight (Freeze role event) = role_weight role + text_weight event
 command_weight (ReportPost role report) = role_weight role + report_in_weight report
 command_weight (ReportPut role id report) = role_weight role + text_weight id + report_in_weight report
 command_weight (ReportDelete role id) = role_weight role + text_weight id

@@ -75,6 +75,7 @@ impl Weigh for Command {
                 .weight()
                 .saturating_add(program.weight())
                 .saturating_add(resource.weight()),
+            Command::Freeze { role, event } => role.weight().saturating_add(event.weight()),
             Command::ReportPost { role, report } => role.weight().saturating_add(report.weight()),
             Command::ReportPut { role, id, report } => role
                 .weight()

@@ -1,7 +1,7 @@
 //! How many bytes values take where they stand, in a list or a map.
 use adr_delivery::Entry;
 use adr_objects::{Found, Interval, Number, Stamps, UsageInterval};
-use adr_state::{Mark, MirrorKey, Report, Resource, ShareKey, Ven, ViewKey, Weight};
+use adr_state::{FrozenKey, Mark, MirrorKey, Report, Resource, ShareKey, Ven, ViewKey, Weight};
 use adr_subscription::{FreeText, ObjectKind, OperationKind, Sub, SubscriptionItem, Target};
 use adr_text::{Name, ObjectId};
 
@@ -43,6 +43,10 @@ pub(crate) const SHARE_ROW: u64 = size_of::<(ShareKey, Weight)>() as u64;
 pub(crate) const REPORT_ROW: u64 = size_of::<(Number, Report)>() as u64;
 
 pub(crate) const SUB_ROW: u64 = size_of::<(Number, Sub)>() as u64;
+
+pub(crate) const FROZEN_ROW: u64 = size_of::<(ObjectId, ())>() as u64;
+
+pub(crate) const FROZEN_SHARE_ROW: u64 = size_of::<(FrozenKey, Weight)>() as u64;
 
 pub(crate) const STAMPS_ROW: u64 = size_of::<(ViewKey, Stamps)>() as u64;
 

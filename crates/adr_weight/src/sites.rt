@@ -1,12 +1,14 @@
 //! Vens, resources, shares and reports as they are kept.
 ghost use Rattle.adr_weight.specs.Sums.{nothing};
-ghost use Rattle.adr_weight.specs.Sites.{ven_weight, resource_weight, share_key_weight, report_head_weight, report_weight, portfolio_weight};
+ghost use Rattle.adr_weight.specs.Sites.{ven_weight, resource_weight, share_key_weight, frozen_key_weight, report_head_weight, report_weight, portfolio_weight};
 
 use crate::lists::{list, table};
-use crate::places::{REPORT_ROW, RESOURCE_ROW, SHARE_ROW, SUB_ROW, USAGE, VEN_ROW};
+use crate::places::{
+    FROZEN_ROW, FROZEN_SHARE_ROW, REPORT_ROW, RESOURCE_ROW, SHARE_ROW, SUB_ROW, USAGE, VEN_ROW,
+};
 use crate::weigh::Weigh;
 use adr_objects::ReportHead;
-use adr_state::{Portfolio, Report, Resource, ShareKey, Ven, Weight};
+use adr_state::{FrozenKey, Portfolio, Report, Resource, ShareKey, Ven, Weight};
 
 impl Weigh for Ven {
     ghost behind = { ven_weight };
@@ -29,6 +31,22 @@ impl Weigh for ShareKey {
 
     fn weight(&self) -> u64 {
         self.program.weight()
+    }
+}
+
+impl Weigh for FrozenKey {
+    ghost behind = { frozen_key_weight };
+
+    fn weight(&self) -> u64 {
+        self.event.weight()
+    }
+}
+
+impl Weigh for () {
+    ghost behind = { nothing };
+
+    fn weight(&self) -> u64 {
+        0
     }
 }
 
@@ -73,5 +91,7 @@ impl Weigh for Portfolio {
             .saturating_add(table(&self.shares, SHARE_ROW))
             .saturating_add(table(&self.reports, REPORT_ROW))
             .saturating_add(table(&self.subs, SUB_ROW))
+            .saturating_add(table(&self.frozen, FROZEN_ROW))
+            .saturating_add(table(&self.frozen_shares, FROZEN_SHARE_ROW))
     }
 }

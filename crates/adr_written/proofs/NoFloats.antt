@@ -14,6 +14,7 @@ use Rattle.adr_objects.specs.declared.shown.ProgramObject.{ProgramObject}
 use Rattle.adr_objects.specs.declared.shown.VenObject.{VenObject}
 use Rattle.adr_objects.specs.declared.shown.ResourceObject.{ResourceObject}
 use Rattle.adr_objects.specs.declared.shown.ShareObject.{ShareObject}
+use Rattle.adr_objects.specs.declared.shown.FrozenObject.{FrozenObject}
 use Rattle.adr_objects.specs.declared.report.UsageInterval.{UsageInterval}
 use Rattle.adr_objects.specs.declared.report.ReportObject.{ReportObject}
 use Rattle.adr_objects.specs.declared.report.RollupInterval.{RollupInterval}
@@ -32,6 +33,7 @@ use Rattle.adr_written.specs.Objects.{values_fields, values_data, payloads_data,
 use Rattle.adr_written.specs.WrittenReports.{resource_fields, resources_data, usage_interval_fields, usage_interval_data, report_object_fields, report_object_data, sum_data, rollup_interval_fields, rollup_interval_data, rollup_object_fields, rollup_object_data}
 use Rattle.adr_written.specs.WrittenSubs.{shown_item_fields, shown_item_data, sub_object_fields, sub_object_data}
 use Rattle.adr_written.specs.Counts.{counts_fields, counts_data}
+use Rattle.adr_written.specs.WrittenFrozen.{kept_share_fields, kept_share_data, frozen_object_fields, frozen_object_data}
 use Rattle.adr_written.specs.WrittenNotices.{notice_fields, notice_data}
 
 whole_plain : (n : ℕ) (z : ℤ) → IsPlain n (whole_data z)
@@ -118,6 +120,14 @@ resource_object_plain r =
 share_object_plain : (s : ShareObject) → IsPlain 1 (share_object_data s)
 unfolding share_object_data
 share_object_plain s = object_of_plain 0 (share_object_fields s) (string_plain 0 _, (string_plain 0 _, (whole_plain 0 (pos s.share), tt)))
+
+kept_share_plain : (p : ℕ × ℕ) → IsPlain 1 (kept_share_data p)
+unfolding kept_share_data
+kept_share_plain p = object_of_plain 0 (kept_share_fields p) (string_plain 0 _, (whole_plain 0 (pos p.1), tt))
+
+frozen_object_plain : (f : FrozenObject) → IsPlain 3 (frozen_object_data f)
+unfolding frozen_object_data
+frozen_object_plain f = object_of_plain 2 (frozen_object_fields f) (string_plain 2 _, (array_of_plain 1 kept_share_data kept_share_plain f.shares, tt))
 
 problem_plain : (r : Refusal) → IsPlain 1 (problem_data r)
 unfolding problem_data
@@ -222,6 +232,9 @@ resource_object_whole r = (resource_object_plain r).no_float
 
 pub share_object_whole : (s : ShareObject) → has_float (share_object_data s) ≡ false
 share_object_whole s = (share_object_plain s).no_float
+
+pub frozen_object_whole : (f : FrozenObject) → has_float (frozen_object_data f) ≡ false
+frozen_object_whole f = (frozen_object_plain f).no_float
 
 pub problem_whole : (r : Refusal) → has_float (problem_data r) ≡ false
 problem_whole r = (problem_plain r).no_float

@@ -3,4 +3,5 @@ pub mod Objects
 pub mod WrittenReports
 pub mod WrittenSubs
 pub mod Counts
+pub mod WrittenFrozen
 pub mod WrittenNotices

@@ -4,6 +4,7 @@
 mod ids;
 mod write;
 mod write_fields;
+mod write_frozen_shares;
 mod write_notices;
 mod write_outbox;
 mod write_reports;
@@ -14,6 +15,7 @@ pub use write::{
     write_event, write_problem, write_program, write_resource, write_share, write_ven,
 };
 pub use write_fields::{one_payload, put_text, valued, with_values};
+pub use write_frozen_shares::write_frozen;
 pub use write_notices::{write_event_notice, write_program_notice, write_report_notice};
 pub use write_outbox::write_counts;
 pub use write_reports::{resources, write_report, write_rollup};

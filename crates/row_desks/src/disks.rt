@@ -10,6 +10,7 @@ use adr_text::Refusal;
 use sqlite::{Connection, FileStore, Files, Options};
 use sqlite_disk::{Crash, Disk, Fuse, Memory};
 use std::alloc::{AllocError, Global};
+use std::io;
 
 /// A database file and its log in memory.
 pub type Disks = Files<Fuse<Memory>>;
@@ -96,6 +97,28 @@ pub fn new_desk(alloc: Global, settings: Settings, stop: Stop) -> Result<DiskDes
         Ok(desk) => Ok(desk),
         Err((_, conn)) => Err(conn.into_store().close()),
     }
+}
+
+/// The files of a desk that is given up, or nothing where they can't be closed.
+pub fn closed(desk: DiskDesk) -> Option<Disks> {
+    let (_, conn) = desk.into_parts();
+    conn.close_files().ok()
+}
+
+// A file with these bytes, all of them synced, which stops after so many calls.
+fn filled(alloc: Global, bytes: &[u8], calls: u64) -> io::Result<Fuse<Memory>> {
+    let mut file = Memory::new(alloc);
+    file.write_at(0, bytes)?;
+    file.sync()?;
+    Ok(Fuse::new(file, calls))
+}
+
+/// Files with the bytes of a log and of a database file, of which one may stop.
+pub fn disks_with(alloc: Global, bytes: &(Vec<u8>, Vec<u8>), stop: Stop) -> io::Result<Disks> {
+    Ok(Files {
+        log: filled(alloc, &bytes.0, stop.log)?,
+        db: filled(alloc, &bytes.1, stop.db)?,
+    })
 }
 
 /// The bytes of the log, and those of the database file.

@@ -10,8 +10,9 @@ mod same_outbox;
 mod served;
 
 pub use disks::{
-    DiskDesk, Disks, Stop, bytes_of, is_kept, new_desk, new_disks, open, opened_again,
+    DiskDesk, Disks, Stop, bytes_of, closed, disks_with, is_kept, new_desk, new_disks, open,
+    opened_again,
 };
-pub use row::{Row, read_row};
+pub use row::{Place, Row, read_row};
 pub use same::holds;
 pub use served::{Front, serve, take_lines};

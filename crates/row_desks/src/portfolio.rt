@@ -1,9 +1,9 @@
-//! Whether two bases hold the same vens, resources, shares, reports and subscriptions.
+//! Whether two bases hold the same vens, resources, shares, frozen ones too, reports and subscriptions.
 use adr_objects::Number;
 use adr_same::Same;
-use adr_state::{Base, Report, Resource, Resources, ShareKey, Ven, Weight};
+use adr_state::{Base, FrozenKey, Report, Resource, Resources, ShareKey, Ven, Weight};
 use adr_subscription::Sub;
-use adr_text::Table;
+use adr_text::{ObjectId, Table};
 
 fn has_ven(vens: &Table<Number, Ven>, number: &Number, ven: &Ven) -> bool {
     match vens.get(number) {
@@ -72,7 +72,19 @@ fn are_same_subs(subs: &Table<Number, Sub>, others: &Table<Number, Sub>) -> bool
             .all(|(number, sub)| has_sub(others, number, sub))
 }
 
-/// Whether both hold the same vens, resources, shares, reports and subscriptions, and drew as many numbers.
+fn are_same_events(events: &Table<ObjectId, ()>, others: &Table<ObjectId, ()>) -> bool {
+    events.len() == others.len() && events.iter().all(|(id, _)| others.get(id).is_some())
+}
+
+fn are_same_frozen(shares: &Table<FrozenKey, Weight>, others: &Table<FrozenKey, Weight>) -> bool {
+    shares.len() == others.len()
+        && shares
+            .iter()
+            .all(|(key, weight)| others.get(key) == Some(weight))
+}
+
+/// Whether both hold the same vens, resources, shares, reports and subscriptions, have frozen the same events with the same
+/// shares, and drew as many numbers.
 pub fn is_same_portfolio(base: &Base, other: &Base) -> bool {
     base.serial == other.serial
         && are_same_vens(&base.portfolio.vens, &other.portfolio.vens)
@@ -80,4 +92,9 @@ pub fn is_same_portfolio(base: &Base, other: &Base) -> bool {
         && are_same_shares(&base.portfolio.shares, &other.portfolio.shares)
         && are_same_reports(&base.portfolio.reports, &other.portfolio.reports)
         && are_same_subs(&base.portfolio.subs, &other.portfolio.subs)
+        && are_same_events(&base.portfolio.frozen, &other.portfolio.frozen)
+        && are_same_frozen(
+            &base.portfolio.frozen_shares,
+            &other.portfolio.frozen_shares,
+        )
 }

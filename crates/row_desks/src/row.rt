@@ -5,6 +5,13 @@ use anyhow::{Context, Result, bail};
 use std::alloc::Global;
 use std::str::from_utf8;
 
+/// How much of a script, and of what it has to print, stands before some line.
+#[derive(Clone, Copy)]
+pub struct Place {
+    pub script: usize,
+    pub wanted: usize,
+}
+
 /// A row, as its file says it.
 #[derive(Drop)]
 pub struct Row {
@@ -16,6 +23,8 @@ pub struct Row {
     pub wanted: Vec<u8>,
     /// Whether it is stopped at each call of its disks too.
     pub stop_everywhere: bool,
+    /// Where its file is one of version 1, if anywhere.
+    pub of_version_1: Option<Place>,
 }
 
 /// Adds a line and its LF.
@@ -54,6 +63,13 @@ fn read_line(alloc: Global, row: &mut Row, line: &[u8]) -> Result<()> {
         row.stop_everywhere = true;
         return Ok(());
     }
+    if line == b"of version 1".as_slice() {
+        row.of_version_1 = Some(Place {
+            script: row.script.len(),
+            wanted: row.wanted.len(),
+        });
+        return Ok(());
+    }
     if line.is_empty() || line.starts_with(b"#") {
         return Ok(());
     }
@@ -66,6 +82,7 @@ fn read_line(alloc: Global, row: &mut Row, line: &[u8]) -> Result<()> {
 /// - `row NAME` names the row;
 /// - `set NAME=NUMBER` sets a limit;
 /// - `stop everywhere` has it stopped at each call of its disks too;
+/// - `of version 1` has it go on over a file of that version with what the lines before it led to;
 /// - `> LINE` is a line of the script;
 /// - `< LINE` is a line that the script prints.
 pub fn read_row(alloc: Global, bytes: &[u8]) -> Result<Row> {
@@ -75,6 +92,7 @@ pub fn read_row(alloc: Global, bytes: &[u8]) -> Result<Row> {
         script: Vec::new(alloc),
         wanted: Vec::new(alloc),
         stop_everywhere: false,
+        of_version_1: None,
     };
     for line in bytes.split(|b| *b == b'\n') {
         read_line(alloc, &mut row, line)?;

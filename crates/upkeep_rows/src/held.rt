@@ -65,5 +65,6 @@ impl Held {
             && meta.shares == p.shares.len() as u64
             && meta.reports == p.reports.len() as u64
             && meta.subs == p.subs.len() as u64
+            && meta.frozen == p.frozen_shares.len() as u64
     }
 }

@@ -27,7 +27,7 @@ struct Case {
 }
 
 /// Files that are not those of a node.
-const FOREIGN: [Case; 6] = [
+const FOREIGN: [Case; 7] = [
     Case {
         name: "without a table",
         is_made: false,
@@ -54,9 +54,14 @@ const FOREIGN: [Case; 6] = [
         statement: "DELETE FROM meta",
     },
     Case {
-        name: "of another version",
+        name: "of a later version",
         is_made: true,
-        statement: "UPDATE meta SET version = 7",
+        statement: "UPDATE meta SET version = 3",
+    },
+    Case {
+        name: "of the version before the first",
+        is_made: true,
+        statement: "UPDATE meta SET version = 0",
     },
 ];
 

@@ -18,6 +18,7 @@
 
 mod answers;
 mod kept_files;
+mod old_files;
 mod participants;
 mod play;
 mod reader;
@@ -29,6 +30,7 @@ mod twin;
 mod whole_run;
 
 use crate::kept_files::run_kept_files;
+use crate::old_files::run_old_files;
 use crate::participants::run_participants;
 use crate::play::play;
 use crate::report::{report, report_both, report_part};
@@ -135,7 +137,8 @@ impl Table for RowTable {
         let both = run_both(rt, row)?;
         let file = run_file(rt, row)?;
         let stops = !row.stop_everywhere || run_stops(rt, row)?;
-        Ok(plain && tables && both && file && stops)
+        let old = run_old_files(rt, row)?;
+        Ok(plain && tables && both && file && stops && old)
     }
 }
 

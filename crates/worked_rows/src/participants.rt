@@ -141,7 +141,7 @@ fn parts_of<S: Alter>(
     tx: &mut Transaction<'_, S>,
     event: &EventBody,
 ) -> Result<String, Refusal> {
-    let parts = participants(alloc, tx, event)?;
+    let parts = participants(alloc, tx, &ObjectId::new(alloc, "e1")?, event)?;
     Ok(line_of(alloc, parts.as_slice())?)
 }
 

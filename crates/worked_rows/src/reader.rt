@@ -4,7 +4,8 @@ use adr_objects::{
     read_canonical,
 };
 use adr_schema::{
-    NoticeIn, read_notice, read_one, read_page, read_report, read_resource, read_share, read_ven,
+    NoticeIn, read_anything, read_notice, read_one, read_page, read_report, read_resource,
+    read_share, read_ven,
 };
 use adr_text::{Fault, Moment, Name, ObjectId, Refusal, Whole, read_value, whole};
 use adr_written::write_report;
@@ -21,6 +22,8 @@ pub enum Reader {
     Ven,
     Resource,
     Share,
+    /// Nothing of a text but that it is JSON.
+    Anything,
     Report,
     Moment,
     ObjectId,
@@ -42,6 +45,7 @@ impl Reader {
             "ven" => Some(Reader::Ven),
             "resource" => Some(Reader::Resource),
             "share" => Some(Reader::Share),
+            "anything" => Some(Reader::Anything),
             "report" => Some(Reader::Report),
             "moment" => Some(Reader::Moment),
             "object id" => Some(Reader::ObjectId),
@@ -120,6 +124,11 @@ fn share_line(alloc: Global, text: &[u8]) -> Result<String, Refusal> {
     Ok(format!(in alloc; "{share}")?)
 }
 
+fn anything_line(alloc: Global, text: &[u8]) -> Result<String, Refusal> {
+    read_anything(alloc, text)?;
+    Ok(String::from_str(alloc, "passed over")?)
+}
+
 /// What is kept of a report, as one of resource 3 about the upstream event of that id.
 fn body_of(report: ReportIn) -> ReportBody {
     ReportBody {
@@ -189,6 +198,7 @@ fn line(alloc: Global, reader: Reader, text: &[u8]) -> Result<String, Refusal> {
         Reader::Ven => ven_line(alloc, text),
         Reader::Resource => resource_line(alloc, text),
         Reader::Share => share_line(alloc, text),
+        Reader::Anything => anything_line(alloc, text),
         Reader::Report => report_line(alloc, text),
         Reader::Moment => Ok(Moment::read(text_of(text)?)?.text(alloc)?),
         Reader::ObjectId => id_line(alloc, text),

@@ -27,20 +27,20 @@ const MOST_CALLS: u64 = 100_000;
 
 /// Which file stops.
 #[derive(Clone, Copy)]
-enum Part {
+pub(crate) enum Part {
     Log,
     Database,
 }
 
 impl Part {
-    fn name(self) -> &'static str {
+    pub(crate) fn name(self) -> &'static str {
         match self {
             Part::Log => "stops in the log",
             Part::Database => "stops in the database",
         }
     }
 
-    fn stop(self, calls: u64) -> Stop {
+    pub(crate) fn stop(self, calls: u64) -> Stop {
         match self {
             Part::Log => Stop::in_log(calls),
             Part::Database => Stop::in_database(calls),

@@ -4,7 +4,7 @@ use Rattle.std.proofs.lemmas.List.Sums.{sum_by_push}
 use Rattle.adr_db.proofs.Common.{take_more, take_all, state, HasCleanDisk, lent_itself, lent_then}
 use Rattle.adr_db.specs.Kept.{Keeps}
 use Rattle.adr_counted.specs.declared.along.Along.{Along}
-use Rattle.adr_counted.specs.Along.{shares_of, reports_on, along_each}
+use Rattle.adr_counted.specs.Along.{shares_of, reports_on, frozen_of, along_each}
 use Rattle.adr_counted.proofs.along.along_each.Goals as goal
 
 pub resources-init : goal.resources-init
@@ -26,8 +26,8 @@ resources-preserved g c =
           let so_far = c.resources.invariant.found early kept was in
           let one = c.in_ok-one.ensures.finds clean kept so_far.1 in
           let sums : (f : ℕ → ℕ) → sum_by f (take i numbers) + f n ≡ sum_by f (take i numbers ++ n ∷ []) = λ f. sym (sum_by_push f (take i numbers) n) in
-          let together = c.in_ok-all.ensures.sum ∙ ap₂ (λ (a b : Along). let all : Along = record { shares = a.shares + b.shares; reports = a.reports + b.reports } in all) so_far.0 one.0 in
-          let all = together ∙ ap₂ (λ (shares reports : ℕ). let all : Along = record { shares = shares; reports = reports } in all) (sums (shares_of kept.portfolio)) (sums (reports_on kept.portfolio)) in
+          let together = c.in_ok-all.ensures.sum ∙ ap₂ (λ (a b : Along). let all : Along = record { shares = a.shares + b.shares; reports = a.reports + b.reports; frozen = a.frozen + b.frozen } in all) so_far.0 one.0 in
+          let all = together ∙ (λ i. let all : Along = record { shares = sums (shares_of kept.portfolio) i; reports = sums (reports_on kept.portfolio) i; frozen = sums (frozen_of kept.portfolio) i } in all) in
           rw more (all, one.1);
     }
 

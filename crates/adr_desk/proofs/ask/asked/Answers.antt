@@ -2,11 +2,12 @@ use Rattle.std.proofs.Common.{[], ◌∷◌, refl, arith}
 use Rattle.std.specs.List.{AllByRecursion, Contains}
 use Rattle.adr_db.proofs.Common.{Forbidden}
 use Rattle.adr_text.specs.declared.refusal.Refusal.TheVariants.{NotFound}
-use Rattle.adr_queries.specs.Listings.{vens_reply, ven_reply, resources_reply, resource_reply, shares_reply}
+use Rattle.adr_queries.specs.Frozen.{frozen_reply}
+use Rattle.adr_queries.specs.Listings.{ven_reply, resources_reply, resource_reply, shares_reply}
 use Rattle.adr_queries.specs.Replies.{reply}
 use Rattle.adr_queries.specs.Reported.{report_reply}
 use Rattle.adr_queries.specs.Shown.{programs_reply, program_reply}
-use Rattle.adr_queries.specs.Subscribed.{subs_reply, sub_reply}
+use Rattle.adr_queries.specs.Subscribed.{sub_reply}
 use Rattle.adr_desk.proofs.AskLemmas.{looked_up, refused_up, each_listed}
 use Rattle.adr_desk.proofs.ask.asked.Goals as goal
 
@@ -24,10 +25,6 @@ pub returns-in-Program-clause-tells : goal.returns-in-Program-clause-tells
 unfolding reply
 returns-in-Program-clause-tells g c = rw c.in-Program.is (looked_up g.S.Store c.args.tx.now.conn.now c.program.new.tx.conn.now (λ s. program_reply s c.in-Program.role c.in-Program.id) c.program.result c.program.ensures.finds)
 
-pub returns-in-Vens-clause-tells : goal.returns-in-Vens-clause-tells
-unfolding reply
-returns-in-Vens-clause-tells g c = rw c.in-Vens.is (looked_up g.S.Store c.args.tx.now.conn.now c.vens.new.tx.conn.now (λ s. vens_reply s.base c.in-Vens.role c.in-Vens.page) c.vens.result c.vens.ensures.finds)
-
 pub returns-in-Ven-clause-tells : goal.returns-in-Ven-clause-tells
 unfolding reply
 returns-in-Ven-clause-tells g c = rw c.in-Ven.is (looked_up g.S.Store c.args.tx.now.conn.now c.ven.new.tx.conn.now (λ s. ven_reply s.base c.in-Ven.role c.in-Ven.id) c.ven.result c.ven.ensures.finds)
@@ -44,13 +41,13 @@ pub returns-in-Shares-clause-tells : goal.returns-in-Shares-clause-tells
 unfolding reply
 returns-in-Shares-clause-tells g c = rw c.in-Shares.is (looked_up g.S.Store c.args.tx.now.conn.now c.shares.new.tx.conn.now (λ s. shares_reply s.base c.in-Shares.role c.in-Shares.program) c.shares.result c.shares.ensures.finds)
 
+pub returns-in-Frozen-clause-tells : goal.returns-in-Frozen-clause-tells
+unfolding reply
+returns-in-Frozen-clause-tells g c = rw c.in-Frozen.is (looked_up g.S.Store c.args.tx.now.conn.now c.frozen.new.tx.conn.now (λ s. frozen_reply s.base c.in-Frozen.role c.in-Frozen.event) c.frozen.result c.frozen.ensures.finds)
+
 pub returns-in-Report-clause-tells : goal.returns-in-Report-clause-tells
 unfolding reply
 returns-in-Report-clause-tells g c = rw c.in-Report.is (looked_up g.S.Store c.args.tx.now.conn.now c.report.new.tx.conn.now (λ s. report_reply s c.in-Report.role c.in-Report.id) c.report.result c.report.ensures.finds)
-
-pub returns-in-Subs-clause-tells : goal.returns-in-Subs-clause-tells
-unfolding reply
-returns-in-Subs-clause-tells g c = rw c.in-Subs.is (looked_up g.S.Store c.args.tx.now.conn.now c.subs.new.tx.conn.now (λ s. subs_reply s.base c.in-Subs.role c.in-Subs.filter c.in-Subs.page) c.subs.result c.subs.ensures.finds)
 
 pub returns-in-Sub-clause-tells : goal.returns-in-Sub-clause-tells
 unfolding reply
@@ -65,10 +62,6 @@ returns-in-Programs-clause-refuses g c = rw c.in-Programs.is (refused_up g.S.Sto
 pub returns-in-Program-clause-refuses : goal.returns-in-Program-clause-refuses
 unfolding reply
 returns-in-Program-clause-refuses g c = rw c.in-Program.is (refused_up g.S.Store c.args.tx.now.conn.now c.program.new.tx.conn.now (λ s. program_reply s c.in-Program.role c.in-Program.id) c.program.result c.program.ensures.refuses)
-
-pub returns-in-Vens-clause-refuses : goal.returns-in-Vens-clause-refuses
-unfolding reply
-returns-in-Vens-clause-refuses g c = rw c.in-Vens.is (refused_up g.S.Store c.args.tx.now.conn.now c.vens.new.tx.conn.now (λ s. vens_reply s.base c.in-Vens.role c.in-Vens.page) c.vens.result c.vens.ensures.refuses)
 
 pub returns-in-Ven-clause-refuses : goal.returns-in-Ven-clause-refuses
 unfolding reply
@@ -86,13 +79,13 @@ pub returns-in-Shares-clause-refuses : goal.returns-in-Shares-clause-refuses
 unfolding reply
 returns-in-Shares-clause-refuses g c = rw c.in-Shares.is (refused_up g.S.Store c.args.tx.now.conn.now c.shares.new.tx.conn.now (λ s. shares_reply s.base c.in-Shares.role c.in-Shares.program) c.shares.result c.shares.ensures.refuses)
 
+pub returns-in-Frozen-clause-refuses : goal.returns-in-Frozen-clause-refuses
+unfolding reply
+returns-in-Frozen-clause-refuses g c = rw c.in-Frozen.is (refused_up g.S.Store c.args.tx.now.conn.now c.frozen.new.tx.conn.now (λ s. frozen_reply s.base c.in-Frozen.role c.in-Frozen.event) c.frozen.result c.frozen.ensures.refuses)
+
 pub returns-in-Report-clause-refuses : goal.returns-in-Report-clause-refuses
 unfolding reply
 returns-in-Report-clause-refuses g c = rw c.in-Report.is (refused_up g.S.Store c.args.tx.now.conn.now c.report.new.tx.conn.now (λ s. report_reply s c.in-Report.role c.in-Report.id) c.report.result c.report.ensures.refuses)
-
-pub returns-in-Subs-clause-refuses : goal.returns-in-Subs-clause-refuses
-unfolding reply
-returns-in-Subs-clause-refuses g c = rw c.in-Subs.is (refused_up g.S.Store c.args.tx.now.conn.now c.subs.new.tx.conn.now (λ s. subs_reply s.base c.in-Subs.role c.in-Subs.filter c.in-Subs.page) c.subs.result c.subs.ensures.refuses)
 
 pub returns-in-Sub-clause-refuses : goal.returns-in-Sub-clause-refuses
 unfolding reply
@@ -111,6 +104,9 @@ returns-in-Resources-clause-listed g c = rw c.in-Resources.is (each_listed (Forb
 
 pub returns-in-Resource-clause-listed : goal.returns-in-Resource-clause-listed
 returns-in-Resource-clause-listed g c = rw c.in-Resource.is (each_listed (Forbidden ∷ NotFound ∷ []) (Forbidden ∷ NotFound ∷ []) both c.resource.result c.resource.ensures.listed)
+
+pub returns-in-Frozen-clause-listed : goal.returns-in-Frozen-clause-listed
+returns-in-Frozen-clause-listed g c = rw c.in-Frozen.is (each_listed (Forbidden ∷ NotFound ∷ []) (Forbidden ∷ NotFound ∷ []) both c.frozen.result c.frozen.ensures.listed)
 
 pub returns-in-Report-clause-listed : goal.returns-in-Report-clause-listed
 returns-in-Report-clause-listed g c = rw c.in-Report.is (each_listed (Forbidden ∷ NotFound ∷ []) (Forbidden ∷ NotFound ∷ []) both c.report.result c.report.ensures.listed)

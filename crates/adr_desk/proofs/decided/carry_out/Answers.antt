@@ -71,6 +71,15 @@ returns-in-ShareSet-clause-answered g c = c.share_set.ensures.answered c.args.co
 pub returns-in-ShareSet-clause-listed : goal.returns-in-ShareSet-clause-listed
 returns-in-ShareSet-clause-listed g c = own_refused c.args.command.now c.share_set.result (rw c.in-ShareSet.is c.share_set.ensures.refused)
 
+pub returns-in-Freeze-clause-carries : goal.returns-in-Freeze-clause-carries
+returns-in-Freeze-clause-carries g c = rw c.in-Freeze.is c.freeze.ensures.carries
+
+pub returns-in-Freeze-clause-answered : goal.returns-in-Freeze-clause-answered
+returns-in-Freeze-clause-answered g c = c.freeze.ensures.answered c.args.command.now
+
+pub returns-in-Freeze-clause-listed : goal.returns-in-Freeze-clause-listed
+returns-in-Freeze-clause-listed g c = own_refused c.args.command.now c.freeze.result (rw c.in-Freeze.is c.freeze.ensures.refused)
+
 pub returns-in-Evidence-clause-carries : goal.returns-in-Evidence-clause-carries
 returns-in-Evidence-clause-carries g c = rw c.in-Evidence.is (rw c.as_slice.ensures at c.found.ensures.carries)
 

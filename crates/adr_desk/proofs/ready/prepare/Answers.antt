@@ -3,12 +3,11 @@ use Rattle.std.proofs.lemmas.Result.{IfErr-weaker}
 use Rattle.adr_db.proofs.Common.{state, Holds, no_schema}
 use Rattle.adr_state.specs.declared.state.State.{State}
 use Rattle.adr_state.specs.States.{empty}
-use Rattle.adr_db.specs.Kept.{contents_of}
-use Rattle.adr_held.specs.Held.{kept_of, AreLeftWith}
+use Rattle.adr_held.specs.Held.{AreLeftWith}
 use Rattle.adr_db.proofs.Results.{on_then}
 use Rattle.adr_desk.specs.declared.ready.Start.{Start}
 use Rattle.adr_desk.specs.Preparing.{Becomes}
-use Rattle.adr_desk.proofs.Readied.{survives_as, held_still, state_said}
+use Rattle.adr_desk.proofs.Readied.{survives_as, state_known}
 use Rattle.adr_desk.proofs.ready.prepare.Goals as goal
 
 pub returns-in-New-clause-crash : goal.returns-in-New-clause-crash
@@ -20,9 +19,11 @@ returns-in-New-clause-crash g c =
 pub returns-in-Kept-clause-made : goal.returns-in-Kept-clause-made
 returns-in-Kept-clause-made g c clean =
     let old = state g.S.Store c.args.conn.now in
-    let new = state g.S.Store c.check_in.new.conn in
-    on_then c.check_in.result (λ done held becomes. held_still old new done.0 held (subst (λ (start : Start). Becomes start held old) c.in-Kept.is becomes)) (c.check_in.ensures.whole.done clean)
+    on_then c.upgrade_in.result (λ done held becomes. done.0.holds held (subst (λ (start : Start). Becomes start held old) c.in-Kept.is becomes)) (c.upgrade_in.ensures.whole.done clean)
+
+pub returns-in-Kept-clause-known : goal.returns-in-Kept-clause-known
+returns-in-Kept-clause-known g c clean = on_then c.upgrade_in.result (λ done kept. done.0.known) (c.upgrade_in.ensures.whole.done clean)
 
 pub returns-in-Kept-clause-unknown : goal.returns-in-Kept-clause-unknown
 returns-in-Kept-clause-unknown g c clean =
-    IfErr-weaker c.check_in.result _ _ (λ refusal unknown is held was. unknown is (contents_of (kept_of held)) was.keeps.rows (state_said held)) (c.check_in.ensures.unknown clean)
+    IfErr-weaker c.upgrade_in.result _ _ (λ refusal unknown is held. state_known held (state g.S.Store c.args.conn.now) (unknown is)) (c.upgrade_in.ensures.unknown clean)

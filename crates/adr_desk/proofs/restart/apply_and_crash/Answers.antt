@@ -18,6 +18,6 @@ returns g c =
     ∥∥₁_map (c.sound_is_held.ensures sound) (λ was.
     elim (before_or_after old new (LeftStepped step) (state_in old) c.apply.ensures.crash it.0 (c.rests.ensures.leaves sound) was it.1.0 it.1.1)
     as (λ x. IsSound g.S.Store again × ((state_of g.S.Store again ≡ state_of g.S.Store c.args.desk) ⊎ IsStepOf (step (state_of g.S.Store c.args.desk)) (state_of g.S.Store again))) [
-      | inl early ↦ (let found = it.1.2 (state_in old) early in (found.0, inl found.1))
-      | inr late ↦ (let found = it.1.2 late.1 late.3 in (found.0, inr (late.0, late.2 ∙ ap (λ (t : _). Ok (late.0, t)) (sym found.1))))
+      | inl early ↦ (let found = it.1.2 (state_in old) (inl early) in (found.0, inl found.1))
+      | inr late ↦ (let found = it.1.2 late.1 (inl late.3) in (found.0, inr (late.0, late.2 ∙ ap (λ (t : _). Ok (late.0, t)) (sym found.1))))
     ])) c.crash.ensures

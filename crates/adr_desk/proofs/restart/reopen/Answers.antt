@@ -1,4 +1,4 @@
-use Rattle.std.proofs.Common.{ap, ◌∙◌}
+use Rattle.std.proofs.Common.{inl, ap, ◌∙◌}
 use Rattle.std.proofs.Math.Logic.{∥∥₁_map}
 use Rattle.sqlite.specs.Held.{Held}
 use Rattle.sqlite.specs.Effect.{Database}
@@ -20,4 +20,4 @@ returns-in-Ok-open_files g c =
     let opened = c.in-Ok-open_files.ensures.opened it.0 in
     let kept = finds_again c.into_parts-settings.result.1 conn c.in-Ok.files c.in-Ok.ensures.copied (c.in-Ok-open_files.ensures.found it.0) in
     let trees = ap (λ (d : Database). d.trees) opened.0.clean ∙ kept ∙ ap (λ (h : Held (FileStore g.row.D.Denot g.D.Disk)). (file_state h).committed.trees) same ∙ ap (λ (d : Database). d.trees) (c.rests.ensures.committed sound) in
-    ∥∥₁_map (c.sound_is_held.ensures sound) (λ was. let both = it.1 opened.0.is_open (state_in old) (left_by (state_in old) old _ trees was) in both)) c.over_left.ensures
+    ∥∥₁_map (c.sound_is_held.ensures sound) (λ was. let both = it.1 opened.0.is_open (state_in old) (inl (left_by (state_in old) old _ trees was)) in both)) c.over_left.ensures

@@ -38,9 +38,10 @@ same_counts a b h =
     }
 
 -- numbers that compare as equal are the same
-same_numbers : (a b : Meta) → true ≡ ((a.serial == b.serial) && (beq a.scan b.scan && (are_same a.counts b.counts && ((a.pending == b.pending) && ((a.keys == b.keys) && ((a.vens == b.vens) && ((a.resources == b.resources) && ((a.shares == b.shares) && ((a.reports == b.reports) && (a.subs == b.subs)))))))))) → a ≡ b
+same_numbers : (a b : Meta) → true ≡ ((a.serial == b.serial) && (beq a.scan b.scan && (are_same a.counts b.counts && ((a.pending == b.pending) && ((a.keys == b.keys) && ((a.vens == b.vens) && ((a.resources == b.resources) && ((a.shares == b.shares) && ((a.reports == b.reports) && ((a.subs == b.subs) && (a.frozen == b.frozen))))))))))) → a ≡ b
 same_numbers a b h =
-    let from_subs : Bool = a.subs == b.subs in
+    let from_frozen : Bool = a.frozen == b.frozen in
+    let from_subs : Bool = (a.subs == b.subs) && from_frozen in
     let from_reports : Bool = (a.reports == b.reports) && from_subs in
     let from_shares : Bool = (a.shares == b.shares) && from_reports in
     let from_resources : Bool = (a.resources == b.resources) && from_shares in
@@ -58,6 +59,7 @@ same_numbers a b h =
     let resources = both (a.resources == b.resources) from_shares vens.1 in
     let shares = both (a.shares == b.shares) from_reports resources.1 in
     let reports = both (a.reports == b.reports) from_subs shares.1 in
+    let subs = both (a.subs == b.subs) from_frozen reports.1 in
     λ i. record {
       serial = eqb-true a.serial b.serial serial.0 i;
       scan = same_bool a.scan b.scan scan.0 i;
@@ -68,7 +70,8 @@ same_numbers a b h =
       resources = eqb-true a.resources b.resources resources.0 i;
       shares = eqb-true a.shares b.shares shares.0 i;
       reports = eqb-true a.reports b.reports reports.0 i;
-      subs = eqb-true a.subs b.subs (sym reports.1) i;
+      subs = eqb-true a.subs b.subs subs.0 i;
+      frozen = eqb-true a.frozen b.frozen (sym subs.1) i;
     }
 
 pub returns-then-eq-clause-leaves : goal.returns-then-eq-clause-leaves

@@ -1,19 +1,15 @@
 use Rattle.std.proofs.Common.{arith}
-use Rattle.std.specs.Prelude.{bytes_eq}
-use Rattle.std.specs.List.{list_any}
+use Rattle.std.specs.Prelude.{◌==◌}
 use Rattle.adr_db.proofs.Common.{state, HasCleanDisk}
-use Rattle.adr_db.proofs.Results.{ok_then}
-use Rattle.adr_refresh.specs.Touched.{live_in, shares_in}
-use Rattle.adr_touched.proofs.Found.{shares_are}
-use Rattle.adr_touched.proofs.Gathered.{weaker}
-use Rattle.adr_touched.proofs.Tested.{by_program}
+use Rattle.adr_refresh.specs.Touched.{shares_in, events_frozen_in}
+use Rattle.adr_touched.specs.Answers.{live_events}
+use Rattle.adr_touched.proofs.FrozenFound.{both_have}
 use Rattle.adr_touched.proofs.events.events_of_resource.Goals as goal
 
 pub returns-clause-finds : goal.returns-clause-finds
-returns-clause-finds g c clean =
+returns-clause-finds g c clean kept was =
     let n = c.args.resource in
-    let early : HasCleanDisk (state g.S.Store c.programs_of_resource.new.tx.conn.now) = omega (arith, c.events_of_programs.ensures.lent.stays.crash.clean) in
-    ok_then c.events_of_programs.result (λ keys finds kept was.
-    let programs = c.in_ok-programs.ensures.finds early kept was in
-    let found = finds kept programs.1 in
-    (λ id there. found.0 id (weaker live_in by_program kept.mirror (shares_in kept.portfolio n) (λ p. list_any (λ program. bytes_eq p program) c.in_ok-programs.programs) (λ program shares. rw programs.0 (shares_are kept.portfolio n program shares)) id there), found.1)) (c.events_of_programs.ensures.finds clean)
+    let early : HasCleanDisk (state g.S.Store c.events_shared_by.new.tx.conn.now) = omega (arith, c.events_frozen_for.ensures.lent.stays.crash.clean) in
+    let shared = c.in_ok-shared.ensures.finds early kept was in
+    let frozen = c.in_ok-frozen.ensures.finds clean kept shared.1 in
+    (rw c.in_ok-both.ensures (both_have c.in_ok-shared.shared c.in_ok-frozen.frozen (live_events (shares_in kept.portfolio n) kept) (events_frozen_in (λ m. m == n) kept.portfolio) shared.0 frozen.0), frozen.1)

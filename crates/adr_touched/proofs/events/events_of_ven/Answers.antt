@@ -1,18 +1,14 @@
 use Rattle.std.proofs.Common.{arith}
-use Rattle.std.specs.List.{list_any}
 use Rattle.adr_db.proofs.Common.{state, HasCleanDisk}
-use Rattle.adr_db.proofs.Results.{ok_then}
-use Rattle.adr_refresh.specs.Touched.{live_in, shares_in, one_shares}
-use Rattle.adr_touched.proofs.Found.{one_of_resources}
-use Rattle.adr_touched.proofs.Gathered.{weaker}
-use Rattle.adr_touched.proofs.Tested.{by_program}
+use Rattle.adr_refresh.specs.Touched.{one_shares, has_resource, events_frozen_in}
+use Rattle.adr_touched.specs.Answers.{live_events}
+use Rattle.adr_touched.proofs.FrozenFound.{both_have}
 use Rattle.adr_touched.proofs.events.events_of_ven.Goals as goal
 
 pub returns-clause-finds : goal.returns-clause-finds
-returns-clause-finds g c clean =
-    let ven = c.args.ven in
-    let early : HasCleanDisk (state g.S.Store c.read_resources_of.new.tx.conn.now) = omega (arith, c.events_of_resources.ensures.lent.stays.crash.clean) in
-    ok_then c.events_of_resources.result (λ keys finds kept was.
-    let resources = c.in_ok-resources.ensures.finds early kept was in
-    let found = finds kept resources.1 in
-    (λ id there. found.0 id (weaker live_in by_program kept.mirror (one_shares kept.portfolio ven) (λ p. list_any (λ n. shares_in kept.portfolio n p) c.in_ok-resources.resources) (λ program shares. rw resources.0 (one_of_resources kept.portfolio ven program shares)) id there), found.1)) (c.events_of_resources.ensures.finds clean)
+returns-clause-finds g c clean kept was =
+    let n = c.args.ven in
+    let early : HasCleanDisk (state g.S.Store c.events_shared_with.new.tx.conn.now) = omega (arith, c.events_frozen_with.ensures.lent.stays.crash.clean) in
+    let shared = c.in_ok-shared.ensures.finds early kept was in
+    let frozen = c.in_ok-frozen.ensures.finds clean kept shared.1 in
+    (rw c.in_ok-both.ensures (both_have c.in_ok-shared.shared c.in_ok-frozen.frozen (live_events (one_shares kept.portfolio n) kept) (events_frozen_in (has_resource kept.portfolio n) kept.portfolio) shared.0 frozen.0), frozen.1)

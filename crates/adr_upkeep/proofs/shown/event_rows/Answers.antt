@@ -9,4 +9,4 @@ returns-clause-finds g c clean beside base was right =
     let event = c.args.event.now in
     let some : carries event ≡ true = search rules in
     let found = c.in_ok-ps.ensures.finds clean beside base was right in
-    (subst (λ b. c.in_ok-rows_for.field-0 ≡ cond b (rows_for id event (participants base.portfolio event)) []) (sym some) (c.in_ok-rows_for.ensures ∙ ap (rows_for id event) (c.as_slice.ensures ∙ found.0)), found.1, found.2)
+    (subst (λ b. c.in_ok-rows_for.field-0 ≡ cond b (rows_for id event (participants base.portfolio id event)) []) (sym some) (c.in_ok-rows_for.ensures ∙ ap (rows_for id event) (c.as_slice.ensures ∙ found.0)), found.1, found.2)

@@ -1,13 +1,27 @@
-use Rattle.std.proofs.Common.{◌≡◌, sym, ap, ◌∙◌}
+use Rattle.std.proofs.Common.{◌≡◌, true, false, sym, arith, ◌∙◌}
+use Rattle.adr_db.proofs.Common.{state, HasCleanDisk}
+use Rattle.adr_db.proofs.Results.{ok_then}
 use Rattle.adr_db.specs.Bases.{kept_beside}
-use Rattle.adr_db.specs.Sharing.{those_for}
-use Rattle.adr_db_portfolio.proofs.Participating.{participants_are}
-use Rattle.adr_state.specs.Participants.{participants}
+use Rattle.adr_db_portfolio.proofs.Participating.{participants_are, frozen_are}
+use Rattle.adr_state.specs.Frozen.{is_frozen}
 use Rattle.adr_upkeep.proofs.sharers.Sharers.participants.Goals as goal
 
+-- of an event that is frozen
+pub returns-then-branch-clause-finds : goal.returns-then-branch-clause-finds
+returns-then-branch-clause-finds g c clean =
+    let early : HasCleanDisk (state g.S.Store c.is_frozen.new.tx.conn.now) = omega (arith, c.read_frozen_sharers.ensures.lent.stays.crash.clean) in
+    ok_then c.read_frozen_sharers.result (λ ps finds beside base was right.
+    let frozen = c.in_ok-is_frozen.ensures.finds early (kept_beside beside base) was in
+    let is : is_frozen base.portfolio c.args.id.now ≡ true = sym frozen.0 ∙ c.if-branch.true in
+    let found = finds (kept_beside beside base) frozen.1 in
+    (found.0 ∙ sym (frozen_are (kept_beside beside base) c.args.event.now c.args.id.now _ was is), right, found.1)) (c.read_frozen_sharers.ensures.finds clean)
+
+-- and of one that is not
 pub returns-clause-finds : goal.returns-clause-finds
-returns-clause-finds g c clean beside base was right =
-    let event = c.args.event.now in
-    let found = c.in_ok-read.ensures.finds clean (kept_beside beside base) was right in
-    let ps : c.in_ok-ps.ps.items ≡ participants base.portfolio event = c.in_ok-ps.ensures ∙ ap (those_for event.resource_names) (c.as_slice.ensures ∙ found.0) ∙ sym (participants_are (kept_beside beside base) event _ was) in
-    (c.from_vec.ensures ∙ ps, found.1, found.2)
+returns-clause-finds g c clean =
+    let early : HasCleanDisk (state g.S.Store c.is_frozen.new.tx.conn.now) = omega (arith, c.sharing.ensures.lent.stays.crash.clean) in
+    ok_then c.sharing.result (λ ps finds beside base was right.
+    let frozen = c.in_ok-is_frozen.ensures.finds early (kept_beside beside base) was in
+    let free : is_frozen base.portfolio c.args.id.now ≡ false = sym frozen.0 ∙ c.if-branch.false in
+    let found = finds (kept_beside beside base) frozen.1 right in
+    (found.0 ∙ sym (participants_are (kept_beside beside base) c.args.event.now c.args.id.now _ was free), found.1, found.2)) (c.sharing.ensures.finds clean)

@@ -1,0 +1,3 @@
+mod Weights
+mod Runs
+pub mod Frozen

@@ -1,0 +1,4 @@
+//! Laws over whole runs of events that are frozen.
+#![tactic(auto)]
+
+pub mod laws;
