@@ -3,3 +3,4 @@ pub mod Streams
 pub mod Cuts
 pub mod Queries
 pub mod Pages
+pub mod Picks

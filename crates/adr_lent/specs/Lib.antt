@@ -2,3 +2,4 @@ pub mod Texts
 pub mod Lent
 pub mod Selections
 pub mod Pages
+pub mod Picks

@@ -1,5 +1,5 @@
 -- A page of the rows that are wanted, and pages of what is kept of shown events.
-use Rattle.std.specs.Prelude.{◌≡◌, ◌==◌, ◌⊎◌, ℕ, ◌-◌, ◌<◌, ◌≤◌, Bool, List, [], ◌∷◌, ◌++◌, length, map, filter, drop, Option, None, Some}
+use Rattle.std.specs.Prelude.{◌≡◌, ◌==◌, ◌⊎◌, ℕ, ◌-◌, ◌<◌, ◌≤◌, Bool, List, [], ◌∷◌, ◌++◌, length, filter, drop, Option, None, Some}
 use Rattle.std.specs.List.{AllZip}
 use Rattle.sqlite.specs.Order.{Row}
 use Rattle.sqlite.specs.Store.{Ghosts}
@@ -10,8 +10,6 @@ use Rattle.adr_queries.specs.declared.filter.EventFilter.{EventFilter}
 use Rattle.adr_queries.specs.declared.query.Page.{Page}
 use Rattle.adr_db.specs.declared.shown.ShownColumns.{ShownColumns}
 use Rattle.adr_db.specs.declared.shown.ShownKey.{ShownKey}
-use Rattle.adr_db.specs.Kept.{Kept}
-use Rattle.adr_db.specs.Rows.{shown_row}
 use Rattle.adr_lent.specs.Lent.{HasLent}
 
 -- ---- the page
@@ -42,10 +40,6 @@ ShownEntry = ShownKey × ShownColumns
 abbrev pub kept_for : Option ℕ → List ShownEntry → List ShownEntry
 kept_for None entries = entries
 kept_for (Some ven) entries = filter (λ e. e.1.ven == ven) entries
-
--- the rows in which it stands
-abbrev pub rows_for : Option ℕ → Kept → List Row
-rows_for ven kept = map shown_row (kept_for ven kept.shown)
 
 -- whether it is wanted, by its columns
 abbrev pub wants_row : EventFilter → ShownColumns → Bool

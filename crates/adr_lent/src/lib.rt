@@ -4,10 +4,10 @@
 
 mod cut;
 mod page;
+mod picked;
 mod shown;
 mod stream;
 
 pub use cut::{Wanting, lent_page, offer};
 pub use page::shown_page;
-pub use shown::{lend_shown, lend_shown_to};
 pub use stream::{lend, next_of};

@@ -1,14 +1,16 @@
 //! A page of what is kept of shown events.
-ghost use Rattle.std.specs.Prelude.{IsTrue, ◌≡◌, take, drop, None, Some, IfOk, OnOk, IfErr};
+ghost use Rattle.std.specs.Prelude.{IsTrue, ◌≡◌, true, take, drop, filter, IfOk, OnOk, IfErr};
 ghost use Rattle.sqlite.specs.Held.{state};
 ghost use Rattle.sqlite.specs.State.{HasCleanDisk};
 ghost use Rattle.adr_db.specs.Calls.{IsOfStore};
 ghost use Rattle.adr_db.specs.Kept.{Kept, Keeps};
 ghost use Rattle.adr_lent.specs.Lent.{Stands};
 ghost use Rattle.adr_lent.specs.Pages.{kept_for, wants_row, wanted_among};
+ghost use Rattle.adr_lent.specs.Picks.{picks, picked_part};
 
 use crate::cut::{Wanting, lent_page};
-use crate::shown::{lend_shown, lend_shown_to};
+use crate::picked::{Picked, shown_to, wanted};
+use crate::shown::lend_picked;
 use adr_db::statement::refusal_of;
 use adr_db::{ShownColumns, ShownKey};
 use adr_objects::Number;
@@ -32,47 +34,80 @@ impl Wanting<(ShownKey, ShownColumns)> for EventFilter {
     }
 }
 
-fn page_of_all<S: Alter>(
-    alloc: Global,
-    conn: &mut Connection<S>,
-    filter: &EventFilter,
-    page: Page,
-) -> Result<Rows<(ShownKey, ShownColumns)>, Refusal>
-    ensures finds { HasCleanDisk (state S.Store conn.new) → IfOk result (λ rows. (kept : Kept) → Keeps kept (state S.Store conn.old)
-        → (rows ≡ take page.limit (drop page.skip (wanted_among filter.now (kept_for None kept.shown)))) × Keeps kept (state S.Store conn.new)) }
-    ensures was_open { HasCleanDisk (state S.Store conn.new) → OnOk result (IsTrue (state S.Store conn.old).is_open) }
-    ensures stands { Stands S.Store conn.old conn.new }
-    ensures refused { IfErr result IsOfStore }
-{
-    let mut rows = match lend_shown(conn) {
-        Ok(rows) => rows,
-        Err(error) => return Err(refusal_of(error)),
-    };
-    lent_page::<(ShownKey, ShownColumns), EventFilter, S>(alloc, &mut rows, filter, page)
+/// Where no other rows are lent than those that are wanted.
+struct Each;
+
+impl<T> Wanting<T> for Each {
+    ghost wanted = { λ each value. true };
+
+    fn is_wanted(&self, _: &T) -> bool {
+        true
+    }
 }
 
-fn page_to<S: Alter>(
+// The page of those that are wanted of the ones that are picked, or of a part of these.
+fn page_in<W: Wanting<(ShownKey, ShownColumns)>, S: Alter>(
     alloc: Global,
     conn: &mut Connection<S>,
-    ven: Number,
-    filter: &EventFilter,
+    picked: &Picked,
+    part: Option<Page>,
+    wanting: &W,
     page: Page,
 ) -> Result<Rows<(ShownKey, ShownColumns)>, Refusal>
     ensures finds { HasCleanDisk (state S.Store conn.new) → IfOk result (λ rows. (kept : Kept) → Keeps kept (state S.Store conn.old)
-        → (rows ≡ take page.limit (drop page.skip (wanted_among filter.now (kept_for (Some ven) kept.shown)))) × Keeps kept (state S.Store conn.new)) }
+        → (rows ≡ take page.limit (drop page.skip (filter (W.wanted wanting.now) (picked_part picked.now part kept)))) × Keeps kept (state S.Store conn.new)) }
     ensures was_open { HasCleanDisk (state S.Store conn.new) → OnOk result (IsTrue (state S.Store conn.old).is_open) }
     ensures stands { Stands S.Store conn.old conn.new }
     ensures refused { IfErr result IsOfStore }
 {
-    let mut rows = match lend_shown_to(conn, ven) {
+    let mut rows = match lend_picked(conn, picked, part) {
         Ok(rows) => rows,
         Err(error) => return Err(refusal_of(error)),
     };
-    lent_page::<(ShownKey, ShownColumns), EventFilter, S>(alloc, &mut rows, filter, page)
+    lent_page::<(ShownKey, ShownColumns), W, S>(alloc, &mut rows, wanting, page)
+}
+
+// The page of those that are picked: its rows alone are lent.
+fn page_of<S: Alter>(
+    alloc: Global,
+    conn: &mut Connection<S>,
+    picked: &Picked,
+    page: Page,
+) -> Result<Rows<(ShownKey, ShownColumns)>, Refusal>
+    ensures finds { HasCleanDisk (state S.Store conn.new) → IfOk result (λ rows. (kept : Kept) → Keeps kept (state S.Store conn.old)
+        → (rows ≡ take page.limit (drop page.skip (filter (picks picked.now) kept.shown))) × Keeps kept (state S.Store conn.new)) }
+    ensures was_open { HasCleanDisk (state S.Store conn.new) → OnOk result (IsTrue (state S.Store conn.old).is_open) }
+    ensures stands { Stands S.Store conn.old conn.new }
+    ensures refused { IfErr result IsOfStore }
+{
+    let first = Page {
+        skip: 0,
+        limit: page.limit,
+    };
+    page_in::<Each, S>(alloc, conn, picked, Some(page), &Each, first)
+}
+
+// The page of those that are wanted, each of which is looked at.
+fn page_among<S: Alter>(
+    alloc: Global,
+    conn: &mut Connection<S>,
+    ven: Option<Number>,
+    filter: &EventFilter,
+    page: Page,
+) -> Result<Rows<(ShownKey, ShownColumns)>, Refusal>
+    ensures finds { HasCleanDisk (state S.Store conn.new) → IfOk result (λ rows. (kept : Kept) → Keeps kept (state S.Store conn.old)
+        → (rows ≡ take page.limit (drop page.skip (wanted_among filter.now (kept_for ven kept.shown)))) × Keeps kept (state S.Store conn.new)) }
+    ensures was_open { HasCleanDisk (state S.Store conn.new) → OnOk result (IsTrue (state S.Store conn.old).is_open) }
+    ensures stands { Stands S.Store conn.old conn.new }
+    ensures refused { IfErr result IsOfStore }
+{
+    let picked = shown_to(ven);
+    page_in::<EventFilter, S>(alloc, conn, &picked, None, filter, page)
 }
 
 /// What is kept of the shown events that are wanted, of all or of those of one ven, in the order of their keys: after the
-/// first ones, at most so many. No row is read past the last one that is needed, and no text of an object is looked at.
+/// first ones, at most so many. No row is read past the last one that is needed, and no text of an object is looked at. Where
+/// what is asked for stands in one column, the rows of the page alone are lent.
 pub fn shown_page<S: Alter>(
     alloc: Global,
     conn: &mut Connection<S>,
@@ -86,8 +121,8 @@ pub fn shown_page<S: Alter>(
     ensures stands { Stands S.Store conn.old conn.new }
     ensures refused { IfErr result IsOfStore }
 {
-    match ven {
-        Some(ven) => page_to(alloc, conn, ven, filter, page),
-        None => page_of_all(alloc, conn, filter, page),
-    }
+    let Some(picked) = wanted(alloc, &ven, filter)? else {
+        return page_among(alloc, conn, ven, filter, page);
+    };
+    page_of(alloc, conn, &picked, page)
 }
