@@ -1,5 +1,10 @@
 //! The texts that tables keep of what is shown.
+use crate::objects::stamps;
+use adr_event_text::event_text;
+use adr_objects::Number;
 use adr_shown::{read_rolled_up, read_shown, write_rolled_up, write_shown};
+use adr_text::{ObjectId, Refusal};
+use std::alloc::Global;
 use std::test::Fail;
 
 const SHOWN: &str =
@@ -16,6 +21,30 @@ fn shown_event_is_read_and_written_again(rt: HostRuntime) -> Result<(), Fail> {
     assert!(rt; event.ven_name.as_str() == "alpha" && event.resource_name.as_str() == "a1");
     assert!(rt; write_shown(alloc, &event)?.as_str() == SHOWN);
     assert!(rt; read_shown(alloc, "{}").is_err() && read_shown(alloc, ROLLED_UP).is_err());
+    Ok(())
+}
+
+// What resource 3 is told of the event e1, of what is kept of it.
+fn told(alloc: Global, kept: &str) -> Result<String, Refusal> {
+    let event = ObjectId::new(alloc, "e1")?;
+    Ok(event_text(alloc, Number::new(3), &event, &stamps()?, kept)?)
+}
+
+const SHOWN_TOLD: &str =
+    "{\"createdDateTime\":\"2024-07-01T10:00:00Z\",\"id\":\"r3-e1\",\"intervals\":[{\"id\":0,\"payloads\":[{\"type\":\"DISPATCH_SETPOINT\",\"values\":[1]}]}],\"modificationDateTime\":\"2024-07-01T10:00:00Z\",\"objectType\":\"EVENT\",\"programID\":\"p1\",\"targets\":[{\"type\":\"VEN_NAME\",\"values\":[\"alpha\"]},{\"type\":\"RESOURCE_NAME\",\"values\":[\"a1\"]}]}";
+
+// With a name of quotes, brackets, a comma and a backslash, with a period and with a priority.
+const NAMED: &str =
+    "{\"eventName\":\"\\\"peak\\\", {2]\\\\\",\"intervalPeriod\":{\"duration\":\"PT1H\",\"start\":\"2024-07-01T10:00:00Z\"},\"intervals\":[],\"objectType\":\"EVENT\",\"priority\":1,\"programID\":\"p1\",\"targets\":[{\"type\":\"VEN_NAME\",\"values\":[\"alpha\"]},{\"type\":\"RESOURCE_NAME\",\"values\":[\"a1\"]}]}";
+
+const NAMED_TOLD: &str =
+    "{\"createdDateTime\":\"2024-07-01T10:00:00Z\",\"eventName\":\"\\\"peak\\\", {2]\\\\\",\"id\":\"r3-e1\",\"intervalPeriod\":{\"duration\":\"PT1H\",\"start\":\"2024-07-01T10:00:00Z\"},\"intervals\":[],\"modificationDateTime\":\"2024-07-01T10:00:00Z\",\"objectType\":\"EVENT\",\"priority\":1,\"programID\":\"p1\",\"targets\":[{\"type\":\"VEN_NAME\",\"values\":[\"alpha\"]},{\"type\":\"RESOURCE_NAME\",\"values\":[\"a1\"]}]}";
+
+#[test]
+fn shown_event_is_told_of_its_kept_text(rt: HostRuntime) -> Result<(), Fail> {
+    let alloc = rt.alloc();
+    assert!(rt; told(alloc, SHOWN)?.as_str() == SHOWN_TOLD);
+    assert!(rt; told(alloc, NAMED)?.as_str() == NAMED_TOLD);
     Ok(())
 }
 

@@ -1,0 +1,3 @@
+pub mod WalkLemmas
+pub mod PassedLemmas
+pub mod PieceLemmas

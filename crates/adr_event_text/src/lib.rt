@@ -1,0 +1,9 @@
+//! The text of a shown event, made of the text that is kept of it: its bytes as they are, with the id and the stamps
+//! between them. Nothing of it is read as JSON, and nothing is written twice.
+#![tactic(auto)]
+
+mod pieces;
+mod spliced;
+mod walk;
+
+pub use spliced::event_text;

@@ -1,0 +1,81 @@
+//! The text of a shown event, made of what is kept of it.
+ghost use Rattle.std.specs.Prelude.{◌≡◌, ◌++◌, IfOk, string_bytes};
+ghost use Rattle.adr_event_text.specs.Pieces.{member_text, spliced, IsTextOf};
+
+use crate::pieces::{Pieces, pieces_of};
+use adr_objects::{Number, Stamps};
+use adr_text::ObjectId;
+use adr_written::shown_id;
+use json::Writer;
+use std::alloc::{AllocError, Global};
+
+// How many bytes an id, two stamps and their names have beside what is kept, at most, where the event's id has 128.
+const MORE: usize = 320;
+
+/// The bytes with one member more, whose name is given with what stands before it, its quotes and its colon.
+fn with_member(bytes: Vec<u8>, name: &[u8], text: &str) -> Result<Vec<u8>, AllocError>
+    ensures { IfOk result (λ all. all.items ≡ bytes.items ++ member_text name.now text.now) }
+{
+    let mut bytes = bytes;
+    bytes.extend_from_slice(name)?;
+    let mut writer = Writer::new(bytes);
+    writer.string(text)?;
+    Ok(writer.into_inner())
+}
+
+/// The pieces with the members that stand between them.
+#[tactic(auto, unfolding(crate::specs::Pieces::spliced))]
+fn spliced(
+    alloc: Global,
+    created: &str,
+    id: &str,
+    modified: &str,
+    kept: &[u8],
+) -> Result<Vec<u8>, AllocError>
+    ensures { IfOk result (λ all. all.items ≡ spliced created.now id.now modified.now kept.now) }
+{
+    let Pieces { name, middle, tail } = pieces_of(kept);
+    let bytes = Vec::with_capacity(alloc, kept.len().saturating_add(MORE))?;
+    let mut bytes = with_member(bytes, b"{\"createdDateTime\":", created)?;
+    bytes.extend_from_slice(b",")?;
+    bytes.extend_from_slice(name)?;
+    let mut bytes = with_member(bytes, b"\"id\":", id)?;
+    bytes.extend_from_slice(b",")?;
+    bytes.extend_from_slice(middle)?;
+    let mut bytes = with_member(bytes, b",\"modificationDateTime\":", modified)?;
+    bytes.extend_from_slice(tail)?;
+    Ok(bytes)
+}
+
+/// The bytes as a text. No clause says that pieces of a text are UTF-8, so they are looked at once more.
+fn text_of(bytes: Vec<u8>) -> Result<String, AllocError>
+    ensures { IfOk result (λ text. string_bytes text ≡ bytes.items) }
+{
+    match String::from_utf8(bytes) {
+        Ok(text) => Ok(text),
+        Err(_) => Err(AllocError),
+    }
+}
+
+/// The text of a shown event (OpenADR 3.0, EVENT), of the text that is kept of it, with its id and its stamps.
+pub fn event_text(
+    alloc: Global,
+    resource: Number,
+    event: &ObjectId,
+    stamps: &Stamps,
+    kept: &str,
+) -> Result<String, AllocError>
+    ensures { IfOk result (λ text. IsTextOf resource event.now stamps.now kept.now (string_bytes text)) }
+{
+    let id = shown_id(alloc, resource, event)?;
+    let created = stamps.created.text(alloc)?;
+    let modified = stamps.modified.text(alloc)?;
+    let bytes = spliced(
+        alloc,
+        created.as_str(),
+        id.as_str(),
+        modified.as_str(),
+        kept.as_bytes(),
+    )?;
+    text_of(bytes)
+}
