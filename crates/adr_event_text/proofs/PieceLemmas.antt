@@ -1,8 +1,6 @@
 -- The pieces of the text that is kept of a shown event, with its id and its stamps between them, are the event's text.
 use Rattle.std.proofs.Common.{◌≡◌, ℕ, true, false, List, [], ◌∷◌, ◌++◌, length, take, drop, map, codes, Option, Some, None, option_map, refl, sym, ap, ◌∙◌, arith, append_assoc, length-append}
-use Rattle.std.specs.List.{AllByRecursion}
 use Rattle.std.proofs.lemmas.Bool.{lt-ltb}
-use Rattle.std.proofs.lemmas.List.Elements.{recursion_from_All}
 use Rattle.std.proofs.Math.Seq.{take-append_seam, drop-append_seam}
 use Rattle.json.specs.Print.{escape_byte, quoted}
 use Rattle.serde_json.specs.Data.{Data, string, no_members}
@@ -16,11 +14,9 @@ use Rattle.adr_objects.specs.declared.shown.Stamps.{Stamps}
 use Rattle.adr_objects.specs.Canonical.{natural_data, period_data}
 use Rattle.adr_written.specs.Ids.{shown_id}
 use Rattle.adr_written.specs.Objects.{shown_interval_data, targets_data, event_object_data, event_text}
-use Rattle.adr_shown.specs.Types.{IsShownInterval, IsShown}
 use Rattle.adr_shown.specs.ShownTexts.{shown_data, shown_text}
 use Rattle.adr_event_text.specs.Walks.{member_len}
 use Rattle.adr_event_text.specs.Pieces.{begins, named_len, name_of, middle_of, tail_of, middle_len, member_text, spliced, IsTextOf}
-use Rattle.adr_event_text.proofs.PassedLemmas.{period_passed, intervals_passed}
 use Rattle.adr_event_text.proofs.WalkLemmas.{Passes, passes_both, quoted_passes, value_passes, member_is}
 
 -- a member with the comma behind it, where there is one
@@ -129,7 +125,7 @@ name_len_is (Some name) rest h = named_some (codes "\"eventName\":") (compact_te
 
 period_len_is : (period : Option Period) (rest : List ℕ) → begins (codes "\"intervalPeriod\":") rest ≡ false → named_len (codes "\"intervalPeriod\":") (period_text period ++ rest) ≡ length (period_text period)
 period_len_is None rest h = named_none (codes "\"intervalPeriod\":") rest h
-period_len_is (Some period) rest h = named_some (codes "\"intervalPeriod\":") (compact_text (period_data period)) rest (λ k. refl) (value_passes (period_data period) (period_passed period)) refl
+period_len_is (Some period) rest h = named_some (codes "\"intervalPeriod\":") (compact_text (period_data period)) rest (λ k. refl) (value_passes (period_data period)) refl
 
 -- what is behind the name has another one
 other_name : (period : Option Period) (intervals : List ShownInterval) (rest : List ℕ) → begins (codes "\"eventName\":") (period_text period ++ (intervals_text intervals ++ rest)) ≡ false
@@ -149,26 +145,26 @@ record Cut (kept name middle tail : List ℕ) : Type 0 where
   middle_is : middle_of kept ≡ middle
   tail_is : tail_of kept ≡ tail
 
-intervals_pass : (intervals : List ShownInterval) → AllByRecursion IsShownInterval intervals → Passes (intervals_text intervals)
-intervals_pass intervals h =
-    passes_both (codes "\"intervals\":") (compact_text (array_of (map shown_interval_data intervals))) (λ k. refl) (value_passes (array_of (map shown_interval_data intervals)) (intervals_passed intervals h))
+intervals_pass : (intervals : List ShownInterval) → Passes (intervals_text intervals)
+intervals_pass intervals =
+    passes_both (codes "\"intervals\":") (compact_text (array_of (map shown_interval_data intervals))) (λ k. refl) (value_passes (array_of (map shown_interval_data intervals)))
 
-middle_len_is : (period : Option Period) (intervals : List ShownInterval) (rest : List ℕ) → AllByRecursion IsShownInterval intervals
+middle_len_is : (period : Option Period) (intervals : List ShownInterval) (rest : List ℕ)
     → middle_len (period_text period ++ (intervals_text intervals ++ 44 ∷ rest)) ≡ length (period_text period ++ intervals_text intervals)
-middle_len_is period intervals rest h =
+middle_len_is period intervals rest =
     let behind : List ℕ = intervals_text intervals ++ 44 ∷ rest in
     let first = period_len_is period behind refl in
-    let second = ap member_len (cut_at (period_text period) behind _ first).1 ∙ member_is (intervals_text intervals) rest (intervals_pass intervals h) in
+    let second = ap member_len (cut_at (period_text period) behind _ first).1 ∙ member_is (intervals_text intervals) rest (intervals_pass intervals) in
     omega (arith, first, second, length-append (period_text period) (intervals_text intervals))
 
-cut : (name : Option (List ℕ)) (period : Option Period) (intervals : List ShownInterval) (rest : List ℕ) → AllByRecursion IsShownInterval intervals
+cut : (name : Option (List ℕ)) (period : Option Period) (intervals : List ShownInterval) (rest : List ℕ)
     → Cut (123 ∷ (name_text name ++ (period_text period ++ (intervals_text intervals ++ 44 ∷ rest)))) (name_text name) (period_text period ++ intervals_text intervals) (44 ∷ rest)
 unfolding name_of middle_of tail_of
-cut name period intervals rest h =
+cut name period intervals rest =
     let behind : List ℕ = period_text period ++ (intervals_text intervals ++ 44 ∷ rest) in
     let first = cut_at (name_text name) behind _ (name_len_is name behind (other_name period intervals (44 ∷ rest))) in
     let apart : behind ≡ (period_text period ++ intervals_text intervals) ++ 44 ∷ rest = sym (append_assoc (period_text period) (intervals_text intervals) (44 ∷ rest)) in
-    let second = cut_at (period_text period ++ intervals_text intervals) (44 ∷ rest) (middle_len behind) (middle_len_is period intervals rest h) in
+    let second = cut_at (period_text period ++ intervals_text intervals) (44 ∷ rest) (middle_len behind) (middle_len_is period intervals rest) in
     record {
       name_is = first.0;
       middle_is = ap (λ text. take (middle_len text) text) first.1 ∙ ap (take (middle_len behind)) apart ∙ second.0;
@@ -192,20 +188,19 @@ spliced_is created id modified kept name middle tail c =
     rw (c.name_is, c.middle_is, c.tail_is)
     (in_turn (member_text (codes "{\"createdDateTime\":") created) (codes ",") name (member_text (codes "\"id\":") id) middle (member_text (codes ",\"modificationDateTime\":") modified) tail)
 
-pub spliced_as_told : (o : EventObject) → IsShown o.shown → spliced (moment_text o.stamps.created) (shown_id o.resource o.event) (moment_text o.stamps.modified) (shown_text o.shown) ≡ event_text o
-spliced_as_told o h =
+pub spliced_as_told : (o : EventObject) → spliced (moment_text o.stamps.created) (shown_id o.resource o.event) (moment_text o.stamps.modified) (shown_text o.shown) ≡ event_text o
+spliced_as_told o =
     let e = o.shown in
     let tail = tail_is e.priority e.program e.ven_name e.resource_name in
-    let all = recursion_from_All IsShownInterval e.intervals h.intervals in
     let kept : shown_text e ≡ 123 ∷ (name_text e.name ++ (period_text e.period ++ (intervals_text e.intervals ++ 44 ∷ tail.0))) =
     kept_by e.program e.name e.priority e.period e.intervals e.ven_name e.resource_name
     ∙ ap (λ rest. 123 ∷ (name_text e.name ++ (period_text e.period ++ (intervals_text e.intervals ++ rest)))) tail.1 in
     ap (spliced (moment_text o.stamps.created) (shown_id o.resource o.event) (moment_text o.stamps.modified)) kept
-    ∙ spliced_is (moment_text o.stamps.created) (shown_id o.resource o.event) (moment_text o.stamps.modified) _ _ _ _ (cut e.name e.period e.intervals tail.0 all)
+    ∙ spliced_is (moment_text o.stamps.created) (shown_id o.resource o.event) (moment_text o.stamps.modified) _ _ _ _ (cut e.name e.period e.intervals tail.0)
     ∙ ap (told_by o.stamps (shown_id o.resource o.event) e.name e.period e.intervals) (sym tail.1)
     ∙ sym (event_by o.resource o.event o.stamps e.program e.name e.priority e.period e.intervals e.ven_name e.resource_name)
 
 pub is_text_of : (resource : ℕ) (event : List ℕ) (stamps : Stamps) (kept created id modified text : List ℕ)
     → created ≡ moment_text stamps.created → id ≡ shown_id resource event → modified ≡ moment_text stamps.modified → text ≡ spliced created id modified kept → IsTextOf resource event stamps kept text
-is_text_of resource event stamps kept created id modified text first second third is shown can same =
-    rw (is, first, second, third, same) (spliced_as_told (record { resource = resource; event = event; shown = shown; stamps = stamps }) can)
+is_text_of resource event stamps kept created id modified text first second third is shown same =
+    rw (is, first, second, third, same) (spliced_as_told (record { resource = resource; event = event; shown = shown; stamps = stamps }))

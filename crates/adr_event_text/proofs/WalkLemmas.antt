@@ -1,16 +1,12 @@
 -- A walk over the text of a JSON value ends outside of strings, as deep as it began.
-use Rattle.std.proofs.Common.{◌≡◌, ℕ, suc, ◌+◌, ◌^◌, ◌/◌, ◌%◌, ◌<◌, ◌≤◌, ◌==◌, Bool, true, false, List, [], ◌∷◌, ◌++◌, length, Option, Some, None, inl, inr, ◌⊎◌, refl, sym, ap, ◌∙◌, arith, decimal, ℤ, pos, negsuc}
-use Rattle.std.specs.Prelude.{option_and_then, option_map, unwrap_or, nat_lt, ⊤}
-use Rattle.std.specs.Fmt.{signed_decimal}
-use Rattle.std.specs.Int.Signed.{mag}
-use Rattle.std.specs.Str.Parse.{AllDigits}
+use Rattle.std.proofs.Common.{◌≡◌, ℕ, suc, ◌+◌, ◌/◌, ◌%◌, ◌<◌, ◌≤◌, ◌==◌, Bool, true, false, List, [], ◌∷◌, ◌++◌, length, Option, Some, None, inl, inr, ◌⊎◌, refl, sym, ap, ◌∙◌, arith, zero, decimal, pos, negsuc}
+use Rattle.std.specs.Prelude.{option_and_then, option_map, unwrap_or, nat_lt, if◌then◌else◌}
+use Rattle.std.specs.Fmt.{digit_glyph, digits_onto, digits}
 use Rattle.std.specs.Char.{digit_char}
-use Rattle.std.proofs.lemmas.Fmt.{decimal_is_IsNumeral}
-use Rattle.std.proofs.lemmas.Str.Parse.{digit_from_value}
 use Rattle.std.proofs.lemmas.Option.{same_Some}
 use Rattle.std.proofs.lemmas.Bool.{true≢false, cases_lt, ne_eqb, eqb-true, lt-ltb, le-ltb}
 use Rattle.json.specs.Print.{quoted, escape, escape_byte, escape_letter}
-use Rattle.serde_json.specs.Data.{Data, null, boolean, number, string, array, object, Items, no_items, item, Members, no_members, member}
+use Rattle.serde_json.specs.Data.{Num, unsigned, negative, float, Data, null, boolean, number, string, array, object, Items, no_items, item, Members, no_members, member}
 use Rattle.serde_json.specs.Written.{number_text, compact_text, items_text, members_text, comma_if}
 use Rattle.adr_event_text.specs.Walks.{onward, bytes_on, member_len}
 use Rattle.adr_event_text.specs.declared.walk.Place.{Place}
@@ -81,38 +77,32 @@ quoted_passes s k = after_both (escape s) (34 ∷ []) (Inside k) ∙ ap (option_
 
 -- ---- numbers
 
-digits_pass : (ds : List ℕ) → AllDigits 10 ds → Passes ds
-digits_pass [] d k = refl
-digits_pass (c ∷ ds) d k =
-    let b = digit_from_value c d.0 in
-    rw (ne_eqb c 34 (λ e. omega arith), ne_eqb c 91 (λ e. omega arith), ne_eqb c 123 (λ e. omega arith), ne_eqb c 93 (λ e. omega arith), ne_eqb c 125 (λ e. omega arith), ne_eqb c 44 (λ e. omega arith)) (digits_pass ds d.1 k)
+-- a digit of a number in decimal
+digit_passes : (d : ℕ) → d < 10 → (acc : List ℕ) → Passes acc → Passes (digit_glyph false d ∷ acc)
+digit_passes d small acc h k =
+    rw (lt-ltb d 10 small, ne_eqb (48 + d) 34 (λ e. omega arith), ne_eqb (48 + d) 91 (λ e. omega arith), ne_eqb (48 + d) 123 (λ e. omega arith), ne_eqb (48 + d) 93 (λ e. omega arith), ne_eqb (48 + d) 125 (λ e. omega arith), ne_eqb (48 + d) 44 (λ e. omega arith)) (h k)
 
-pub decimal_passes : (n : ℕ) → n < 2 ^ 64 → Passes (decimal n)
-decimal_passes n small = digits_pass (decimal n) (decimal_is_IsNumeral n small).0.1
+digits_by : (b : Bool) (xs ys : List ℕ) → Passes xs → Passes ys → Passes (if b then xs else ys)
+digits_by true xs ys h g = h
+digits_by false xs ys h g = g
 
-pub signed_passes : (z : ℤ) → mag z < 2 ^ 63 → Passes (signed_decimal z)
-signed_passes (pos n) h = decimal_passes n (omega arith)
-signed_passes (negsuc n) h = λ k. decimal_passes (suc n) (omega arith) k
+digits_pass : (k n : ℕ) (acc : List ℕ) → Passes acc → Passes (digits_onto k 10 false n acc)
+digits_pass zero n acc h = h
+digits_pass (suc k) n acc h =
+    let more = digit_passes (n % 10) (omega arith) acc h in
+    digits_by (n / 10 == 0) (digit_glyph false (n % 10) ∷ acc) (digits_onto k 10 false (n / 10) (digit_glyph false (n % 10) ∷ acc)) more (digits_pass k (n / 10) (digit_glyph false (n % 10) ∷ acc) more)
+
+decimal_passes : (n : ℕ) → Passes (decimal n)
+unfolding digits
+decimal_passes n = digits_pass 64 n [] (λ k. refl)
+
+number_passes : (n : Num) → Passes (number_text n)
+number_passes (unsigned n) = decimal_passes n
+number_passes (negative (pos n)) = decimal_passes n
+number_passes (negative (negsuc n)) = λ k. decimal_passes (suc n) k
+number_passes (float x) = λ k. refl
 
 -- ---- values
-
--- the numbers in a value have 64 bits at most, and no float is among them
-abbrev mutual
-  pub IsPassed : Data → Type 0
-  IsPassed null = ⊤
-  IsPassed (boolean b) = ⊤
-  IsPassed (number n) = Passes (number_text n)
-  IsPassed (string s) = ⊤
-  IsPassed (array ds) = AllPassed ds
-  IsPassed (object ms) = EachPassed ms
-
-  pub AllPassed : Items → Type 0
-  AllPassed no_items = ⊤
-  AllPassed (item d ds) = IsPassed d × AllPassed ds
-
-  pub EachPassed : Members → Type 0
-  EachPassed no_members = ⊤
-  EachPassed (member k d ms) = IsPassed d × EachPassed ms
 
 -- a text that ends inner brackets
 abbrev Closes : List ℕ → Type 0
@@ -127,24 +117,24 @@ closes_parted true t h k = h k
 closes_parted false t h k = h k
 
 mutual
-  pub value_passes : (d : Data) → IsPassed d → Passes (compact_text d)
-  value_passes null h = λ k. refl
-  value_passes (boolean true) h = λ k. refl
-  value_passes (boolean false) h = λ k. refl
-  value_passes (number n) h = h
-  value_passes (string s) h = quoted_passes s
-  value_passes (array ds) h = λ k. items_close false ds h k
-  value_passes (object ms) h = λ k. members_close false ms h k
+  pub value_passes : (d : Data) → Passes (compact_text d)
+  value_passes null = λ k. refl
+  value_passes (boolean true) = λ k. refl
+  value_passes (boolean false) = λ k. refl
+  value_passes (number n) = number_passes n
+  value_passes (string s) = quoted_passes s
+  value_passes (array ds) = λ k. items_close false ds k
+  value_passes (object ms) = λ k. members_close false ms k
 
-  items_close : (later : Bool) (ds : Items) → AllPassed ds → Closes (items_text later ds)
-  items_close later no_items h = λ k. refl
-  items_close later (item d ds) h =
-      closes_parted later _ (closes_behind (compact_text d) (items_text true ds) (value_passes d h.0) (items_close true ds h.1))
+  items_close : (later : Bool) (ds : Items) → Closes (items_text later ds)
+  items_close later no_items = λ k. refl
+  items_close later (item d ds) =
+      closes_parted later _ (closes_behind (compact_text d) (items_text true ds) (value_passes d) (items_close true ds))
 
-  members_close : (later : Bool) (ms : Members) → EachPassed ms → Closes (members_text later ms)
-  members_close later no_members h = λ k. refl
-  members_close later (member n d ms) h =
-      closes_parted later _ (closes_behind (quoted n) _ (quoted_passes n) (λ k. closes_behind (compact_text d) (members_text true ms) (value_passes d h.0) (members_close true ms h.1) k))
+  members_close : (later : Bool) (ms : Members) → Closes (members_text later ms)
+  members_close later no_members = λ k. refl
+  members_close later (member n d ms) =
+      closes_parted later _ (closes_behind (quoted n) _ (quoted_passes n) (λ k. closes_behind (compact_text d) (members_text true ms) (value_passes d) (members_close true ms) k))
 
 -- ---- how far it goes
 

@@ -6,7 +6,6 @@ use Rattle.adr_objects.specs.declared.shown.ShownEvent.{ShownEvent}
 use Rattle.adr_objects.specs.declared.shown.Stamps.{Stamps}
 use Rattle.adr_written.specs.Objects.{event_text}
 use Rattle.adr_shown.specs.ShownTexts.{shown_text}
-use Rattle.adr_shown.specs.Types.{IsShown}
 use Rattle.adr_event_text.specs.Walks.{member_len}
 
 -- a text begins with the member of that name, which has its quotes and its colon
@@ -57,4 +56,4 @@ spliced created id modified kept =
 -- a text is that of a shown event with this id and these stamps, where the other one is what is kept of the event
 abbrev pub IsTextOf : ℕ → List ℕ → Stamps → List ℕ → List ℕ → Type 0
 IsTextOf resource event stamps kept text =
-    (shown : ShownEvent) → IsShown shown → kept ≡ shown_text shown → text ≡ event_text (record { resource = resource; event = event; shown = shown; stamps = stamps })
+    (shown : ShownEvent) → kept ≡ shown_text shown → text ≡ event_text (record { resource = resource; event = event; shown = shown; stamps = stamps })
