@@ -2,11 +2,12 @@
 use Rattle.std.specs.Prelude.{ℕ, Bool, true, false, List, [], ◌∷◌, ◌++◌, codes, Result, Ok, Err, if◌then◌else◌}
 use Rattle.std.specs.List.{flat_map}
 use Rattle.adr_text.specs.declared.refusal.Refusal.{Refusal}
-use Rattle.adr_written.specs.Objects.{program_text, event_text, ven_text, resource_text, share_text}
+use Rattle.adr_written.specs.Objects.{program_text, ven_text, resource_text, share_text}
 use Rattle.adr_written.specs.Counts.{counts_text}
 use Rattle.adr_written.specs.WrittenFrozen.{frozen_text}
 use Rattle.adr_written.specs.WrittenReports.{report_text, rollup_text}
 use Rattle.adr_written.specs.WrittenSubs.{sub_text}
+use Rattle.adr_event_text.specs.Kept.{kept_event_text}
 use Rattle.adr_machine.specs.declared.command.Command.{Command}
 use Rattle.adr_machine.specs.declared.command.Command.TheVariants.{VenAdd, ResourceAdd, ReportPost, SubPost}
 use Rattle.adr_queries.specs.declared.answer.Object.{Object}
@@ -23,7 +24,7 @@ use Rattle.adr_asked.specs.declared.asked.Asked.TheVariants as asked
 -- an object
 abbrev pub object_text : Object → List ℕ
 object_text (Program p) = program_text p
-object_text (Event e) = event_text e
+object_text (Event e) = kept_event_text e
 object_text (Report r) = report_text r
 object_text (Ven v) = ven_text v
 object_text (Resource r) = resource_text r

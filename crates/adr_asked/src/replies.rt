@@ -10,8 +10,8 @@ use adr_objects::{Rollup, RollupObject};
 use adr_reply::{Extra, Problem, Reply};
 use adr_text::{Name, ObjectId, Refusal};
 use adr_written::{
-    write_counts, write_event, write_frozen, write_program, write_report, write_resource,
-    write_rollup, write_share, write_sub, write_ven,
+    write_counts, write_frozen, write_program, write_report, write_resource, write_rollup,
+    write_share, write_sub, write_ven,
 };
 use std::alloc::{AllocError, Global};
 
@@ -20,7 +20,7 @@ fn object_text(alloc: Global, object: &Object) -> Result<String, AllocError>
 {
     match object {
         Object::Program(program) => write_program(alloc, program),
-        Object::Event(event) => write_event(alloc, event),
+        Object::Event(event) => event.text(alloc),
         Object::Report(report) => write_report(alloc, report),
         Object::Ven(ven) => write_ven(alloc, ven),
         Object::Resource(resource) => write_resource(alloc, resource),

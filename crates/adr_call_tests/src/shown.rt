@@ -1,6 +1,6 @@
 //! The texts that tables keep of what is shown.
 use crate::objects::stamps;
-use adr_event_text::event_text;
+use adr_event_text::KeptEvent;
 use adr_objects::Number;
 use adr_shown::{read_rolled_up, read_shown, write_rolled_up, write_shown};
 use adr_text::{ObjectId, Refusal};
@@ -24,10 +24,15 @@ fn shown_event_is_read_and_written_again(rt: HostRuntime) -> Result<(), Fail> {
     Ok(())
 }
 
-// What resource 3 is told of the event e1, of what is kept of it.
-fn told(alloc: Global, kept: &str) -> Result<String, Refusal> {
+// What resource 3 is shown of the event e1, of what is kept of it.
+fn kept(alloc: Global, text: &str) -> Result<KeptEvent, Refusal> {
     let event = ObjectId::new(alloc, "e1")?;
-    Ok(event_text(alloc, Number::new(3), &event, &stamps()?, kept)?)
+    let shown = read_shown(alloc, text)?;
+    Ok(KeptEvent::of(alloc, Number::new(3), &event, &shown, stamps()?)?)
+}
+
+fn told(alloc: Global, text: &str) -> Result<String, Refusal> {
+    Ok(kept(alloc, text)?.text(alloc)?)
 }
 
 const SHOWN_TOLD: &str =

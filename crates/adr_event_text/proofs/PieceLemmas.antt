@@ -13,10 +13,13 @@ use Rattle.adr_objects.specs.declared.shown.EventObject.{EventObject}
 use Rattle.adr_objects.specs.declared.shown.Stamps.{Stamps}
 use Rattle.adr_objects.specs.Canonical.{natural_data, period_data}
 use Rattle.adr_written.specs.Ids.{shown_id}
+use Rattle.adr_subscription.specs.declared.words.OperationKind.{OperationKind}
+use Rattle.adr_subscription.specs.Words.{operation_word}
+use Rattle.adr_written.specs.WrittenNotices.{notice_data, event_notice_text}
 use Rattle.adr_written.specs.Objects.{shown_interval_data, targets_data, event_object_data, event_text}
 use Rattle.adr_shown.specs.ShownTexts.{shown_data, shown_text}
 use Rattle.adr_event_text.specs.Walks.{member_len}
-use Rattle.adr_event_text.specs.Pieces.{begins, named_len, name_of, middle_of, tail_of, middle_len, member_text, spliced, IsTextOf}
+use Rattle.adr_event_text.specs.Pieces.{begins, named_len, name_of, middle_of, tail_of, middle_len, member_text, spliced, notice_text}
 use Rattle.adr_event_text.proofs.WalkLemmas.{Passes, passes_both, quoted_passes, value_passes, member_is}
 
 -- a member with the comma behind it, where there is one
@@ -200,7 +203,10 @@ spliced_as_told o =
     ∙ ap (told_by o.stamps (shown_id o.resource o.event) e.name e.period e.intervals) (sym tail.1)
     ∙ sym (event_by o.resource o.event o.stamps e.program e.name e.priority e.period e.intervals e.ven_name e.resource_name)
 
-pub is_text_of : (resource : ℕ) (event : List ℕ) (stamps : Stamps) (kept created id modified text : List ℕ)
-    → created ≡ moment_text stamps.created → id ≡ shown_id resource event → modified ≡ moment_text stamps.modified → text ≡ spliced created id modified kept → IsTextOf resource event stamps kept text
-is_text_of resource event stamps kept created id modified text first second third is shown same =
-    rw (is, first, second, third, same) (spliced_as_told (record { resource = resource; event = event; shown = shown; stamps = stamps }))
+pub notice_as_told : (operation : OperationKind) (o : EventObject) → notice_text operation (event_text o) ≡ event_notice_text operation o
+unfolding notice_text event_notice_text notice_data event_text escape_byte
+notice_as_told operation o =
+    let front : List ℕ = codes "{\"object\":" ++ event_text o in
+    let kind : List ℕ = codes ",\"objectType\":\"EVENT\"" in
+    let done : List ℕ = member_text (codes ",\"operation\":") (operation_word operation) in
+    append_assoc (front ++ kind) done (codes "}") ∙ append_assoc front kind (done ++ codes "}")

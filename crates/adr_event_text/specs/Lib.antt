@@ -1,2 +1,4 @@
 pub mod Walks
 pub mod Pieces
+pub mod Kept
+pub mod Laws

@@ -1,11 +1,12 @@
 -- The pieces of the text that is kept of a shown event, and the event's text of them.
-use Rattle.std.specs.Prelude.{◌≡◌, ℕ, suc, ◌+◌, List, ◌++◌, Bool, codes, length, take, drop, nat_lt, if◌then◌else◌}
+use Rattle.std.specs.Prelude.{ℕ, suc, ◌+◌, List, ◌++◌, Bool, codes, length, take, drop, nat_lt, if◌then◌else◌}
 use Rattle.std.specs.Str.{bytes_eq}
 use Rattle.json.specs.Print.{quoted}
-use Rattle.adr_objects.specs.declared.shown.ShownEvent.{ShownEvent}
+use Rattle.adr_text.specs.Moments.{moment_text}
+use Rattle.adr_subscription.specs.declared.words.OperationKind.{OperationKind}
+use Rattle.adr_subscription.specs.Words.{operation_word}
 use Rattle.adr_objects.specs.declared.shown.Stamps.{Stamps}
-use Rattle.adr_written.specs.Objects.{event_text}
-use Rattle.adr_shown.specs.ShownTexts.{shown_text}
+use Rattle.adr_written.specs.Ids.{shown_id}
 use Rattle.adr_event_text.specs.Walks.{member_len}
 
 -- a text begins with the member of that name, which has its quotes and its colon
@@ -53,7 +54,11 @@ unfoldable pub spliced : List ℕ → List ℕ → List ℕ → List ℕ → Lis
 spliced created id modified kept =
     ((((((member_text (codes "{\"createdDateTime\":") created ++ codes ",") ++ name_of kept) ++ member_text (codes "\"id\":") id) ++ codes ",") ++ middle_of kept) ++ member_text (codes ",\"modificationDateTime\":") modified) ++ tail_of kept
 
--- a text is that of a shown event with this id and these stamps, where the other one is what is kept of the event
-abbrev pub IsTextOf : ℕ → List ℕ → Stamps → List ℕ → List ℕ → Type 0
-IsTextOf resource event stamps kept text =
-    (shown : ShownEvent) → kept ≡ shown_text shown → text ≡ event_text (record { resource = resource; event = event; shown = shown; stamps = stamps })
+-- the text of a shown event, of the one that is kept of it, with its id and its stamps
+abbrev pub told_text : ℕ → List ℕ → Stamps → List ℕ → List ℕ
+told_text resource event stamps kept = spliced (moment_text stamps.created) (shown_id resource event) (moment_text stamps.modified) kept
+
+-- the text of what was done to an event of that text
+unfoldable pub notice_text : OperationKind → List ℕ → List ℕ
+notice_text operation event =
+    (((codes "{\"object\":" ++ event) ++ codes ",\"objectType\":\"EVENT\"") ++ member_text (codes ",\"operation\":") (operation_word operation)) ++ codes "}"

@@ -2,8 +2,10 @@
 //! between them. Nothing of it is read as JSON, and nothing is written twice.
 #![tactic(auto)]
 
+mod kept_event;
+pub mod laws;
 mod pieces;
 mod spliced;
 mod walk;
 
-pub use spliced::event_text;
+pub use kept_event::KeptEvent;

@@ -1,9 +1,10 @@
 //! The text of a shown event, made of what is kept of it.
 ghost use Rattle.std.specs.Prelude.{◌≡◌, ◌++◌, IfOk, string_bytes};
-ghost use Rattle.adr_event_text.specs.Pieces.{member_text, spliced, IsTextOf};
+ghost use Rattle.adr_event_text.specs.Pieces.{member_text, spliced, told_text, notice_text};
 
 use crate::pieces::{Pieces, pieces_of};
 use adr_objects::{Number, Stamps};
+use adr_subscription::OperationKind;
 use adr_text::ObjectId;
 use adr_written::shown_id;
 use json::Writer;
@@ -57,15 +58,15 @@ fn text_of(bytes: Vec<u8>) -> Result<String, AllocError>
     }
 }
 
-/// The text of a shown event (OpenADR 3.0, EVENT), of the text that is kept of it, with its id and its stamps.
-pub fn event_text(
+/// The text of a shown event, of the one that is kept of it, with its id and its stamps.
+pub(crate) fn event_text(
     alloc: Global,
     resource: Number,
     event: &ObjectId,
     stamps: &Stamps,
     kept: &str,
 ) -> Result<String, AllocError>
-    ensures { IfOk result (λ text. IsTextOf resource event.now stamps.now kept.now (string_bytes text)) }
+    ensures { IfOk result (λ text. string_bytes text ≡ told_text resource event.now stamps.now kept.now) }
 {
     let id = shown_id(alloc, resource, event)?;
     let created = stamps.created.text(alloc)?;
@@ -78,4 +79,29 @@ pub fn event_text(
         kept.as_bytes(),
     )?;
     text_of(bytes)
+}
+
+/// What was done to an event of that text, in bytes.
+#[tactic(auto, unfolding(crate::specs::Pieces::notice_text))]
+fn notice_bytes(alloc: Global, operation: OperationKind, event: &str) -> Result<Vec<u8>, AllocError>
+    ensures { IfOk result (λ all. all.items ≡ notice_text operation event.now) }
+{
+    let mut bytes = Vec::with_capacity(alloc, event.len().saturating_add(MORE))?;
+    bytes.extend_from_slice(b"{\"object\":")?;
+    bytes.extend_from_slice(event.as_bytes())?;
+    bytes.extend_from_slice(b",\"objectType\":\"EVENT\"")?;
+    let mut bytes = with_member(bytes, b",\"operation\":", operation.word())?;
+    bytes.extend_from_slice(b"}")?;
+    Ok(bytes)
+}
+
+/// The text of what was done to an event of that text.
+pub(crate) fn notice_text(
+    alloc: Global,
+    operation: OperationKind,
+    event: &str,
+) -> Result<String, AllocError>
+    ensures { IfOk result (λ text. string_bytes text ≡ notice_text operation event.now) }
+{
+    text_of(notice_bytes(alloc, operation, event)?)
 }

@@ -12,6 +12,7 @@ use Rattle.adr_state.specs.declared.keys.ViewKey.TheVariants as key
 use Rattle.adr_view.specs.declared.view.Content.{Content}
 use Rattle.adr_view.specs.declared.view.Content.TheVariants as content
 use Rattle.adr_view.specs.Views.{rows_shown, view}
+use Rattle.adr_event_text.specs.Kept.{kept_as}
 use Rattle.adr_queries.specs.declared.answer.Object.{Object}
 use Rattle.adr_queries.specs.declared.answer.Object.TheVariants as object
 use Rattle.adr_queries.specs.Shown.{is_of, sees, rows_in_sight, object_of, object_at}
@@ -66,7 +67,7 @@ module _ (stamps : List (ViewKey × Stamps)) where
   told_of (key.Program id, content.Rollup rollup) h = absurd h.1.0
   told_of (key.Event id resource, content.Program name) h = absurd h.1.0
   told_of (key.Event id resource, content.Event shown) h =
-      told_by (key.Event id resource) (content.Event shown) (λ s is. (object.Event (record { resource = resource; event = id; shown = shown; stamps = s }), refl, (s, is, refl))) h.1.1
+      told_by (key.Event id resource) (content.Event shown) (λ s is. (object.Event (kept_as resource id shown s), refl, (s, is, refl))) h.1.1
   told_of (key.Event id resource, content.Report body) h = absurd h.1.0
   told_of (key.Event id resource, content.Rollup rollup) h = absurd h.1.0
   told_of (key.Report n, content.Program name) h = absurd h.1.0

@@ -2,7 +2,6 @@
 use Rattle.std.specs.Prelude.{List, Option, Some, None, option_and_then}
 use Rattle.adr_objects.specs.declared.shown.Stamps.{Stamps}
 use Rattle.adr_objects.specs.declared.shown.ProgramObject.{ProgramObject}
-use Rattle.adr_objects.specs.declared.shown.EventObject.{EventObject}
 use Rattle.adr_objects.specs.declared.report.ReportObject.{ReportObject}
 use Rattle.adr_subscription.specs.declared.words.ObjectKind.TheVariants as kind
 use Rattle.adr_subscription.specs.declared.words.OperationKind.{OperationKind}
@@ -15,7 +14,9 @@ use Rattle.adr_view.specs.declared.changes.Operation.TheVariants as operation
 use Rattle.adr_queries.specs.declared.answer.Object.{Object}
 use Rattle.adr_queries.specs.declared.answer.Object.TheVariants as object
 use Rattle.adr_queries.specs.Shown.{owner_of, object_at}
-use Rattle.adr_written.specs.WrittenNotices.{program_notice_text, event_notice_text, report_notice_text}
+use Rattle.adr_written.specs.WrittenNotices.{program_notice_text, report_notice_text}
+use Rattle.adr_event_text.specs.declared.kept_event.KeptEvent.{KeptEvent}
+use Rattle.adr_event_text.specs.Kept.{kept_notice_text}
 use Rattle.adr_notices.specs.declared.notice.Notice.{Notice}
 
 -- what happened at a key, as it is told: POST, PUT or DELETE for what appeared, differs or went
@@ -36,14 +37,14 @@ program_notice done p = record {
 }
 
 -- what is told of what a resource is shown of an event, which is of the ven that owns the resource
-abbrev pub event_notice : Base → OperationKind → EventObject → Notice
+abbrev pub event_notice : Base → OperationKind → KeptEvent → Notice
 event_notice base done e = record {
   kind = kind.Event;
   operation = done;
-  program = e.shown.program;
+  program = e.program;
   ven = owner_of base e.resource;
-  names = Some (record { ven_name = e.shown.ven_name; resource_name = e.shown.resource_name });
-  body = event_notice_text done e;
+  names = Some (record { ven_name = e.ven_name; resource_name = e.resource_name });
+  body = kept_notice_text done e;
 }
 
 -- what is told of a report, which is of the ven that owns the resource that it is on

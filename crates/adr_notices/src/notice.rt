@@ -2,13 +2,14 @@
 ghost use Rattle.std.specs.Prelude.{◌≡◌, IfOk};
 ghost use Rattle.adr_notices.specs.Notices.{operation_kind, program_notice, event_notice, report_notice, notice_about, notice_of};
 
-use adr_objects::{EventObject, Number, ProgramObject, ReportObject, Stamps};
+use adr_event_text::KeptEvent;
+use adr_objects::{Number, ProgramObject, ReportObject, Stamps};
 use adr_queries::{Object, object_at, owner_of};
 use adr_state::{Base, ViewKey};
 use adr_subscription::{FreeText, ObjectKind, OperationKind};
 use adr_text::{Name, ObjectId, Table};
 use adr_view::{Content, Operation};
-use adr_written::{write_event_notice, write_program_notice, write_report_notice};
+use adr_written::{write_program_notice, write_report_notice};
 use std::alloc::{AllocError, Global};
 
 /// The names of those who are shown an event, by which it is targeted (OpenADR 3.0, targets of an event).
@@ -77,12 +78,12 @@ fn program_notice(
 }
 
 /// The names of those who are shown an event.
-fn names_of(event: &EventObject) -> Result<EventNames, AllocError>
-    ensures { IfOk result (λ names. names ≡ record { ven_name = event.now.shown.ven_name; resource_name = event.now.shown.resource_name }) }
+fn names_of(event: &KeptEvent) -> Result<EventNames, AllocError>
+    ensures { IfOk result (λ names. names ≡ record { ven_name = event.now.ven_name; resource_name = event.now.resource_name }) }
 {
     Ok(EventNames {
-        ven_name: event.shown.ven_name.clone()?,
-        resource_name: event.shown.resource_name.clone()?,
+        ven_name: event.ven_name.clone()?,
+        resource_name: event.resource_name.clone()?,
     })
 }
 
@@ -90,15 +91,15 @@ fn event_notice(
     alloc: Global,
     base: &Base,
     operation: OperationKind,
-    event: &EventObject,
+    event: &KeptEvent,
 ) -> Result<Notice, AllocError>
     ensures { IfOk result (λ notice. notice ≡ event_notice base.now operation event.now) }
 {
-    let text = write_event_notice(alloc, operation, event)?;
+    let text = event.notice_text(alloc, operation)?;
     Ok(Notice {
         kind: ObjectKind::Event,
         operation,
-        program: event.shown.program.clone()?,
+        program: event.program.clone()?,
         ven: owner_of(base, event.resource),
         names: Some(names_of(event)?),
         body: FreeText::new(alloc, text.as_str())?,
@@ -153,7 +154,7 @@ pub fn notice_of(
 ) -> Result<Option<Notice>, AllocError>
     ensures { IfOk result (λ notice. notice ≡ notice_of base.now stamps.now operation (key.now, content.now)) }
 {
-    match object_at(stamps, key, content)? {
+    match object_at(alloc, stamps, key, content)? {
         Some(object) => notice_about(alloc, base, operation_kind(operation), &object),
         None => Ok(None),
     }

@@ -5,7 +5,6 @@ use Rattle.std.specs.List.{All, Contains, filter_map, cons_option}
 use Rattle.std.specs.Option.{option_map_or}
 use Rattle.std.proofs.lemmas.List.Elements.{All-append, All-cons, All-contains, All-filter, All-head, All-nil, All-tail, filter-append, filter_map-append}
 use Rattle.sqlite.specs.State as sql
-use Rattle.adr_text.specs.declared.refusal.Refusal.{Refusal}
 use Rattle.adr_text.specs.declared.refusal.Refusal.TheVariants.{Forbidden}
 use Rattle.adr_objects.specs.declared.kind.Kind.TheVariants as kind
 use Rattle.adr_objects.specs.declared.shown.ShownEvent.{ShownEvent}
@@ -22,8 +21,7 @@ use Rattle.adr_view.specs.declared.view.Content.TheVariants as content
 use Rattle.adr_view.specs.Laws.{StandsInOrder}
 use Rattle.adr_view.specs.Sights.{sees_ven, owner_in as owner_seen}
 use Rattle.adr_view.specs.Views.{view}
-use Rattle.adr_shown.specs.ShownTexts.{shown_text}
-use Rattle.adr_shown.specs.ReadShown.{shown_of}
+use Rattle.adr_event_text.specs.Kept.{kept_as}
 use Rattle.adr_queries.specs.declared.answer.Object.{Object}
 use Rattle.adr_queries.specs.declared.answer.Object.TheVariants as object
 use Rattle.adr_queries.specs.declared.filter.EventFilter.{EventFilter}
@@ -49,7 +47,7 @@ use Rattle.adr_held.specs.Held.{kept_of, HoldsState}
 use Rattle.adr_held.proofs.HeldLemmas.{held_keeps}
 use Rattle.adr_lent.specs.Pages.{kept_for, wants_row}
 use Rattle.adr_lent.proofs.Cuts.{Makes, part_made}
-use Rattle.adr_pages.specs.Objects.{event_key, object_read, object_kept, shown_kept, event_shown, event_told, event_named}
+use Rattle.adr_pages.specs.Objects.{event_key, object_with, object_kept, shown_kept, event_shown, event_told, event_named}
 use Rattle.adr_pages.specs.Laws.{EventsAreTheirRows, EventIsItsRow}
 
 kept_for_both : (ven : Option ℕ) (xs ys : List (ShownKey × ShownColumns)) → kept_for ven (xs ++ ys) ≡ kept_for ven xs ++ kept_for ven ys
@@ -122,23 +120,17 @@ module _ (s : sql.State) (held : State) (holds : HoldsState held s) where
       its_stamps : (stamps : Stamps) × (at view_cmp (key.Event id n) held.stamps ≡ Some stamps)
       its_stamps = stamps_there (key.Event id n) (content.Event e) there
 
-      it_is_kept : Contains (kept_view held.base) r
-      it_is_kept = in_filter keeps (view held.base) r refl there
-
-      reads : shown_of (shown_text e) ≡ Ok e
-      reads = All-contains ReadsBack (kept_view held.base) r holds.reads it_is_kept
-
       its_resource : IsThere held.base stands n
       its_resource = resource_there held.base stands id n (content.Event e) (sym (view_of_sources held.base stands (key.Event id n)) ∙ found view_total (view held.base) (key.Event id n, content.Event e) (shown_in_order held.base) there)
 
       abbrev one : Object
-      one = object.Event (record { resource = n; event = id; shown = e; stamps = its_stamps.0 })
+      one = object.Event (kept_as n id e its_stamps.0)
 
       as_shown : object_at held.stamps r ≡ Some one
       as_shown = ap (λ o. option_and_then (object_of (key.Event id n) (content.Event e)) o) its_stamps.1
 
       as_kept : object_kept held.stamps row ≡ Some one
-      as_kept = λ i. object_read (record { event = id; resource = n }) (reads i) (its_stamps.1 i)
+      as_kept = ap (option_map (object_with (record { event = id; resource = n }) (columns_of (owner n) e))) its_stamps.1
 
       picked : (b : Bool) → filter_map (object_kept held.stamps) (cond b (row ∷ []) []) ≡ cond b (one ∷ []) []
       picked true = ap (λ o. cons_option o []) as_kept
@@ -226,16 +218,16 @@ module _ (s : sql.State) (held : State) (holds : HoldsState held s) (k : ShownKe
       at-shown_rows owners k (kept_view held.base) (in_order_filtered view_cmp (λ r. is_kept (source_of r.0)) (view held.base) (shown_in_order held.base))
       ∙ ap (option_and_then (kept_part owners k.resource)) (at-rows_at view_total view_exact (event_key k) (λ k. is_kept (source_of k)) (view held.base))
 
-  -- a shown event whose text reads back is told by it
-  told_by_text : (e : ShownEvent) → shown_of (shown_text e) ≡ Ok e → (stamps : Option Stamps) → option_and_then (object_of (event_key k) (content.Event e)) stamps ≡ object_read k (shown_of (shown_text e)) stamps
-  told_by_text e reads None = sym (ap (λ (t : Result ShownEvent Refusal). object_read k t None) reads)
-  told_by_text e reads (Some stamps) = sym (ap (λ (t : Result ShownEvent Refusal). object_read k t (Some stamps)) reads)
+  -- a shown event is told by what is kept of it
+  told_by_row : (e : ShownEvent) (stamps : Option Stamps) → option_and_then (object_of (event_key k) (content.Event e)) stamps ≡ option_map (object_with k (columns_of (owners k.resource) e)) stamps
+  told_by_row e None = refl
+  told_by_row e (Some stamps) = refl
 
   reads_at : (c : Content) → at view_cmp (event_key k) (view held.base) ≡ Some c → ReadsBack (event_key k, c)
   reads_at c is = All-contains ReadsBack (kept_view held.base) (event_key k, c) holds.reads (in_filter (λ (r : ViewKey × Content). is_kept (source_of r.0)) (view held.base) (event_key k, c) refl (at_there (event_key k) (view held.base) c is))
 
   told_alike : (c : Content) → at view_cmp (event_key k) (view held.base) ≡ Some c → object_at held.stamps (event_key k, c) ≡ option_and_then (λ c. object_kept held.stamps (k, c)) (kept_part owners k.resource c)
-  told_alike (content.Event e) is = told_by_text e (reads_at (content.Event e) is) (at view_cmp (event_key k) held.stamps)
+  told_alike (content.Event e) is = told_by_row e (at view_cmp (event_key k) held.stamps)
   told_alike (content.Program name) is = absurd (reads_at (content.Program name) is)
   told_alike (content.Report body) is = absurd (reads_at (content.Report body) is)
   told_alike (content.Rollup rollup) is = absurd (reads_at (content.Rollup rollup) is)

@@ -1,8 +1,7 @@
 -- What is kept of a shown event, as an object that is told.
-use Rattle.std.specs.Prelude.{ℕ, List, Option, None, Some, option_and_then, Result, Ok, Err, if◌then◌else◌}
+use Rattle.std.specs.Prelude.{ℕ, List, Option, None, Some, option_map, option_and_then, Result, Err, if◌then◌else◌}
 use Rattle.adr_text.specs.declared.refusal.Refusal.{Refusal}
 use Rattle.adr_text.specs.declared.refusal.Refusal.TheVariants.{NotFound, Forbidden}
-use Rattle.adr_objects.specs.declared.shown.ShownEvent.{ShownEvent}
 use Rattle.adr_objects.specs.declared.shown.Stamps.{Stamps}
 use Rattle.adr_state.specs.declared.keys.ViewKey.{ViewKey}
 use Rattle.adr_state.specs.declared.keys.ViewKey.TheVariants as key
@@ -11,7 +10,6 @@ use Rattle.adr_state.specs.Keys.{view_cmp, at}
 use Rattle.adr_state.specs.ShownIds.{resource_part, event_part, id_in, resource_named}
 use Rattle.adr_view.specs.declared.sight.Sight.{Sight}
 use Rattle.adr_view.specs.Sights.{sees_ven}
-use Rattle.adr_shown.specs.ReadShown.{shown_of}
 use Rattle.adr_queries.specs.declared.answer.Object.{Object}
 use Rattle.adr_queries.specs.declared.answer.Object.TheVariants as object
 use Rattle.adr_queries.specs.declared.answer.Answer.{Answer}
@@ -25,14 +23,21 @@ use Rattle.adr_db.specs.declared.shown.ShownKey.{ShownKey}
 abbrev pub event_key : ShownKey → ViewKey
 event_key k = key.Event k.event k.resource
 
--- a shown event that was read, with its stamps; where the text is none, or there are no stamps, none
-abbrev pub object_read : ShownKey → Result ShownEvent Refusal → Option Stamps → Option Object
-object_read k (Ok e) (Some stamps) = Some (object.Event (record { resource = k.resource; event = k.event; shown = e; stamps = stamps }))
-object_read k _ _ = None
+-- what is kept of a shown event in a row, with its stamps
+abbrev pub object_with : ShownKey → ShownColumns → Stamps → Object
+object_with k c stamps = object.Event (record {
+  resource = k.resource;
+  event = k.event;
+  program = c.program;
+  ven_name = c.ven_name;
+  resource_name = c.resource_name;
+  stamps = stamps;
+  body = c.body;
+})
 
--- the shown event that is kept in a row, with its stamps
+-- the same, where it has stamps
 abbrev pub object_kept : List (ViewKey × Stamps) → ShownKey × ShownColumns → Option Object
-object_kept stamps e = object_read e.0 (shown_of e.1.body) (at view_cmp (event_key e.0) stamps)
+object_kept stamps e = option_map (object_with e.0 e.1) (at view_cmp (event_key e.0) stamps)
 
 -- what is kept of a shown event, with its stamps, where something is
 abbrev pub shown_kept : Kept → ShownKey → Option Object

@@ -34,7 +34,7 @@ wants f program ven_name resource_name = is_among_all f.programs program && has_
 
 -- whether an object is an event that is wanted
 abbrev pub is_wanted : EventFilter → Object → Bool
-is_wanted f (object.Event e) = wants f e.shown.program e.shown.ven_name e.shown.resource_name
+is_wanted f (object.Event e) = wants f e.program e.ven_name e.resource_name
 is_wanted f _ = false
 
 -- the events among objects that are wanted, in their order

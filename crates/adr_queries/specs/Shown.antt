@@ -16,6 +16,7 @@ use Rattle.adr_state.specs.declared.keys.ViewKey.{ViewKey}
 use Rattle.adr_state.specs.declared.keys.ViewKey.TheVariants as key
 use Rattle.adr_view.specs.declared.view.Content.{Content}
 use Rattle.adr_view.specs.declared.view.Content.TheVariants as content
+use Rattle.adr_event_text.specs.Kept.{kept_as}
 use Rattle.adr_queries.specs.declared.role.Role.{Role}
 use Rattle.adr_view.specs.declared.sight.Sight.{Sight}
 use Rattle.adr_view.specs.declared.sight.Sight.TheVariants.{All, Of}
@@ -70,7 +71,7 @@ rows_in_sight base kind sight = rows_seen base (view base) kind sight
 -- what is shown at a key, as an object; a roll-up is none
 abbrev pub object_of : ViewKey → Content → Stamps → Option Object
 object_of (key.Program id) (content.Program name) stamps = Some (object.Program (record { id = id; name = name; stamps = stamps }))
-object_of (key.Event event resource) (content.Event shown) stamps = Some (object.Event (record { resource = resource; event = event; shown = shown; stamps = stamps }))
+object_of (key.Event event resource) (content.Event shown) stamps = Some (object.Event (kept_as resource event shown stamps))
 object_of (key.Report n) (content.Report body) stamps = Some (object.Report (record { number = n; body = body; stamps = stamps }))
 object_of _ _ stamps = None
 

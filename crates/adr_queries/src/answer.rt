@@ -1,8 +1,9 @@
 //! What the machine answers.
 use adr_delivery::Job;
+use adr_event_text::KeptEvent;
 use adr_objects::{
-    EventObject, FrozenObject, OutboxCounts, ProgramObject, ReportObject, ResourceObject, Rollup,
-    ShareObject, VenObject,
+    FrozenObject, OutboxCounts, ProgramObject, ReportObject, ResourceObject, Rollup, ShareObject,
+    VenObject,
 };
 use adr_state::MirrorKey;
 use adr_subscription::SubObject;
@@ -11,7 +12,7 @@ use adr_text::{ObjectId, Rows};
 /// An object as it is shown.
 pub enum Object {
     Program(ProgramObject),
-    Event(EventObject),
+    Event(KeptEvent),
     Report(ReportObject),
     Ven(VenObject),
     Resource(ResourceObject),

@@ -116,12 +116,11 @@ fn is_wanted(filter: &EventFilter, object: &Object) -> bool
     let Object::Event(event) = object else {
         return false;
     };
-    let shown = &event.shown;
     wants(
         filter,
-        &shown.program,
-        &shown.ven_name,
-        &shown.resource_name,
+        &event.program,
+        &event.ven_name,
+        &event.resource_name,
     )
 }
 

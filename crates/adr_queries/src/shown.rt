@@ -4,7 +4,8 @@ ghost use Rattle.adr_queries.specs.Shown.{is_of, object_of, object_at, objects_s
 
 use crate::answer::{Answer, Object};
 use crate::sight::sees;
-use adr_objects::{EventObject, Kind, ProgramObject, ReportObject, Stamps};
+use adr_event_text::KeptEvent;
+use adr_objects::{Kind, ProgramObject, ReportObject, Stamps};
 use adr_state::{Base, State, ViewKey, push_some};
 use adr_text::{Refusal, Table};
 use adr_view::{Content, Sight, View, row_at, view_of};
@@ -21,7 +22,12 @@ fn is_of(kind: Kind, key: &ViewKey) -> bool
 }
 
 /// What is shown at a key, as an object. A roll-up is none.
-fn object_of(key: &ViewKey, content: &Content, stamps: Stamps) -> Result<Option<Object>, AllocError>
+fn object_of(
+    alloc: Global,
+    key: &ViewKey,
+    content: &Content,
+    stamps: Stamps,
+) -> Result<Option<Object>, AllocError>
     ensures { IfOk result (λ object. object ≡ object_of key.now content.now stamps) }
 {
     match (key, content) {
@@ -33,12 +39,8 @@ fn object_of(key: &ViewKey, content: &Content, stamps: Stamps) -> Result<Option<
             })))
         }
         (ViewKey::Event(event, resource), Content::Event(shown)) => {
-            Ok(Some(Object::Event(EventObject {
-                resource: *resource,
-                event: event.clone()?,
-                shown: shown.clone()?,
-                stamps,
-            })))
+            let event = KeptEvent::of(alloc, *resource, event, shown, stamps)?;
+            Ok(Some(Object::Event(event)))
         }
         (ViewKey::Report(number), Content::Report(body)) => {
             Ok(Some(Object::Report(ReportObject {
@@ -53,6 +55,7 @@ fn object_of(key: &ViewKey, content: &Content, stamps: Stamps) -> Result<Option<
 
 /// The object at a key with its stamps, if it has some.
 pub fn object_at(
+    alloc: Global,
     stamps: &Table<ViewKey, Stamps>,
     key: &ViewKey,
     content: &Content,
@@ -60,7 +63,7 @@ pub fn object_at(
     ensures { IfOk result (λ object. object ≡ object_at stamps.now (key.now, content.now)) }
 {
     match row_at(stamps, key) {
-        Some(stamps) => object_of(key, content, *stamps),
+        Some(stamps) => object_of(alloc, key, content, *stamps),
         None => Ok(None),
     }
 }
@@ -80,7 +83,7 @@ pub fn objects_seen(
     let mut all = Vec::new(alloc);
     for (key, content) in view.iter() {
         if is_of(kind, key) && sees(base, sight, key) {
-            push_some(&mut all, object_at(stamps, key, content)?)?;
+            push_some(&mut all, object_at(alloc, stamps, key, content)?)?;
         }
     }
     Ok(all)
@@ -109,7 +112,7 @@ pub(crate) fn object_shown(
 {
     let view = view_of(alloc, &state.base)?;
     match row_at(&view, key) {
-        Some(content) => object_at(&state.stamps, key, content),
+        Some(content) => object_at(alloc, &state.stamps, key, content),
         None => Ok(None),
     }
 }

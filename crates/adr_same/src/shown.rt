@@ -1,9 +1,7 @@
 //! Objects as the node shows them.
 use crate::sameness::Same;
-use adr_objects::{
-    EventObject, ProgramObject, ResourceObject, ShareObject, ShownEvent, ShownInterval, Stamps,
-    VenObject,
-};
+use adr_event_text::KeptEvent;
+use adr_objects::{ProgramObject, ResourceObject, ShareObject, Stamps, VenObject};
 
 impl Same for Stamps {
     fn is_same(&self, other: &Stamps) -> bool {
@@ -11,32 +9,15 @@ impl Same for Stamps {
     }
 }
 
-impl Same for ShownInterval {
-    fn is_same(&self, other: &ShownInterval) -> bool {
-        self.id.is_same(&other.id)
-            && self.period.is_same(&other.period)
-            && self.part.is_same(&other.part)
-    }
-}
-
-impl Same for ShownEvent {
-    fn is_same(&self, other: &ShownEvent) -> bool {
-        self.program.is_same(&other.program)
-            && self.name.is_same(&other.name)
-            && self.priority.is_same(&other.priority)
-            && self.period.is_same(&other.period)
-            && self.intervals.is_same(&other.intervals)
-            && self.ven_name.is_same(&other.ven_name)
-            && self.resource_name.is_same(&other.resource_name)
-    }
-}
-
-impl Same for EventObject {
-    fn is_same(&self, other: &EventObject) -> bool {
+impl Same for KeptEvent {
+    fn is_same(&self, other: &KeptEvent) -> bool {
         self.resource.is_same(&other.resource)
             && self.event.is_same(&other.event)
-            && self.shown.is_same(&other.shown)
+            && self.program.is_same(&other.program)
+            && self.ven_name.is_same(&other.ven_name)
+            && self.resource_name.is_same(&other.resource_name)
             && self.stamps.is_same(&other.stamps)
+            && self.body.is_same(&other.body)
     }
 }
 

@@ -1,3 +1,4 @@
 pub mod Fields
 pub mod ShownLemmas
 pub mod RollupLemmas
+pub mod TokenLemmas

@@ -4,4 +4,5 @@ pub mod ReadValues
 pub mod ReadShown
 pub mod ReadRollups
 pub mod Types
+pub mod Tokens
 pub mod Laws

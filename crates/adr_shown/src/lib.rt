@@ -6,6 +6,7 @@ pub mod laws;
 mod read_fields;
 mod rolled_up;
 mod shown;
+mod tokens;
 
 pub use rolled_up::{read_rolled_up, write_rolled_up};
 pub use shown::{read_shown, write_shown};

@@ -1,26 +1,32 @@
 //! Shown events, as tables keep them.
-ghost use Rattle.std.specs.Prelude.{◌≡◌, [], ◌∷◌, codes, option_map, Ok, IfOk, OnOk, IfSome, IsTrue, string_bytes};
+ghost use Rattle.std.specs.Prelude.{◌≡◌, [], ◌∷◌, ◌++◌, codes, option_map, Ok, IfOk, OnOk, IfSome, IsTrue, string_bytes};
+ghost use Rattle.json.specs.Print.{print};
 ghost use Rattle.serde_json.specs.View.{view};
 ghost use Rattle.adr_text.specs.Faults.{Finds};
 ghost use Rattle.adr_text.specs.Fields.{is_i64, member_of, required};
 ghost use Rattle.adr_text.specs.Names.{is_name};
 ghost use Rattle.adr_text.specs.Objects.{whole_data};
 ghost use Rattle.adr_text.specs.Refusals.{Gives};
-ghost use Rattle.adr_written.specs.Objects.{payloads_data, shown_interval_data, targets_data};
-ghost use Rattle.adr_shown.specs.ShownTexts.{shown_data, shown_text};
+ghost use Rattle.adr_written.specs.Objects.{payloads_data, shown_interval_data};
+ghost use Rattle.adr_shown.specs.ShownTexts.{shown_text};
 ghost use Rattle.adr_shown.specs.ReadValues.{target_in};
 ghost use Rattle.adr_shown.specs.ReadShown.{part_from, part_in, shown_interval_in, names_from, targets_in, shown_in, shown_of_text, shown_of};
 ghost use Rattle.adr_shown.specs.Types.{IsShownInterval, IsShown};
 
-use crate::kept::{Kept, array_of, intervals_of};
+use crate::kept::{Kept, intervals_of};
 use crate::read_fields::{amount, only_value};
+use crate::tokens::put_shown;
 use adr_objects::{ShownEvent, ShownInterval, read_text};
 use adr_text::{
     Fault, FromJson, Name, Refusal, ToJson, list, maybe, member, needed, put, put_maybe,
 };
-use adr_written::{one_payload, put_text, valued};
+use adr_written::one_payload;
+use json::Writer;
 use serde_json::{Map, Value};
 use std::alloc::{AllocError, Global};
+
+// How many bytes the text of an event of a few intervals has.
+const USUAL: usize = 512;
 
 // The payloads of an interval: the resource's part, where it has one.
 fn payloads(alloc: Global, part: &Option<i64>) -> Result<Value, AllocError>
@@ -91,17 +97,6 @@ impl Kept for ShownInterval {
     }
 }
 
-// Whose event it is: the ven's name, then the resource's.
-fn targets(alloc: Global, ven: &Name, resource: &Name) -> Result<Value, AllocError>
-    ensures value { IfOk result (λ v. view v ≡ targets_data ven.now resource.now) }
-    ensures ven { OnOk result (IsTrue (is_name ven.now)) }
-    ensures resource { OnOk result (IsTrue (is_name resource.now)) }
-{
-    let ven = valued(alloc, "VEN_NAME", ven.to_json(alloc)?)?;
-    let resource = valued(alloc, "RESOURCE_NAME", resource.to_json(alloc)?)?;
-    Ok(Value::Array(vec![in alloc; ven, resource]?))
-}
-
 // The name that a target of that type says.
 #[tactic(auto, unfolding(crate::specs::ReadValues::target_in))]
 fn target(alloc: Global, value: &Value, kind: &str) -> Result<Name, Fault>
@@ -142,25 +137,6 @@ fn names_of(alloc: Global, event: &Value) -> Result<(Name, Name), Fault>
     }
 }
 
-// A shown event as JSON.
-#[tactic(auto, unfolding(crate::specs::ShownTexts::shown_data))]
-fn event_value(alloc: Global, event: &ShownEvent) -> Result<Value, AllocError>
-    ensures value { IfOk result (λ v. view v ≡ shown_data event.now) }
-    ensures kept { OnOk result (IsShown event.now) }
-{
-    let intervals = array_of(alloc, event.intervals.as_slice())?;
-    let targets = targets(alloc, &event.ven_name, &event.resource_name)?;
-    let mut members = Map::new(alloc);
-    put_maybe(&mut members, alloc, "eventName", &event.name)?;
-    put_maybe(&mut members, alloc, "intervalPeriod", &event.period)?;
-    serde_json::put(&mut members, alloc, "intervals", intervals)?;
-    put_text(&mut members, alloc, "objectType", "EVENT")?;
-    put_maybe(&mut members, alloc, "priority", &event.priority)?;
-    put(&mut members, alloc, "programID", &event.program)?;
-    serde_json::put(&mut members, alloc, "targets", targets)?;
-    Ok(Value::Object(members))
-}
-
 // The shown event that a JSON value is.
 #[tactic(auto, unfolding(crate::specs::ReadShown::shown_in))]
 fn event_of(alloc: Global, value: &Value) -> Result<ShownEvent, Fault>
@@ -190,6 +166,16 @@ fn event(alloc: Global, text: &str) -> Result<ShownEvent, Fault>
     event_of(alloc, &value)
 }
 
+// The text that a writer has.
+fn text_of(out: Writer) -> Result<String, AllocError>
+    ensures { IfOk result (λ text. string_bytes text ≡ out.before ++ print out.tokens) }
+{
+    match String::from_utf8(out.into_inner()) {
+        Ok(text) => Ok(text),
+        Err(_) => Err(AllocError),
+    }
+}
+
 /// The text that is kept of a shown event: the event as it is written, without its id and its stamps.
 /// It reads back as the event.
 pub fn write_shown(alloc: Global, event: &ShownEvent) -> Result<String, AllocError>
@@ -197,7 +183,9 @@ pub fn write_shown(alloc: Global, event: &ShownEvent) -> Result<String, AllocErr
     ensures reads_back { IfOk result (λ s. shown_of (string_bytes s) ≡ Ok event.now) }
     ensures kept { OnOk result (IsShown event.now) }
 {
-    event_value(alloc, event)?.to_string(alloc)
+    let mut out = Writer::new(Vec::with_capacity(alloc, USUAL)?);
+    put_shown(&mut out, event)?;
+    text_of(out)
 }
 
 /// The shown event whose text it is; `BadShape` for a text that is none.

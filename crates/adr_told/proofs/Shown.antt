@@ -18,7 +18,7 @@ use Rattle.adr_view.specs.declared.view.Content.{Content}
 use Rattle.adr_view.specs.declared.view.Content.TheVariants as content
 use Rattle.adr_view.specs.Laws.{StandsInOrder}
 use Rattle.adr_view.specs.Views.{view}
-use Rattle.adr_written.specs.WrittenNotices.{event_notice_text}
+use Rattle.adr_event_text.specs.Kept.{kept_as, kept_notice_text}
 use Rattle.adr_queries.specs.Shown.{owner_of, object_of}
 use Rattle.adr_notices.specs.Made.{judged_in as side_of, entries_at, entries_noticed, entries_of_change}
 use Rattle.adr_notices.specs.Matching.{entries_of}
@@ -56,7 +56,7 @@ module _ (client : List ℕ) (subs : List (ℕ × Sub)) (id : List ℕ) (c : Sho
         program = c.shown.program;
         ven = ven;
         names = Some (record { ven_name = c.shown.ven_name; resource_name = c.shown.resource_name });
-        body = event_notice_text (operation_kind c.operation) (record { resource = c.resource; event = id; shown = c.shown; stamps = c.stamps });
+        body = kept_notice_text (operation_kind c.operation) (kept_as c.resource id c.shown c.stamps);
       })) owned
 
 module _ (owner : ℕ → ℕ) (id : List ℕ) (n : ℕ) (c : Content) where

@@ -6,7 +6,8 @@ use Rattle.adr_subscription.specs.declared.words.ObjectKind.TheVariants as kind
 use Rattle.adr_subscription.specs.declared.words.OperationKind.{OperationKind}
 use Rattle.adr_view.specs.declared.view.Content.{Content}
 use Rattle.adr_view.specs.declared.view.Content.TheVariants as content
-use Rattle.adr_written.specs.WrittenNotices.{event_notice_text, report_notice_text}
+use Rattle.adr_written.specs.WrittenNotices.{report_notice_text}
+use Rattle.adr_event_text.specs.Kept.{kept_as, kept_notice_text}
 use Rattle.adr_delivery.specs.declared.entry.Entry.{Entry}
 use Rattle.adr_notices.specs.declared.notice.Notice.{Notice}
 use Rattle.adr_notices.specs.Matching.{entries_of}
@@ -28,7 +29,7 @@ shown_notice id c = record {
   program = c.shown.program;
   ven = Some c.ven;
   names = Some (record { ven_name = c.shown.ven_name; resource_name = c.shown.resource_name });
-  body = event_notice_text (operation_kind c.operation) (record { resource = c.resource; event = id; shown = c.shown; stamps = c.stamps });
+  body = kept_notice_text (operation_kind c.operation) (kept_as c.resource id c.shown c.stamps);
 }
 
 -- its entries: one for each of these subscriptions that matches

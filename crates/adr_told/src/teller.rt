@@ -1,19 +1,21 @@
 //! Who tells changes: to the subscriptions that match, and to the utility.
 ghost use Rattle.std.specs.Prelude.{◌≡◌, Some, IfOk};
 ghost use Rattle.adr_view.specs.declared.view.Content.TheVariants as content;
+ghost use Rattle.adr_event_text.specs.Kept.{kept_as};
 ghost use Rattle.adr_notices.specs.Notices.{operation_kind, program_notice};
 ghost use Rattle.adr_kept_view.specs.declared.object.ObjectKey.TheVariants as object;
 ghost use Rattle.adr_told.specs.Told.{shown_notice, shown_entries, rollup_entries, noticed, object_entries};
 
 use adr_delivery::Entry;
+use adr_event_text::KeptEvent;
 use adr_kept_view::{ObjectChange, ObjectKey, OldObject, RollupChange, ShownChange};
 use adr_notices::{EventNames, Notice, entries_of, operation_kind, rollup_entry};
-use adr_objects::{EventObject, Number, ProgramObject, ReportBody, ReportObject};
+use adr_objects::{Number, ProgramObject, ReportBody, ReportObject};
 use adr_subscription::{FreeText, ObjectKind, Sub};
 use adr_text::{Name, ObjectId, Table};
 use adr_view::Content;
 use adr_visit::Tells;
-use adr_written::{write_event_notice, write_program_notice, write_report_notice};
+use adr_written::{write_program_notice, write_report_notice};
 use std::alloc::{AllocError, Global};
 use std::marker::Model;
 
@@ -40,20 +42,11 @@ impl<'t> Teller<'t> {
     }
 }
 
-// What a resource is shown, or was where it goes, as an object.
-fn object_of(
-    alloc: Global,
-    event: &ObjectId,
-    change: &ShownChange,
-) -> Result<EventObject, AllocError>
-    ensures { IfOk result (λ object. object ≡ record { resource = change.now.resource; event = event.now; shown = change.now.shown; stamps = change.now.stamps }) }
+// What a resource is shown, or was where it goes, as it is kept.
+fn kept_of(alloc: Global, event: &ObjectId, change: &ShownChange) -> Result<KeptEvent, AllocError>
+    ensures { IfOk result (λ kept. kept ≡ kept_as change.now.resource event.now change.now.shown change.now.stamps) }
 {
-    Ok(EventObject {
-        resource: change.resource,
-        event: event.copy(alloc)?,
-        shown: change.shown.clone()?,
-        stamps: change.stamps,
-    })
+    KeptEvent::of(alloc, change.resource, event, &change.shown, change.stamps)
 }
 
 // What is told of a change of what a resource is shown.
@@ -61,7 +54,7 @@ fn notice_of(alloc: Global, event: &ObjectId, change: &ShownChange) -> Result<No
     ensures { IfOk result (λ notice. notice ≡ shown_notice event.now change.now) }
 {
     let operation = operation_kind(change.operation);
-    let text = write_event_notice(alloc, operation, &object_of(alloc, event, change)?)?;
+    let text = kept_of(alloc, event, change)?.notice_text(alloc, operation)?;
     Ok(Notice {
         kind: ObjectKind::Event,
         operation,
