@@ -1,15 +1,13 @@
 //! Objects: lists at their limits, and what is written.
+use adr_event_text::KeptEvent;
 use adr_objects::{
-    Body, EventObject, Kind, Number, ProgramObject, ReportBody, ReportHead, ReportObject,
-    ShownEvent, ShownInterval, Stamps,
+    Body, Kind, Number, ProgramObject, ReportBody, ReportHead, ReportObject, ShownEvent,
+    ShownInterval, Stamps,
 };
 use adr_schema::read_page;
 use adr_subscription::OperationKind;
 use adr_text::{Moment, Name, ObjectId, Refusal, Rows};
-use adr_written::{
-    resource_id, shown_id, ven_id, write_event, write_event_notice, write_program_notice,
-    write_report_notice,
-};
+use adr_written::{resource_id, shown_id, ven_id, write_program_notice, write_report_notice};
 use std::alloc::{AllocError, Global};
 use std::test::Fail;
 
@@ -105,17 +103,13 @@ fn content(alloc: Global) -> Result<ShownEvent, Refusal> {
 }
 
 // What resource 3 of ven alpha, named a1, is shown of an event that sets it 34.
-fn shown(alloc: Global) -> Result<EventObject, Refusal> {
-    Ok(EventObject {
-        resource: Number::new(3),
-        event: ObjectId::new(alloc, "e1")?,
-        shown: content(alloc)?,
-        stamps: stamps()?,
-    })
+fn shown(alloc: Global) -> Result<KeptEvent, Refusal> {
+    let event = ObjectId::new(alloc, "e1")?;
+    Ok(KeptEvent::of(alloc, Number::new(3), &event, &content(alloc)?, stamps()?)?)
 }
 
 fn written(alloc: Global) -> Result<String, Refusal> {
-    Ok(write_event(alloc, &shown(alloc)?)?)
+    Ok(shown(alloc)?.text(alloc)?)
 }
 
 const WRITTEN: &str =
@@ -128,7 +122,7 @@ fn a_written_event(rt: HostRuntime) -> Result<(), Fail> {
 }
 
 fn event_notice(alloc: Global) -> Result<String, Refusal> {
-    Ok(write_event_notice(alloc, OperationKind::Delete, &shown(alloc)?)?)
+    Ok(shown(alloc)?.notice_text(alloc, OperationKind::Delete)?)
 }
 
 fn program_notice(alloc: Global) -> Result<String, Refusal> {

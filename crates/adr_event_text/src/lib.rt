@@ -1,5 +1,5 @@
 //! The text of a shown event, made of the text that is kept of it: its bytes as they are, with the id and the stamps
-//! between them. Nothing of it is read as JSON, and nothing is written twice.
+//! between them, which are found by a walk over its brackets and strings.
 #![tactic(auto)]
 
 mod kept_event;

@@ -48,7 +48,8 @@ fn spliced(
     Ok(bytes)
 }
 
-/// The bytes as a text. No clause says that pieces of a text are UTF-8, so they are looked at once more.
+/// The bytes as a text. No clause says that pieces of a text are UTF-8, so they are looked at once more. Those of what
+/// is kept of an event are (`kept_events_are_told_as_written`), so what stands here for others is never told.
 fn text_of(bytes: Vec<u8>) -> Result<String, AllocError>
     ensures { IfOk result (λ text. string_bytes text ≡ bytes.items) }
 {

@@ -107,7 +107,7 @@ fn page_among<S: Alter>(
 
 /// What is kept of the shown events that are wanted, of all or of those of one ven, in the order of their keys: after the
 /// first ones, at most so many. No row is read past the last one that is needed, and no text of an object is looked at. Where
-/// what is asked for stands in one column, the rows of the page alone are lent.
+/// what is asked for stands in one column, the statement looks for it.
 pub fn shown_page<S: Alter>(
     alloc: Global,
     conn: &mut Connection<S>,

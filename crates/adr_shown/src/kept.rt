@@ -1,46 +1,23 @@
 //! Lists, as they are kept.
-ghost use Rattle.std.specs.Prelude.{◌≡◌, Result, IfOk, OnOk, All, codes, map};
+ghost use Rattle.std.specs.Prelude.{Result, codes, map};
 ghost use Rattle.serde_json.specs.Data.{Data};
 ghost use Rattle.serde_json.specs.View.{view};
 ghost use Rattle.adr_text.specs.Fields.{member_of, required, each};
 ghost use Rattle.adr_text.specs.Faults.{Finds};
-ghost use Rattle.adr_text.specs.Objects.{array_of};
 ghost use Rattle.adr_text.specs.declared.fault.Fault.{Fault as Faulty};
 ghost use Rattle.adr_shown.specs.ReadValues.{list_in};
 
 use adr_text::{Fault, Rows, list, member};
 use serde_json::Value;
-use std::alloc::{AllocError, Global};
+use std::alloc::Global;
 
 /// What is kept as one JSON value of a list.
 pub(crate) trait Kept: Drop {
-    /// The value as JSON.
-    ghost json: { Self → Data };
-
-    /// What each value of the program keeps, so that it reads again.
-    ghost keeps: { Self → Type 0 };
-
     /// What a JSON value is as one of this type, or the first fault.
     ghost of: { Data → Result Self Faulty };
 
-    fn written(&self, alloc: Global) -> Result<Value, AllocError>
-        ensures value { IfOk result (λ v. view v ≡ json self.now) }
-        ensures kept { OnOk result (keeps self.now) };
-
     fn read(alloc: Global, value: &Value) -> Result<Self, Fault>
         ensures { Finds (λ x. x) result (of (view value.now)) };
-}
-
-// An array of the items.
-pub(crate) fn array_of<T: Kept>(alloc: Global, items: &[T]) -> Result<Value, AllocError>
-    ensures value { IfOk result (λ v. view v ≡ array_of (map T.json items.now)) }
-    ensures kept { OnOk result (All T.keeps items.now) }
-{
-    let mut values = Vec::new(alloc);
-    for item in items {
-        values.push(item.written(alloc)?)?;
-    }
-    Ok(Value::Array(values))
 }
 
 // Each of the values, up to the first fault.

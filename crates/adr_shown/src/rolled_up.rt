@@ -14,7 +14,7 @@ ghost use Rattle.adr_shown.specs.RollupTexts.{rollup_data, kept_rollup_text};
 ghost use Rattle.adr_shown.specs.ReadRollups.{missing_in, sum_from, sum_in, rollup_interval_in, resources_in, rollup_in, rollup_of_text, kept_rollup_of};
 ghost use Rattle.adr_shown.specs.Types.{IsRollupInterval, IsRollup};
 
-use crate::kept::{Kept, array_of, intervals_of};
+use crate::kept::{Kept, intervals_of};
 use crate::read_fields::{amount, lone, values};
 use adr_objects::{Rollup, RollupInterval, read_text};
 use adr_text::{
@@ -107,21 +107,33 @@ fn sum_of(alloc: Global, interval: &Value) -> Result<(i64, Rows<Name>), Fault>
     }
 }
 
-impl Kept for RollupInterval {
-    ghost json = { rollup_interval_data };
+// An interval with its sum, as JSON.
+#[tactic(auto, unfolding(adr_written::specs::WrittenReports::rollup_interval_data))]
+fn interval_value(alloc: Global, interval: &RollupInterval) -> Result<Value, AllocError>
+    ensures value { IfOk result (λ v. view v ≡ rollup_interval_data interval.now) }
+    ensures kept { OnOk result (IsRollupInterval interval.now) }
+{
+    let payloads = payloads(alloc, interval)?;
+    let mut members = Map::new(alloc);
+    put(&mut members, alloc, "id", &interval.id)?;
+    serde_json::put(&mut members, alloc, "payloads", payloads)?;
+    Ok(Value::Object(members))
+}
 
-    ghost keeps = { IsRollupInterval };
-
-    ghost of = { rollup_interval_in };
-
-    #[tactic(auto, unfolding(adr_written::specs::WrittenReports::rollup_interval_data))]
-    fn written(&self, alloc: Global) -> Result<Value, AllocError> {
-        let payloads = payloads(alloc, self)?;
-        let mut members = Map::new(alloc);
-        put(&mut members, alloc, "id", &self.id)?;
-        serde_json::put(&mut members, alloc, "payloads", payloads)?;
-        Ok(Value::Object(members))
+// Each of the intervals, as JSON.
+fn interval_values(alloc: Global, intervals: &[RollupInterval]) -> Result<Value, AllocError>
+    ensures value { IfOk result (λ v. view v ≡ array_of (map rollup_interval_data intervals.now)) }
+    ensures kept { OnOk result (All IsRollupInterval intervals.now) }
+{
+    let mut values = Vec::new(alloc);
+    for interval in intervals {
+        values.push(interval_value(alloc, interval)?)?;
     }
+    Ok(Value::Array(values))
+}
+
+impl Kept for RollupInterval {
+    ghost of = { rollup_interval_in };
 
     #[tactic(auto, unfolding(crate::specs::ReadRollups::rollup_interval_in))]
     fn read(alloc: Global, value: &Value) -> Result<RollupInterval, Fault> {
@@ -140,7 +152,7 @@ fn rollup_resources(alloc: Global, rollup: &Rollup) -> Result<Value, AllocError>
     ensures value { IfOk result (λ v. view v ≡ rollup_resources rollup.now) }
     ensures kept { OnOk result (All IsRollupInterval rollup.now.intervals) }
 {
-    let intervals = array_of(alloc, rollup.intervals.as_slice())?;
+    let intervals = interval_values(alloc, rollup.intervals.as_slice())?;
     resources(alloc, intervals, "AGGREGATED_REPORT")
 }
 

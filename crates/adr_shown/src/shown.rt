@@ -1,44 +1,26 @@
 //! Shown events, as tables keep them.
-ghost use Rattle.std.specs.Prelude.{◌≡◌, [], ◌∷◌, ◌++◌, codes, option_map, Ok, IfOk, OnOk, IfSome, IsTrue, string_bytes};
+ghost use Rattle.std.specs.Prelude.{◌≡◌, [], ◌∷◌, codes, Ok, IfOk, OnOk, string_bytes};
 ghost use Rattle.json.specs.Print.{print};
 ghost use Rattle.serde_json.specs.View.{view};
 ghost use Rattle.adr_text.specs.Faults.{Finds};
-ghost use Rattle.adr_text.specs.Fields.{is_i64, member_of, required};
-ghost use Rattle.adr_text.specs.Names.{is_name};
-ghost use Rattle.adr_text.specs.Objects.{whole_data};
+ghost use Rattle.adr_text.specs.Fields.{member_of, required};
 ghost use Rattle.adr_text.specs.Refusals.{Gives};
-ghost use Rattle.adr_written.specs.Objects.{payloads_data, shown_interval_data};
 ghost use Rattle.adr_shown.specs.ShownTexts.{shown_text};
 ghost use Rattle.adr_shown.specs.ReadValues.{target_in};
 ghost use Rattle.adr_shown.specs.ReadShown.{part_from, part_in, shown_interval_in, names_from, targets_in, shown_in, shown_of_text, shown_of};
-ghost use Rattle.adr_shown.specs.Types.{IsShownInterval, IsShown};
+ghost use Rattle.adr_shown.specs.Types.{IsShown};
 
 use crate::kept::{Kept, intervals_of};
 use crate::read_fields::{amount, only_value};
 use crate::tokens::put_shown;
 use adr_objects::{ShownEvent, ShownInterval, read_text};
-use adr_text::{
-    Fault, FromJson, Name, Refusal, ToJson, list, maybe, member, needed, put, put_maybe,
-};
-use adr_written::one_payload;
+use adr_text::{Fault, FromJson, Name, Refusal, list, maybe, member, needed};
 use json::Writer;
-use serde_json::{Map, Value};
+use serde_json::Value;
 use std::alloc::{AllocError, Global};
 
 // How many bytes the text of an event of a few intervals has.
 const USUAL: usize = 512;
-
-// The payloads of an interval: the resource's part, where it has one.
-fn payloads(alloc: Global, part: &Option<i64>) -> Result<Value, AllocError>
-    ensures value { IfOk result (λ v. view v
-        ≡ payloads_data (codes "DISPATCH_SETPOINT") (option_map whole_data part.now)) }
-    ensures kept { OnOk result (IfSome part.now (λ amount. IsTrue (is_i64 amount))) }
-{
-    match part {
-        Some(part) => one_payload(alloc, "DISPATCH_SETPOINT", part.to_json(alloc)?),
-        None => Ok(Value::Array(Vec::new(alloc))),
-    }
-}
 
 // The part that a payload says.
 fn part_from(payload: &Value) -> Result<Option<i64>, Fault>
@@ -72,21 +54,7 @@ fn part_of(interval: &Value) -> Result<Option<i64>, Fault>
 
 // An interval with the resource's part.
 impl Kept for ShownInterval {
-    ghost json = { shown_interval_data };
-
-    ghost keeps = { IsShownInterval };
-
     ghost of = { shown_interval_in };
-
-    #[tactic(auto, unfolding(adr_written::specs::Objects::shown_interval_data))]
-    fn written(&self, alloc: Global) -> Result<Value, AllocError> {
-        let payloads = payloads(alloc, &self.part)?;
-        let mut members = Map::new(alloc);
-        put(&mut members, alloc, "id", &self.id)?;
-        put_maybe(&mut members, alloc, "intervalPeriod", &self.period)?;
-        serde_json::put(&mut members, alloc, "payloads", payloads)?;
-        Ok(Value::Object(members))
-    }
 
     #[tactic(auto, unfolding(crate::specs::ReadShown::shown_interval_in))]
     fn read(alloc: Global, value: &Value) -> Result<ShownInterval, Fault> {
@@ -166,14 +134,15 @@ fn event(alloc: Global, text: &str) -> Result<ShownEvent, Fault>
     event_of(alloc, &value)
 }
 
-// The text that a writer has.
-fn text_of(out: Writer) -> Result<String, AllocError>
-    ensures { IfOk result (λ text. string_bytes text ≡ out.before ++ print out.tokens) }
+// The text that a writer has, which began with none.
+fn text_of(out: Writer) -> String
+    requires { out.before ≡ [] }
+    ensures { string_bytes result ≡ print out.tokens }
 {
-    match String::from_utf8(out.into_inner()) {
-        Ok(text) => Ok(text),
-        Err(_) => Err(AllocError),
-    }
+    let Ok(text) = String::from_utf8(out.into_inner()) else {
+        unreachable!()
+    };
+    text
 }
 
 /// The text that is kept of a shown event: the event as it is written, without its id and its stamps.
@@ -185,7 +154,7 @@ pub fn write_shown(alloc: Global, event: &ShownEvent) -> Result<String, AllocErr
 {
     let mut out = Writer::new(Vec::with_capacity(alloc, USUAL)?);
     put_shown(&mut out, event)?;
-    text_of(out)
+    Ok(text_of(out))
 }
 
 /// The shown event whose text it is; `BadShape` for a text that is none.

@@ -7,9 +7,6 @@ use Rattle.adr_text.proofs.ObjectLemmas.{IsPlain, FieldIsPlain, object_of_plain,
 use Rattle.adr_text.specs.Objects.{array_of, whole_data}
 use Rattle.adr_text.specs.Refusals.{status_of}
 use Rattle.adr_text.specs.declared.refusal.Refusal.{Refusal}
-use Rattle.adr_objects.specs.declared.interval.Period.{Period}
-use Rattle.adr_objects.specs.declared.shown.ShownInterval.{ShownInterval}
-use Rattle.adr_objects.specs.declared.shown.EventObject.{EventObject}
 use Rattle.adr_objects.specs.declared.shown.ProgramObject.{ProgramObject}
 use Rattle.adr_objects.specs.declared.shown.VenObject.{VenObject}
 use Rattle.adr_objects.specs.declared.shown.ResourceObject.{ResourceObject}
@@ -21,15 +18,14 @@ use Rattle.adr_objects.specs.declared.report.RollupInterval.{RollupInterval}
 use Rattle.adr_objects.specs.declared.report.RollupObject.{RollupObject}
 use Rattle.adr_objects.specs.declared.counts.OutboxCounts.{OutboxCounts}
 use Rattle.adr_subscription.specs.declared.words.ObjectKind.{ObjectKind}
-use Rattle.adr_subscription.specs.declared.words.ObjectKind.TheVariants.{Program, Event, Report}
+use Rattle.adr_subscription.specs.declared.words.ObjectKind.TheVariants.{Program, Report}
 use Rattle.adr_subscription.specs.declared.words.OperationKind.{OperationKind}
 use Rattle.adr_subscription.specs.declared.item.SubscriptionItem.{SubscriptionItem}
 use Rattle.adr_subscription.specs.declared.target.Target.{Target}
 use Rattle.adr_subscription.specs.declared.object.SubObject.{SubObject}
 use Rattle.adr_subscription.specs.Words.{kind_word, operation_word}
-use Rattle.adr_subscription.specs.Kept.{kind_data, kinds_data, operation_data, operations_data, target_fields, target_data, targets_data as wanted_targets_data}
-use Rattle.adr_objects.specs.Canonical.{natural_data, period_fields, period_data}
-use Rattle.adr_written.specs.Objects.{values_fields, values_data, payloads_data, shown_interval_fields, shown_interval_data, targets_data, event_object_fields, event_object_data, program_object_fields, program_object_data, ven_object_fields, ven_object_data, resource_object_fields, resource_object_data, share_object_fields, share_object_data, problem_fields, problem_data}
+use Rattle.adr_subscription.specs.Kept.{kind_data, kinds_data, operation_data, operations_data, target_fields, target_data, targets_data}
+use Rattle.adr_written.specs.Objects.{values_fields, values_data, payloads_data, program_object_fields, program_object_data, ven_object_fields, ven_object_data, resource_object_fields, resource_object_data, share_object_fields, share_object_data, problem_fields, problem_data}
 use Rattle.adr_written.specs.WrittenReports.{resource_fields, resources_data, usage_interval_fields, usage_interval_data, report_object_fields, report_object_data, sum_data, rollup_interval_fields, rollup_interval_data, rollup_object_fields, rollup_object_data}
 use Rattle.adr_written.specs.WrittenSubs.{shown_item_fields, shown_item_data, sub_object_fields, sub_object_data}
 use Rattle.adr_written.specs.Counts.{counts_fields, counts_data}
@@ -57,11 +53,7 @@ one_item_plain n d h = record { no_float = or_from _ _ h.no_float refl; flat = o
 two_items_plain : (n : ℕ) (d e : Data) → IsPlain n d → IsPlain n e → IsPlain (suc n) (array_of (d ∷ e ∷ []))
 two_items_plain n d e h k = record { no_float = or_from _ _ h.no_float (or_from _ _ k.no_float refl); flat = omega (arith, h.flat, k.flat) }
 
-period_plain : (n : ℕ) (p : Period) → IsPlain (suc n) (period_data p)
-unfolding period_data
-period_plain n p = object_of_plain n (period_fields p) (field_plain n string (string_plain n) p.duration, (field_plain n string (string_plain n) p.randomize_start, (string_plain n p.start, tt)))
-
--- ---- an event
+-- ---- payloads and targets
 
 values_plain : (n : ℕ) (type : List ℕ) (values : List Data) → IsPlain (suc n) (array_of values) → IsPlain (suc (suc n)) (values_data type values)
 unfolding values_data
@@ -74,35 +66,7 @@ payloads_plain : (type : List ℕ) (o : Option ℤ) → IsPlain 3 (payloads_data
 payloads_plain type None = no_items_plain 2
 payloads_plain type (Some z) = one_item_plain 2 _ (one_value_plain 0 type (whole_data z) (whole_plain 0 z))
 
-shown_interval_plain : (i : ShownInterval) → IsPlain 4 (shown_interval_data i)
-unfolding shown_interval_data
-shown_interval_plain i = object_of_plain 3 (shown_interval_fields i) (whole_plain 3 i.id, (field_plain 3 period_data (period_plain 2) i.period, (payloads_plain (codes "DISPATCH_SETPOINT") i.part, tt)))
-
-targets_plain : (ven resource : List ℕ) → IsPlain 5 (targets_data ven resource)
-targets_plain ven resource =
-    two_items_plain 4 _ _ (one_value_plain 2 (codes "VEN_NAME") (string ven) (string_plain 2 ven)) (one_value_plain 2 (codes "RESOURCE_NAME") (string resource) (string_plain 2 resource))
-
-event_object_plain : (e : EventObject) → IsPlain 6 (event_object_data e)
-unfolding event_object_data
-event_object_plain e =
-    object_of_plain 5 (event_object_fields e) (
-      string_plain 5 _,
-      (
-        field_plain 5 string (string_plain 5) e.shown.name,
-        (
-          string_plain 5 _,
-          (
-            field_plain 5 period_data (period_plain 4) e.shown.period,
-            (
-              array_of_plain 4 shown_interval_data shown_interval_plain e.shown.intervals,
-              (string_plain 5 _, (string_plain 5 _, (field_plain 5 natural_data (λ n. whole_plain 5 (pos n)) e.shown.priority, (string_plain 5 e.shown.program, (targets_plain e.shown.ven_name e.shown.resource_name, tt))))),
-            ),
-          ),
-        ),
-      ),
-    )
-
--- ---- other objects
+-- ---- objects
 
 program_object_plain : (p : ProgramObject) → IsPlain 1 (program_object_data p)
 unfolding program_object_data
@@ -202,7 +166,7 @@ sub_object_plain : (s : SubObject) → IsPlain 4 (sub_object_data s)
 unfolding sub_object_data
 sub_object_plain s =
     object_of_plain 3 (sub_object_fields s)
-    (string_plain 3 _, (string_plain 3 _, (string_plain 3 _, (string_plain 3 _, (array_of_plain 2 shown_item_data shown_item_plain s.sub.items, (string_plain 3 _, (field_plain 3 string (string_plain 3) s.sub.program, (field_plain 3 wanted_targets_data (array_of_plain 2 target_data target_plain) s.sub.targets, tt))))))))
+    (string_plain 3 _, (string_plain 3 _, (string_plain 3 _, (string_plain 3 _, (array_of_plain 2 shown_item_data shown_item_plain s.sub.items, (string_plain 3 _, (field_plain 3 string (string_plain 3) s.sub.program, (field_plain 3 targets_data (array_of_plain 2 target_data target_plain) s.sub.targets, tt))))))))
 
 -- ---- counts and notifications
 
@@ -217,9 +181,6 @@ unfolding notice_data
 notice_plain n kind operation about h = object_of_plain n (notice_fields kind operation about) (h, (string_plain n _, (string_plain n _, tt)))
 
 -- ---- none of them has a float
-
-pub event_object_whole : (e : EventObject) → has_float (event_object_data e) ≡ false
-event_object_whole e = (event_object_plain e).no_float
 
 pub program_object_whole : (p : ProgramObject) → has_float (program_object_data p) ≡ false
 program_object_whole p = (program_object_plain p).no_float
@@ -253,9 +214,6 @@ counts_whole c = (counts_plain c).no_float
 
 pub program_notice_whole : (operation : OperationKind) (p : ProgramObject) → has_float (notice_data Program operation (program_object_data p)) ≡ false
 program_notice_whole operation p = (notice_plain 1 Program operation (program_object_data p) (program_object_plain p)).no_float
-
-pub event_notice_whole : (operation : OperationKind) (e : EventObject) → has_float (notice_data Event operation (event_object_data e)) ≡ false
-event_notice_whole operation e = (notice_plain 6 Event operation (event_object_data e) (event_object_plain e)).no_float
 
 pub report_notice_whole : (operation : OperationKind) (r : ReportObject) → has_float (notice_data Report operation (report_object_data r)) ≡ false
 report_notice_whole operation r = (notice_plain 8 Report operation (report_object_data r) (report_object_plain r)).no_float

@@ -1,5 +1,5 @@
 -- Objects as they are written: their members, where an absent one is left out.
-use Rattle.std.specs.Prelude.{ℕ, List, [], ◌∷◌, ◌++◌, map, codes, Option, Some, None, option_map}
+use Rattle.std.specs.Prelude.{ℕ, List, [], ◌∷◌, map, codes, Option, Some, None, option_map}
 use Rattle.serde_json.specs.Data.{Data, string}
 use Rattle.serde_json.specs.Written.{compact_text}
 use Rattle.adr_text.specs.Moments.{moment_text}
@@ -51,30 +51,21 @@ abbrev pub targets_data : List ℕ → List ℕ → Data
 targets_data ven resource =
     array_of (values_data (codes "VEN_NAME") (string ven ∷ []) ∷ values_data (codes "RESOURCE_NAME") (string resource ∷ []) ∷ [])
 
--- `createdDateTime`, `eventName`, `id`, `intervalPeriod` and `intervals`, of which name and period may be absent
-abbrev pub event_object_head : EventObject → List (List ℕ × Option Data)
-event_object_head e =
+abbrev pub event_object_fields : EventObject → List (List ℕ × Option Data)
+event_object_fields e =
     (codes "createdDateTime", Some (moment_data e.stamps.created))
     ∷ (codes "eventName", option_map string e.shown.name)
     ∷ (codes "id", Some (string (shown_id e.resource e.event)))
     ∷ (codes "intervalPeriod", option_map period_data e.shown.period)
     ∷ (codes "intervals", Some (array_of (map shown_interval_data e.shown.intervals)))
-    ∷ []
-
--- `modificationDateTime`, `objectType`, `priority`, which may be absent, `programID` and `targets`
-abbrev pub event_object_tail : EventObject → List (List ℕ × Option Data)
-event_object_tail e =
-    (codes "modificationDateTime", Some (moment_data e.stamps.modified))
+    ∷ (codes "modificationDateTime", Some (moment_data e.stamps.modified))
     ∷ (codes "objectType", Some (string (codes "EVENT")))
     ∷ (codes "priority", option_map natural_data e.shown.priority)
     ∷ (codes "programID", Some (string e.shown.program))
     ∷ (codes "targets", Some (targets_data e.shown.ven_name e.shown.resource_name))
     ∷ []
 
-abbrev pub event_object_fields : EventObject → List (List ℕ × Option Data)
-event_object_fields e = event_object_head e ++ event_object_tail e
-
--- an event as a resource is shown it: the members of `event_object_head` and of `event_object_tail`
+-- an event as a resource is shown it: its ten members, of which name, period and priority may be absent
 unfoldable pub event_object_data : EventObject → Data
 event_object_data e = object_of (event_object_fields e)
 

@@ -1,93 +1,14 @@
 //! Objects, written as JSON.
-ghost use Rattle.std.specs.Prelude.{◌≡◌, IfOk, OnOk, string_bytes};
-ghost use Rattle.serde_json.specs.View.{view, members_view};
-ghost use Rattle.adr_text.specs.Objects.{add_all};
-ghost use Rattle.adr_written.specs.Objects.{targets_data, shown_interval_data, event_object_head, event_object_tail, event_object_data, program_object_data, ven_object_data, resource_object_data, share_object_data, problem_data, event_text, program_text, ven_text, resource_text, share_text, problem_text};
+ghost use Rattle.std.specs.Prelude.{◌≡◌, IfOk, string_bytes};
+ghost use Rattle.serde_json.specs.View.{view};
+ghost use Rattle.adr_written.specs.Objects.{program_object_data, ven_object_data, resource_object_data, share_object_data, problem_data, program_text, ven_text, resource_text, share_text, problem_text};
 
-use crate::ids::{resource_id, shown_id, ven_id};
-use crate::write_fields::{Written, compact, list_of, payloads, put_text, valued};
-use adr_objects::{
-    EventObject, ProgramObject, ResourceObject, ShareObject, ShownInterval, VenObject,
-};
-use adr_text::{Name, Refusal, ToJson, put, put_maybe};
+use crate::ids::{resource_id, ven_id};
+use crate::write_fields::{compact, put_text};
+use adr_objects::{ProgramObject, ResourceObject, ShareObject, VenObject};
+use adr_text::{Refusal, put};
 use serde_json::{Map, Value};
 use std::alloc::{AllocError, Global};
-
-// An interval with the resource's part.
-impl Written for ShownInterval {
-    ghost json = { shown_interval_data };
-
-    #[tactic(auto, unfolding(crate::specs::Objects::shown_interval_data))]
-    fn written(&self, alloc: Global) -> Result<Value, AllocError> {
-        let payloads = payloads(alloc, "DISPATCH_SETPOINT", self.part)?;
-        let mut members = Map::new(alloc);
-        put(&mut members, alloc, "id", &self.id)?;
-        put_maybe(&mut members, alloc, "intervalPeriod", &self.period)?;
-        serde_json::put(&mut members, alloc, "payloads", payloads)?;
-        Ok(Value::Object(members))
-    }
-}
-
-// Whose event it is: the ven's name, then the resource's.
-fn targets(alloc: Global, ven: &Name, resource: &Name) -> Result<Value, AllocError>
-    ensures { IfOk result (λ v. view v ≡ targets_data ven.now resource.now) }
-{
-    let ven = valued(alloc, "VEN_NAME", ven.to_json(alloc)?)?;
-    let resource = valued(alloc, "RESOURCE_NAME", resource.to_json(alloc)?)?;
-    Ok(Value::Array(vec![in alloc; ven, resource]?))
-}
-
-// The first five members of an event.
-fn put_head(
-    members: &mut Map<String, Value>,
-    alloc: Global,
-    event: &EventObject,
-) -> Result<(), AllocError>
-    ensures { OnOk result (members_view members.new.entries
-        ≡ add_all (members_view members.old.entries) (event_object_head event.now)) }
-{
-    let id = shown_id(alloc, event.resource, &event.event)?;
-    let intervals = list_of(alloc, event.shown.intervals.as_slice())?;
-    put(members, alloc, "createdDateTime", &event.stamps.created)?;
-    put_maybe(members, alloc, "eventName", &event.shown.name)?;
-    put_text(members, alloc, "id", id.as_str())?;
-    put_maybe(members, alloc, "intervalPeriod", &event.shown.period)?;
-    serde_json::put(members, alloc, "intervals", intervals)
-}
-
-// Its other members.
-fn put_tail(
-    members: &mut Map<String, Value>,
-    alloc: Global,
-    event: &EventObject,
-) -> Result<(), AllocError>
-    ensures { OnOk result (members_view members.new.entries
-        ≡ add_all (members_view members.old.entries) (event_object_tail event.now)) }
-{
-    let targets = targets(alloc, &event.shown.ven_name, &event.shown.resource_name)?;
-    put(
-        members,
-        alloc,
-        "modificationDateTime",
-        &event.stamps.modified,
-    )?;
-    put_text(members, alloc, "objectType", "EVENT")?;
-    put_maybe(members, alloc, "priority", &event.shown.priority)?;
-    put(members, alloc, "programID", &event.shown.program)?;
-    serde_json::put(members, alloc, "targets", targets)
-}
-
-impl Written for EventObject {
-    ghost json = { event_object_data };
-
-    #[tactic(auto, unfolding(crate::specs::Objects::event_object_data))]
-    fn written(&self, alloc: Global) -> Result<Value, AllocError> {
-        let mut members = Map::new(alloc);
-        put_head(&mut members, alloc, self)?;
-        put_tail(&mut members, alloc, self)?;
-        Ok(Value::Object(members))
-    }
-}
 
 #[tactic(auto, unfolding(crate::specs::Objects::program_object_data))]
 pub(crate) fn program_object(alloc: Global, program: &ProgramObject) -> Result<Value, AllocError>
@@ -180,14 +101,6 @@ fn problem(alloc: Global, refusal: Refusal) -> Result<Value, AllocError>
     put(&mut members, alloc, "status", &status)?;
     put_text(&mut members, alloc, "title", refusal.title())?;
     Ok(Value::Object(members))
-}
-
-/// The text of an event (OpenADR 3.0, EVENT).
-#[tactic(auto, using(crate::proofs::NoFloats::event_object_whole), unfolding(crate::specs::Objects::event_text))]
-pub fn write_event(alloc: Global, event: &EventObject) -> Result<String, AllocError>
-    ensures { IfOk result (λ s. string_bytes s ≡ event_text event.now) }
-{
-    compact(alloc, event.written(alloc)?)
 }
 
 /// The text of a program (OpenADR 3.0, PROGRAM).

@@ -1,13 +1,13 @@
 //! Notifications, written as JSON: an object, and what was done to it.
 ghost use Rattle.std.specs.Prelude.{◌≡◌, IfOk, string_bytes};
 ghost use Rattle.serde_json.specs.View.{view};
-ghost use Rattle.adr_subscription.specs.declared.words.ObjectKind.TheVariants.{Program, Event, Report};
-ghost use Rattle.adr_written.specs.WrittenNotices.{notice_data, program_notice_text, event_notice_text, report_notice_text};
+ghost use Rattle.adr_subscription.specs.declared.words.ObjectKind.TheVariants.{Program, Report};
+ghost use Rattle.adr_written.specs.WrittenNotices.{notice_data, program_notice_text, report_notice_text};
 
 use crate::write::program_object;
-use crate::write_fields::{Written, compact, put_text};
+use crate::write_fields::{compact, put_text};
 use crate::write_reports::report_object;
-use adr_objects::{EventObject, ProgramObject, ReportObject};
+use adr_objects::{ProgramObject, ReportObject};
 use adr_subscription::{ObjectKind, OperationKind};
 use serde_json::{Map, Value};
 use std::alloc::{AllocError, Global};
@@ -43,19 +43,6 @@ pub fn write_program_notice(
         alloc,
         notice(alloc, ObjectKind::Program, operation, object)?,
     )
-}
-
-/// The text of what was done to an event, as it is shown (OpenADR 3.0, notification).
-#[tactic(auto, using(crate::proofs::NoFloats::event_notice_whole), unfolding(crate::specs::WrittenNotices::event_notice_text))]
-pub fn write_event_notice(
-    alloc: Global,
-    operation: OperationKind,
-    event: &EventObject,
-) -> Result<String, AllocError>
-    ensures { IfOk result (λ s. string_bytes s ≡ event_notice_text operation event.now) }
-{
-    let object = event.written(alloc)?;
-    compact(alloc, notice(alloc, ObjectKind::Event, operation, object)?)
 }
 
 /// The text of what was done to a report (OpenADR 3.0, notification).
