@@ -10,12 +10,15 @@ import tempfile
 import threading
 import time
 
+from findings import expect
 from peers import UNTOLD
 
 # How long is waited at most for what is to come, in seconds.
 PATIENCE = 300
 # The seconds between two rounds of a node that is to make one.
 SELDOM = 3600
+# The tables that a file of version 1 has not.
+LATER = ("frozen", "frozen_share")
 TOKENS = [
     {"token": f"{UNTOLD}-operator", "role": "operator"},
     {"token": f"{UNTOLD}-utility", "role": "utility"},
@@ -181,6 +184,12 @@ class Node:
     def ask(self, role, method, target, value=None, more=""):
         """Asks as a role would, or as nobody, and returns the whole reply."""
         return self.tells(request(role, method, target, value, more))
+
+    def does(self, role, method, target, value=None):
+        """Gives a command as a role would, which has to be taken, and returns what is answered."""
+        status, shown = parted(self.ask(role, method, target, value))
+        expect(status in (200, 201), f"{method} {target} is answered {status} {shown}")
+        return shown
 
     def reads(self, role, target):
         """Returns what a role is shown, which has to be there."""

@@ -10,6 +10,7 @@ import subprocess
 import sys
 import time
 
+from findings import Wrong
 from repository import TOP
 
 PROGRAM = f"{TOP}/crates/adr_node/out/adr_node"
@@ -25,10 +26,6 @@ total = 0
 for number in range(20000000):
     total += number
 print(time.process_time() - begun)"""
-
-
-class Wrong(Exception):
-    """A run is not as it has to be."""
 
 
 class Late(Wrong):
