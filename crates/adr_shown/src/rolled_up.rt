@@ -121,15 +121,23 @@ fn interval_value(alloc: Global, interval: &RollupInterval) -> Result<Value, All
 }
 
 // Each of the intervals, as JSON.
-fn interval_values(alloc: Global, intervals: &[RollupInterval]) -> Result<Value, AllocError>
-    ensures value { IfOk result (λ v. view v ≡ array_of (map rollup_interval_data intervals.now)) }
+fn interval_values(alloc: Global, intervals: &[RollupInterval]) -> Result<Vec<Value>, AllocError>
+    ensures values { IfOk result (λ values. map view values.items ≡ map rollup_interval_data intervals.now) }
     ensures kept { OnOk result (All IsRollupInterval intervals.now) }
 {
     let mut values = Vec::new(alloc);
     for interval in intervals {
         values.push(interval_value(alloc, interval)?)?;
     }
-    Ok(Value::Array(values))
+    Ok(values)
+}
+
+// The list of them.
+fn interval_list(alloc: Global, intervals: &[RollupInterval]) -> Result<Value, AllocError>
+    ensures value { IfOk result (λ v. view v ≡ array_of (map rollup_interval_data intervals.now)) }
+    ensures kept { OnOk result (All IsRollupInterval intervals.now) }
+{
+    Ok(Value::Array(interval_values(alloc, intervals)?))
 }
 
 impl Kept for RollupInterval {
@@ -152,7 +160,7 @@ fn rollup_resources(alloc: Global, rollup: &Rollup) -> Result<Value, AllocError>
     ensures value { IfOk result (λ v. view v ≡ rollup_resources rollup.now) }
     ensures kept { OnOk result (All IsRollupInterval rollup.now.intervals) }
 {
-    let intervals = interval_values(alloc, rollup.intervals.as_slice())?;
+    let intervals = interval_list(alloc, rollup.intervals.as_slice())?;
     resources(alloc, intervals, "AGGREGATED_REPORT")
 }
 

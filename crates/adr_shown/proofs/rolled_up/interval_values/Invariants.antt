@@ -5,7 +5,7 @@ use Rattle.adr_shown.specs.Types.{IsRollupInterval}
 use Rattle.adr_shown.proofs.rolled_up.interval_values.Given as goal
 
 abbrev pub invariant-loop-interval : goal.invariant-loop-interval
-invariant-loop-interval g l = record {
-  values : map view l.values.items ≡ map rollup_interval_data (take l.interval-index l.intervals.now);
-  kept : All IsRollupInterval (take l.interval-index l.intervals.now);
+invariant-loop-interval l = record {
+  values : map view l.values.items ≡ map rollup_interval_data (take l.interval-index l.intervals);
+  kept : All IsRollupInterval (take l.interval-index l.intervals);
 }

@@ -6,8 +6,8 @@ use Rattle.adr_shown.proofs.ShownLemmas.{shown_text_reads_back}
 use Rattle.adr_shown.proofs.TokenLemmas.{shown_printed}
 use Rattle.adr_shown.proofs.shown.write_shown.Goals as goal
 
-pub requires-text_of : goal.requires-text_of
-requires-text_of c = c.in_ok-put_shown.ensures.has.0 ∙ c.new-out.ensures.before ∙ c.in_ok-with_capacity.ensures.items
+pub text_of-requires : goal.text_of-requires
+text_of-requires c = c.in_ok-put_shown.ensures.has.0 ∙ c.new-out.ensures.before ∙ c.in_ok-with_capacity.ensures.items
 
 pub returns-clause-text : goal.returns-clause-text
 returns-clause-text c =
