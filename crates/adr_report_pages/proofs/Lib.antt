@@ -1,4 +1,3 @@
 pub mod Queries
-pub mod UnionLemmas
 pub mod OwnLemmas
 pub mod ReportLemmas

@@ -4,4 +4,5 @@ pub mod Shown
 pub mod RolledUp
 pub mod Trails
 pub mod Objects
+pub mod Hearers
 pub mod Commits

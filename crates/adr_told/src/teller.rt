@@ -9,6 +9,7 @@ ghost use Rattle.adr_told.specs.Told.{shown_notice, shown_entries, rollup_entrie
 use adr_delivery::Entry;
 use adr_event_text::KeptEvent;
 use adr_kept_view::{ObjectChange, ObjectKey, OldObject, RollupChange, ShownChange};
+use adr_listeners::Hearers;
 use adr_notices::{EventNames, Notice, entries_of, operation_kind, rollup_entry};
 use adr_objects::{Number, ProgramObject, ReportBody, ReportObject};
 use adr_subscription::{FreeText, ObjectKind, Sub};
@@ -71,6 +72,10 @@ fn notice_of(alloc: Global, event: &ObjectId, change: &ShownChange) -> Result<No
 impl Tells<ObjectId, ShownChange> for Teller<'_> {
     ghost told = { λ client subs id c. shown_entries subs id c };
 
+    fn hearers(&self, change: &ShownChange) -> Hearers {
+        Hearers::Of(change.ven)
+    }
+
     fn entries(
         &self,
         alloc: Global,
@@ -85,6 +90,10 @@ impl Tells<ObjectId, ShownChange> for Teller<'_> {
 
 impl Tells<ObjectId, RollupChange> for Teller<'_> {
     ghost told = { λ client subs id c. rollup_entries client id c };
+
+    fn hearers(&self, _change: &RollupChange) -> Hearers {
+        Hearers::Nobody
+    }
 
     fn entries(
         &self,
@@ -171,6 +180,13 @@ fn object_notice(
 
 impl Tells<OldObject, ObjectChange> for Teller<'_> {
     ghost told = { λ client subs old c. object_entries subs old c };
+
+    fn hearers(&self, change: &ObjectChange) -> Hearers {
+        match (&change.content, change.ven) {
+            (Content::Report(_), Some(ven)) => Hearers::Of(ven),
+            _ => Hearers::Everyone,
+        }
+    }
 
     fn entries(
         &self,

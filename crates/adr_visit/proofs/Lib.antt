@@ -1,2 +1,3 @@
 pub mod Visited
+pub mod Hearing
 pub mod Told

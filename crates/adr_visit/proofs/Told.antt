@@ -13,13 +13,13 @@ use Rattle.adr_db.specs.Bases.{Beside, kept_beside}
 use Rattle.adr_outbox.specs.Turned.{with_outbox}
 use Rattle.adr_room.specs.declared.room.Room.{Room}
 use Rattle.adr_room.specs.Rooms.{AreAppended, AreSoFar}
-use Rattle.adr_visit.specs.declared.listeners.Listeners.{Listeners}
+use Rattle.adr_listeners.specs.declared.listeners.Listeners.{Listeners}
 use Rattle.adr_visit.specs.declared.visit.Visit.{Visit}
-use Rattle.adr_visit.specs.Listeners.{AreThose}
+use Rattle.adr_listeners.specs.Listeners.{AreThose}
 use Rattle.adr_visit.specs.Visits.{IsAt}
 
 module _ (limits : Limits) (first : Meta) (owner : ℕ → ℕ) (base : Base) (rows : List (ViewKey × Content)) (beside : Beside) (es : List Entry) (visit : Visit) (after : Listeners) (numbers : Meta) (old mid : State)
-    (at : IsAt limits first owner base rows beside es visit numbers old) (finds : (kept : Kept) → Keeps kept old → AreThose kept visit.listeners → (after.subs ≡ kept.portfolio.subs) × Keeps kept mid) where
+    (at : IsAt limits first owner base rows beside es visit numbers old) (finds : (kept : Kept) → Keeps kept old → AreThose kept visit.listeners → AreThose kept after × Keeps kept mid) where
   abbrev kept : Kept
   kept = kept_beside beside base
 
@@ -30,8 +30,8 @@ module _ (limits : Limits) (first : Meta) (owner : ℕ → ℕ) (base : Base) (r
   carried (inl none) = inl (none.0, none.1, (finds kept none.2 at.listening).1)
   carried (inr a) = inr (record { outbox = a.outbox; serial = a.serial; decided = a.decided; keeps = carry a.outbox a.keeps; counted = a.counted })
 
-  -- those that are there are known
-  pub known : after.subs ≡ base.portfolio.subs
+  -- those that were read are right
+  pub known : AreThose kept after
   known = (finds (with_outbox at.come.tables.0 kept) at.come.tables.1 at.listening).0
 
   pub still : AreSoFar limits first kept es visit.room numbers mid
@@ -44,7 +44,7 @@ module _ (limits : Limits) (first : Meta) (owner : ℕ → ℕ) (base : Base) (r
     keeps = at.keeps;
     owns = at.owns;
     sharing = at.sharing;
-    listening = λ read. known;
+    listening = known;
     waits = at.waits;
     drawn = at.drawn;
   }

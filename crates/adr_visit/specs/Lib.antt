@@ -1,2 +1,2 @@
-pub mod Listeners
+pub mod Heard
 pub mod Visits

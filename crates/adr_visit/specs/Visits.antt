@@ -18,7 +18,7 @@ use Rattle.adr_kept_view.specs.Refreshed.{books_behind, Part, IsRefreshed}
 use Rattle.adr_upkeep.specs.Sharing.{AreThoseOf}
 use Rattle.adr_room.specs.Rooms.{AreDrawn, HaveCome, AreSoFar}
 use Rattle.adr_visit.specs.declared.visit.Visit.{Visit}
-use Rattle.adr_visit.specs.Listeners.{AreThose}
+use Rattle.adr_listeners.specs.Listeners.{AreThose}
 
 -- a visit that begins: no entry came, what was read is right, and there was no change
 pub record Begins (limits : Limits) (first : Meta) (kept : Kept) (visit : Visit) : Type 0 where

@@ -2,8 +2,8 @@
 //! refreshed, and the changes are told and let go before the next one.
 #![tactic(auto)]
 
+mod heard;
 mod kept_up;
-mod listeners;
 mod tells;
 mod visit;
 mod visits;

@@ -3,8 +3,10 @@ ghost use Rattle.std.specs.Prelude.{◌≡◌, ℕ, List, IfOk};
 ghost use Rattle.std.specs.List.{flat_map};
 ghost use Rattle.adr_subscription.specs.declared.kept_sub.Sub.{Sub as SubOf};
 ghost use Rattle.adr_delivery.specs.declared.entry.Entry.{Entry as EntryOf};
+ghost use Rattle.adr_listeners.specs.Hearers.{heard_by};
 
 use adr_delivery::Entry;
+use adr_listeners::Hearers;
 use adr_objects::Number;
 use adr_subscription::Sub;
 use adr_text::Table;
@@ -14,6 +16,10 @@ use std::alloc::{AllocError, Global};
 pub trait Tells<I, C> {
     /// The entries by which a change of an item is told, where these are the subscriptions.
     ghost told: { Self → List (ℕ × SubOf) → I → C → List EntryOf };
+
+    /// Whose subscriptions may hear of a change: to others it is not told.
+    fn hearers(&self, change: &C) -> Hearers
+        ensures { (subs : List (ℕ × SubOf)) (item : I) → told self.now subs item change.now ≡ told self.now (heard_by result subs) item change.now };
 
     fn entries(
         &self,

@@ -6,8 +6,8 @@ ghost use Rattle.adr_db.specs.Calls.{IsOfStore};
 ghost use Rattle.adr_room.specs.Rooms.{EndsWith, RefusesAll};
 ghost use Rattle.adr_visit.specs.Visits.{Begins};
 
-use crate::listeners::Listeners;
 use adr_db::Meta;
+use adr_listeners::Listeners;
 use adr_room::Room;
 use adr_state::Limits;
 use adr_text::Refusal;

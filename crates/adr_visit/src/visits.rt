@@ -6,6 +6,7 @@ ghost use Rattle.adr_kept_view.specs.Objects.{as_object};
 ghost use Rattle.adr_kept_view.specs.Refreshed.{as_shown, as_rolled_up};
 ghost use Rattle.adr_visit.specs.Visits.{TellsAll, VisitsOne, VisitsEach};
 
+use crate::heard::read_for;
 use crate::kept_up::{AsObject, AsRolledUp, AsShown, KeptUp};
 use crate::tells::{Tells, entries_of};
 use crate::visit::{Visit, with_more};
@@ -16,7 +17,7 @@ use adr_text::{Moment, ObjectId, Refusal};
 use sqlite::{Alter, Transaction};
 use std::alloc::Global;
 
-// The changes of an item are told to the subscriptions that there are, and counted.
+// The changes of an item are told to the subscriptions that may hear of them, and counted.
 fn tell<S: Alter, I, C, T: Tells<I, C>>(
     alloc: Global,
     tx: &mut Transaction<'_, S>,
@@ -32,7 +33,7 @@ fn tell<S: Alter, I, C, T: Tells<I, C>>(
     ensures refused { IfErr result IsOfStore }
 {
     visit.many = with_more(visit.many, changes.len())?;
-    visit.listeners.read(alloc, tx)?;
+    read_for(alloc, tx, teller, &mut visit.listeners, changes)?;
     let entries = entries_of(alloc, teller, &visit.listeners.subs, item, changes)?;
     visit.room.add(alloc, tx, limits, meta, &entries)
 }

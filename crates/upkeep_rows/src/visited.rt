@@ -14,6 +14,7 @@ use adr_db_shown::{read_rollup, read_shown_of, remove_rollup, remove_shown};
 use adr_db_state::remove_stamps;
 use adr_delivery::{Addressee, Entry};
 use adr_kept_view::{RollupChange, ShownChange};
+use adr_listeners::Hearers;
 use adr_objects::Number;
 use adr_state::{Limits, ViewKey};
 use adr_subscription::{FreeText, OperationKind, Sub};
@@ -40,6 +41,10 @@ fn entry_once(alloc: Global, event: &ObjectId) -> Result<Vec<Entry>, AllocError>
 impl Tells<ObjectId, ShownChange> for Once {
     ghost told = { told_once };
 
+    fn hearers(&self, _change: &ShownChange) -> Hearers {
+        Hearers::Nobody
+    }
+
     fn entries(
         &self,
         alloc: Global,
@@ -53,6 +58,10 @@ impl Tells<ObjectId, ShownChange> for Once {
 
 impl Tells<ObjectId, RollupChange> for Once {
     ghost told = { told_once };
+
+    fn hearers(&self, _change: &RollupChange) -> Hearers {
+        Hearers::Nobody
+    }
 
     fn entries(
         &self,
