@@ -19,3 +19,4 @@ pub mod Unread
 pub mod VersionStatement
 pub mod Understood
 pub mod Ranges
+pub mod Unions

@@ -40,8 +40,8 @@ module _ {K V : Type 0} (m : KeptMap K V) where
         ∙ ap (λ (p : K × V → Bool). map (λ e. cells 0 wide (m.rows.row_of e)) (filter p (m.entries kept))) (λ i e. tests e i)
 
     pub picked_finds : {T S E : Type 0} (Reads : Row → T → Type 0) (IsRight : Kept → List T → Type 0) (g : Ghosts S) (old new : Held S) (sql : List ℕ) (r : Result (List T) E)
-        → IsSelectText schema m.rows.table (first_columns wide terms m.rows.table) end sql → ((ts : List T) (kept : Kept) → AllZip Reads (map (λ e. cells 0 wide (m.rows.row_of e)) (filter is_in (m.entries kept))) ts → IsRight kept ts)
+        → IsSelectText schema m.rows.table (first_columns wide terms m.rows.table) end sql → ((ts : List T) (kept : Kept) → AreTexts kept → AllZip Reads (map (λ e. cells 0 wide (m.rows.row_of e)) (filter is_in (m.entries kept))) ts → IsRight kept ts)
         → Shows g old new sql params (AllZip Reads) r → Finds g old new IsRight r
     picked_finds Reads IsRight g old new sql r text right =
         shown_finds g old new sql params (AllZip Reads) IsRight r text.alone (λ ts rows kept shown was read.
-        right ts kept (subst (λ rows. AllZip Reads rows ts) (cells_picked sql text (state g old) (state g new) rows kept shown was) read))
+        right ts kept (was.marks, was.subs) (subst (λ rows. AllZip Reads rows ts) (cells_picked sql text (state g old) (state g new) rows kept shown was) read))

@@ -9,19 +9,11 @@ use Rattle.adr_state.specs.Keys.{with_rows}
 use Rattle.adr_db.specs.Kept.{Kept, Keeps}
 use Rattle.adr_db.proofs.KeptMaps.{stored_rises}
 use Rattle.adr_db.proofs.Maps.{sub_map}
-use Rattle.adr_listeners.specs.declared.hearers.Hearers.TheVariants.{Of}
+use Rattle.adr_listeners.specs.declared.hearers.Hearers.TheVariants.{Nobody, Of, Everyone}
 use Rattle.adr_listeners.specs.declared.listeners.Listeners.{Listeners}
 use Rattle.adr_listeners.specs.Hearers.{is_operators, hears}
-use Rattle.adr_listeners.specs.Listeners.{was_read, AreThose, Hears, Grows, ReadsOperators, ReadsVens}
-use Rattle.adr_listeners.proofs.Unions.{both_put, any_more, none_pass}
-
-or_true : (b : Bool) → (b || true) ≡ true
-or_true true = refl
-or_true false = refl
-
-or_false : (b : Bool) → (b || false) ≡ b
-or_false true = refl
-or_false false = refl
+use Rattle.adr_listeners.specs.Listeners.{was_read, AreThose, ReadsMore}
+use Rattle.adr_db.proofs.Unions.{both_put, any_more, none_pass, or_false, or_true}
 
 or_assoc : (a b c : Bool) → (a || (b || c)) ≡ ((a || b) || c)
 or_assoc true b c = refl
@@ -50,17 +42,17 @@ all_read kept those all subs = subs ∙ sym (ap (λ (p : ℕ × Sub → Bool). f
     any : (sub : Sub) → was_read those sub ≡ true
     any sub = rw all refl
 
--- those of the operator, who hears of all
-pub operators_more : (those later : Listeners) → later.all ≡ those.all → later.vens ≡ those.vens → later.operator ≡ true → ReadsOperators those later
-operators_more those later all vens operator = (operator, λ sub. by sub.owner)
+-- those of the operator
+pub operators_more : (those later : Listeners) → later.all ≡ those.all → later.vens ≡ those.vens → later.operator ≡ true → ReadsMore is_operators those later
+operators_more those later all vens operator sub = by sub.owner
   where
     by : (owner : Option ℕ) → (later.all || option_map_or (λ o. list_any (λ ven. o == ven) later.vens) owner later.operator) ≡ ((those.all || option_map_or (λ o. list_any (λ ven. o == ven) those.vens) owner those.operator) || option_map_or (λ o. false) owner true)
     by None = rw (operator) (or_true later.all ∙ sym (or_true (those.all || those.operator)))
     by (Some o) = rw (all, vens) (sym (or_false _))
 
--- those of one ven more
-pub vens_more : (those later : Listeners) (ven : ℕ) → later.all ≡ those.all → later.operator ≡ those.operator → later.vens ≡ those.vens ++ ven ∷ [] → ReadsVens ven those later
-vens_more those later ven all operator vens = (operator, λ sub. by sub.owner)
+-- those of one ven
+pub vens_more : (those later : Listeners) (ven : ℕ) → later.all ≡ those.all → later.operator ≡ those.operator → later.vens ≡ those.vens ++ ven ∷ [] → ReadsMore (is_sub_of ven) those later
+vens_more those later ven all operator vens sub = by sub.owner
   where
     by : (owner : Option ℕ) → (later.all || option_map_or (λ o. list_any (λ v. o == v) later.vens) owner later.operator) ≡ ((those.all || option_map_or (λ o. list_any (λ v. o == v) those.vens) owner those.operator) || option_map_or (λ o. o == ven) owner false)
     by None = rw (all, operator) (sym (or_false _))
@@ -76,24 +68,17 @@ module _ (kept : Kept) (s : State) (was : Keeps kept s) where
       put ∙ ap (λ rows. with_rows nat_cmp rows (filter (λ e. more e.1) kept.portfolio.subs)) are ∙ both_put (λ e. was_read those e.1) (λ e. more e.1) kept.portfolio.subs rises
       ∙ ap (λ (p : ℕ × Sub → Bool). filter p kept.portfolio.subs) (λ i e. sym (same e.1) i)
 
--- ---- they grow
-
-pub itself_grows : (those : Listeners) → Grows those those
-itself_grows those sub h = h
-
-pub more_grows : (those later : Listeners) (more : Sub → Bool) → ((sub : Sub) → was_read later sub ≡ (was_read those sub || more sub)) → Grows those later
-more_grows those later more same sub h = same sub ∙ ap (λ b. b || more sub) h
-
-pub grows_then : (first then last : Listeners) → Grows first then → Grows then last → Grows first last
-grows_then first then last one other sub h = other sub (one sub h)
-
-pub all_grow : (those later : Listeners) → later.all ≡ true → Grows those later
-all_grow those later all sub h = rw all refl
-
 -- ---- and those that may hear of a change are there
 
-pub everyone_hears : (those : Listeners) (hearers : _) → those.all ≡ true → Hears those hearers
-everyone_hears those hearers all sub h = rw all refl
+pub nobody_more : (those : Listeners) → ReadsMore (hears Nobody) those those
+nobody_more those sub = sym (or_false (was_read those sub))
+
+-- where all were read, no more can be
+pub no_more : (those : Listeners) (more : Sub → Bool) → those.all ≡ true → ReadsMore more those those
+no_more those more all sub = rw all refl
+
+pub everyone_more : (those later : Listeners) → later.all ≡ true → ReadsMore (hears Everyone) those later
+everyone_more those later all sub = rw all (sym (or_true (was_read those sub)))
 
 same_turned : (n m : ℕ) → (n == m) ≡ true → (m == n) ≡ true
 same_turned n m h = subst (λ k. (k == n) ≡ true) (eqb-true n m h) (subst (λ k. (n == k) ≡ true) (sym (eqb-true n m h)) h)
@@ -106,16 +91,31 @@ any_turned n (v ∷ vens) h = by (v == n) refl h (any_turned n vens)
     by true is among rest = rw (same_turned v n is) refl
     by false is among rest = ap (λ b. (n == v) || b) (rest among) ∙ or_true (n == v)
 
-pub ven_hears : (those : Listeners) (ven : ℕ) → those.operator ≡ true → list_any (λ v. v == ven) those.vens ≡ true → Hears those (Of ven)
-ven_hears those ven operator among sub = by sub.owner
+-- with those of the operator, where those of the ven were read before
+pub ven_there : (those later : Listeners) (ven : ℕ) → ReadsMore is_operators those later → list_any (λ v. v == ven) later.vens ≡ true → ReadsMore (hears (Of ven)) those later
+ven_there those later ven reads among sub = by sub.owner (reads sub)
   where
-    by : (owner : Option ℕ) → option_map_or (λ o. o == ven) owner true ≡ true → (those.all || option_map_or (λ o. list_any (λ v. o == v) those.vens) owner those.operator) ≡ true
-    by None h = rw operator (or_true those.all)
-    by (Some o) h = subst (λ k. (those.all || list_any (λ v. k == v) those.vens) ≡ true) (sym (eqb-true o ven h)) (rw (any_turned ven those.vens among) (or_true those.all))
+    seen : Option ℕ → Bool
+    seen owner = later.all || option_map_or (λ o. list_any (λ v. o == v) later.vens) owner later.operator
 
-pub new_ven_hears : (those later : Listeners) (ven : ℕ) → those.operator ≡ true → ReadsVens ven those later → Hears later (Of ven)
-new_ven_hears those later ven operator reads sub h = reads.1 sub ∙ by sub.owner h
+    before : Option ℕ → Bool
+    before owner = those.all || option_map_or (λ o. list_any (λ v. o == v) those.vens) owner those.operator
+
+    by : (owner : Option ℕ) → seen owner ≡ (before owner || option_map_or (λ o. false) owner true) → seen owner ≡ (before owner || option_map_or (λ o. o == ven) owner true)
+    by None is = is
+    by (Some o) is = of (o == ven) refl
+      where
+        there : o ≡ ven → seen (Some o) ≡ true
+        there same = subst (λ k. (later.all || list_any (λ v. k == v) later.vens) ≡ true) (sym same) (rw (any_turned ven later.vens among) (or_true later.all))
+
+        of : (b : Bool) → (o == ven) ≡ b → seen (Some o) ≡ (before (Some o) || b)
+        of true same = there (eqb-true o ven same) ∙ sym (or_true (before (Some o)))
+        of false other = is
+
+-- and where they are read after them
+pub ven_more : (those then later : Listeners) (ven : ℕ) → ReadsMore is_operators those then → ReadsMore (is_sub_of ven) then later → ReadsMore (hears (Of ven)) those later
+ven_more those then later ven operators vens sub = vens sub ∙ ap (λ b. b || is_sub_of ven sub) (operators sub) ∙ by (was_read those sub) sub.owner
   where
-    by : (owner : Option ℕ) → option_map_or (λ o. o == ven) owner true ≡ true → ((those.all || option_map_or (λ o. list_any (λ v. o == v) those.vens) owner those.operator) || option_map_or (λ o. o == ven) owner false) ≡ true
-    by None h = rw operator (or_false _ ∙ or_true those.all)
-    by (Some o) h = rw h (or_true _)
+    by : (b : Bool) (owner : Option ℕ) → ((b || option_map_or (λ o. false) owner true) || option_map_or (λ o. o == ven) owner false) ≡ (b || option_map_or (λ o. o == ven) owner true)
+    by b None = or_false (b || true)
+    by b (Some o) = ap (λ c. c || (o == ven)) (or_false b)

@@ -1,3 +1,2 @@
-pub mod Unions
 pub mod SubStatements
 pub mod Hearing

@@ -9,7 +9,7 @@ use Rattle.adr_listeners.specs.declared.hearers.Hearers.TheVariants.{Nobody, Of,
 abbrev pub is_operators : Sub → Bool
 is_operators sub = option_map_or (λ owner. false) sub.owner true
 
--- whether it may hear of what these may hear of: the operator's hear of all that somebody hears of
+-- whether it may hear of a change: the operator's hear of each that somebody hears of
 abbrev pub hears : Hearers → Sub → Bool
 hears Nobody sub = false
 hears (Of ven) sub = option_map_or (λ owner. owner == ven) sub.owner true

@@ -1,16 +1,13 @@
 -- The subscriptions that were read, and those that there are.
-use Rattle.std.specs.Prelude.{◌≡◌, ◌||◌, ◌==◌, ℕ, Bool, true, List, filter, Result, OnOk}
+use Rattle.std.specs.Prelude.{◌≡◌, ◌||◌, ◌==◌, Bool, filter, Result, OnOk}
 use Rattle.std.specs.List.{list_any}
 use Rattle.std.specs.Option.{option_map_or}
 use Rattle.sqlite.specs.Store.{Ghosts}
 use Rattle.sqlite.specs.Held.{Held, state}
 use Rattle.sqlite.specs.State.{HasCleanDisk}
 use Rattle.adr_subscription.specs.declared.kept_sub.Sub.{Sub}
-use Rattle.adr_state.specs.Portfolios.{is_sub_of}
 use Rattle.adr_db.specs.Kept.{Kept, Keeps}
-use Rattle.adr_listeners.specs.declared.hearers.Hearers.{Hearers}
 use Rattle.adr_listeners.specs.declared.listeners.Listeners.{Listeners}
-use Rattle.adr_listeners.specs.Hearers.{is_operators, hears}
 
 -- whether a subscription was read
 abbrev pub was_read : Listeners → Sub → Bool
@@ -25,18 +22,6 @@ abbrev pub FindsThose : {S T E : Type 0} → Ghosts S → Held S → Held S → 
 FindsThose g old new before after result =
     HasCleanDisk (state g new) → OnOk result ((kept : Kept) → Keeps kept (state g old) → AreThose kept before → AreThose kept after × Keeps kept (state g new))
 
--- those that may hear of a change were read
-abbrev pub Hears : Listeners → Hearers → Type 0
-Hears those hearers = (sub : Sub) → hears hearers sub ≡ true → was_read those sub ≡ true
-
--- those that were read before are among those that were read
-abbrev pub Grows : Listeners → Listeners → Type 0
-Grows before after = (sub : Sub) → was_read before sub ≡ true → was_read after sub ≡ true
-
--- those of the operator were read, and no others more
-abbrev pub ReadsOperators : Listeners → Listeners → Type 0
-ReadsOperators before after = (after.operator ≡ true) × ((sub : Sub) → was_read after sub ≡ (was_read before sub || is_operators sub))
-
--- those of a ven were read, and no others more
-abbrev pub ReadsVens : ℕ → Listeners → Listeners → Type 0
-ReadsVens ven before after = (after.operator ≡ before.operator) × ((sub : Sub) → was_read after sub ≡ (was_read before sub || is_sub_of ven sub))
+-- these more were read, and no others
+abbrev pub ReadsMore : (Sub → Bool) → Listeners → Listeners → Type 0
+ReadsMore more before after = (sub : Sub) → was_read after sub ≡ (was_read before sub || more sub)

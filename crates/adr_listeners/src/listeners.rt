@@ -3,10 +3,12 @@ ghost use Rattle.std.specs.Prelude.{◌≡◌, List, ℕ, map, OnOk, IfErr};
 ghost use Rattle.std.specs.Ordering.{nat_cmp};
 ghost use Rattle.adr_sql.specs.Calls.{LeavesLent};
 ghost use Rattle.adr_state.specs.Keys.{with_rows};
+ghost use Rattle.adr_state.specs.Portfolios.{is_sub_of};
 ghost use Rattle.adr_db.specs.Calls.{IsOfStore};
 ghost use Rattle.adr_db.specs.Kept.{Kept};
 ghost use Rattle.adr_listeners.specs.declared.hearers.Hearers.TheVariants.{Of, Everyone};
-ghost use Rattle.adr_listeners.specs.Listeners.{AreThose, FindsThose, Hears, Grows, ReadsOperators, ReadsVens};
+ghost use Rattle.adr_listeners.specs.Hearers.{is_operators, hears};
+ghost use Rattle.adr_listeners.specs.Listeners.{AreThose, FindsThose, ReadsMore};
 
 use crate::hearers::Hearers;
 use crate::read::{read_of_ven, read_operators};
@@ -17,8 +19,8 @@ use adr_text::{Refusal, Rows, Table};
 use sqlite::{Alter, Transaction};
 use std::alloc::{AllocError, Global};
 
-/// The subscriptions that were read for changes so far: of the operator, of some vens, or all. So each is read once, and
-/// only where it may hear of a change.
+/// The subscriptions that were read for changes so far, since they may hear of them: those of the operator, of some vens, or
+/// all.
 pub struct Listeners {
     all: bool,
     operator: bool,
@@ -68,7 +70,7 @@ impl Listeners {
     ) -> Result<(), Refusal>
         ensures lent { LeavesLent S.Store tx.old.conn tx.new.conn result }
         ensures finds { FindsThose S.Store tx.old.conn.now tx.new.conn.now self.old self.new result }
-        ensures reads { OnOk result (ReadsOperators self.old self.new) }
+        ensures reads { OnOk result (ReadsMore is_operators self.old self.new) }
         ensures refused { IfErr result IsOfStore }
     {
         if self.operator {
@@ -89,7 +91,7 @@ impl Listeners {
     ) -> Result<(), Refusal>
         ensures lent { LeavesLent S.Store tx.old.conn tx.new.conn result }
         ensures finds { FindsThose S.Store tx.old.conn.now tx.new.conn.now self.old self.new result }
-        ensures reads { OnOk result (ReadsVens ven self.old self.new) }
+        ensures reads { OnOk result (ReadsMore (is_sub_of ven) self.old self.new) }
         ensures refused { IfErr result IsOfStore }
     {
         let more = read_of_ven(alloc, tx, ven)?;
@@ -107,10 +109,12 @@ impl Listeners {
     ) -> Result<(), Refusal>
         ensures lent { LeavesLent S.Store tx.old.conn tx.new.conn result }
         ensures finds { FindsThose S.Store tx.old.conn.now tx.new.conn.now self.old self.new result }
-        ensures grows { OnOk result (Grows self.old self.new) }
-        ensures hears { OnOk result (Hears self.new (Of ven)) }
+        ensures reads { OnOk result (ReadsMore (hears (Of ven)) self.old self.new) }
         ensures refused { IfErr result IsOfStore }
     {
+        if self.all {
+            return Ok(());
+        }
         self.read_operator(alloc, tx)?;
         if self.vens.as_slice().contains(&ven) {
             return Ok(());
@@ -126,8 +130,7 @@ impl Listeners {
     ) -> Result<(), Refusal>
         ensures lent { LeavesLent S.Store tx.old.conn tx.new.conn result }
         ensures finds { FindsThose S.Store tx.old.conn.now tx.new.conn.now self.old self.new result }
-        ensures grows { OnOk result (Grows self.old self.new) }
-        ensures hears { OnOk result (Hears self.new Everyone) }
+        ensures reads { OnOk result (ReadsMore (hears Everyone) self.old self.new) }
         ensures refused { IfErr result IsOfStore }
     {
         if self.all {
@@ -147,8 +150,7 @@ impl Listeners {
     ) -> Result<(), Refusal>
         ensures lent { LeavesLent S.Store tx.old.conn tx.new.conn result }
         ensures finds { FindsThose S.Store tx.old.conn.now tx.new.conn.now self.old self.new result }
-        ensures grows { OnOk result (Grows self.old self.new) }
-        ensures hears { OnOk result (Hears self.new hearers) }
+        ensures reads { OnOk result (ReadsMore (hears hearers) self.old self.new) }
         ensures refused { IfErr result IsOfStore }
     {
         match hearers {

@@ -13,7 +13,7 @@ use Rattle.adr_queries.specs.Shown.{sees_owned}
 use Rattle.adr_db.specs.Kept.{Kept}
 use Rattle.adr_answers.proofs.KeyLemmas.{rows_of_numbers}
 use Rattle.adr_report_pages.specs.Columns.{Entry, columns_of, entry_at, on_any, with_resource}
-use Rattle.adr_listeners.proofs.Unions.{is_one_of, made_of_made}
+use Rattle.adr_db.proofs.Unions.{is_one_of, made_of_made}
 
 -- ---- numbers with the resources
 

@@ -13,7 +13,7 @@ pub returns-clause-finds : goal.returns-clause-finds
 returns-clause-finds g c =
     let event = c.args.event.now in
     picked_finds frozen_share_map 3 (equalities 0 1) (event_key_row event) (is_of_event event) (tests_event event) ReadsFrozenShare (λ kept shares. shares ≡ filter (is_of_event event) kept.portfolio.frozen_shares) g.S.Store c.args.tx.now.conn.now c.all_of.new.tx.conn.now _ _ reads_in
-    (λ shares kept read. shares_read (filter (is_of_event event) kept.portfolio.frozen_shares) shares read) (rw (c.to_sql.ensures, c.as_str.ensures.text) at c.all_of.ensures.shows)
+    (λ shares kept are read. shares_read (filter (is_of_event event) kept.portfolio.frozen_shares) shares read) (rw (c.to_sql.ensures, c.as_str.ensures.text) at c.all_of.ensures.shows)
 
 pub returns-clause-fails : goal.returns-clause-fails
 returns-clause-fails g c = rw (c.to_sql.ensures, c.as_str.ensures.text) at c.all_of.ensures.fails

@@ -5,7 +5,7 @@ use Rattle.adr_db.proofs.Rises.{reports_rise}
 use Rattle.adr_state.specs.Keys.{with_rows}
 use Rattle.adr_report_pages.specs.Columns.{on_any, with_resource}
 use Rattle.adr_report_pages.proofs.OwnLemmas.{numbers_rise, with_their_resource}
-use Rattle.adr_listeners.proofs.Unions.{any_more, both_put, none_pass}
+use Rattle.adr_db.proofs.Unions.{any_more, both_put, none_pass}
 use Rattle.adr_report_pages.proofs.own.numbers_on.Goals as goal
 
 pub resources-init : goal.resources-init

@@ -3,6 +3,7 @@ use Rattle.std.specs.Prelude.{All}
 use Rattle.std.proofs.lemmas.List.{take_all}
 use Rattle.std.proofs.lemmas.List.Elements.{All-nil, All-more, All-weaker}
 use Rattle.adr_db.proofs.Common.{state, HasCleanDisk, lent_itself, lent_then}
+use Rattle.adr_listeners.specs.Hearers.{hears}
 use Rattle.adr_visit.specs.Heard.{IsHeard}
 use Rattle.adr_visit.proofs.Hearing.{heard, heard_still}
 use Rattle.adr_visit.proofs.heard.read_for.Goals as goal
@@ -24,8 +25,8 @@ changes-preserved g c =
           let so_far = l.invariant.finds early kept was are in
           c.in_ok-read.ensures.finds clean kept so_far.1 so_far.0;
       heard = All-more (IsHeard told later) c.args.changes.now l.change-index one c.changes-test.true
-          (All-weaker (IsHeard told l.listeners) (IsHeard told later) (heard_still told l.listeners later c.in_ok-read.ensures.grows) (take l.change-index c.args.changes.now) l.invariant.heard)
-          (subst (IsHeard told later) c.change-item.is (heard told later c.hearers.result one c.hearers.ensures c.in_ok-read.ensures.hears));
+          (All-weaker (IsHeard told l.listeners) (IsHeard told later) (heard_still told l.listeners later (hears c.hearers.result) c.in_ok-read.ensures.reads) (take l.change-index c.args.changes.now) l.invariant.heard)
+          (subst (IsHeard told later) c.change-item.is (heard told l.listeners later c.hearers.result one c.hearers.ensures c.in_ok-read.ensures.reads));
     }
 
 pub returns-clause-heard : goal.returns-clause-heard

@@ -11,4 +11,4 @@ returns-clause-finds g c clean kept was are =
     let those = c.args.self.now in
     let later : Listeners = record { all = those.all; operator = true; vens = those.vens; subs = c.put_subs.new.subs } in
     let found = c.in_ok-more.ensures.finds clean kept was in
-    (put_more kept _ was those later is_operators are (operators_more those later refl refl refl).1 (c.in_ok-put_subs.ensures ∙ ap (with_rows nat_cmp those.subs) found.0), found.1)
+    (put_more kept _ was those later is_operators are (operators_more those later refl refl refl) (c.in_ok-put_subs.ensures ∙ ap (with_rows nat_cmp those.subs) found.0), found.1)

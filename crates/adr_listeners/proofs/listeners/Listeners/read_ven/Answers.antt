@@ -10,4 +10,4 @@ returns-clause-finds g c clean kept was are =
     let those = c.args.self.now in
     let later : Listeners = record { all = those.all; operator = those.operator; vens = c.push.new.self; subs = c.put_subs.new.subs } in
     let found = c.in_ok-more.ensures.finds clean kept was in
-    (put_more kept _ was those later (is_sub_of c.args.ven) are (vens_more those later c.args.ven refl refl c.in_ok-push.ensures.ok).1 (c.in_ok-put_subs.ensures ∙ ap (with_rows nat_cmp those.subs) found.0), found.1)
+    (put_more kept _ was those later (is_sub_of c.args.ven) are (vens_more those later c.args.ven refl refl c.in_ok-push.ensures.ok) (c.in_ok-put_subs.ensures ∙ ap (with_rows nat_cmp those.subs) found.0), found.1)

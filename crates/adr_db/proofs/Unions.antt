@@ -9,6 +9,7 @@ use Rattle.std.proofs.lemmas.Bool.{eqb-true}
 use Rattle.std.proofs.lemmas.List.Folds.{list_any-append}
 use Rattle.std.proofs.lemmas.Bool.Decides.{nat_tests}
 use Rattle.std.proofs.lemmas.Cmp.{nat_cmp_total, tied_itself}
+use Rattle.sqlite_trees.proofs.ListLemmas.{all-filter}
 use Rattle.adr_db.proofs.Common.{IsAscending, at}
 use Rattle.adr_state.specs.Keys.{with_rows}
 
@@ -27,12 +28,7 @@ module _ {V : Type 0} where
 
   -- those that are left of rows behind a number stand behind it
   still_behind : (k : ℕ) (passes : ℕ × V → Bool) (rows : List (ℕ × V)) → Behind k rows → Behind k (filter passes rows)
-  still_behind k passes [] h = tt
-  still_behind k passes (r ∷ rows) h = by (passes r) (still_behind k passes rows h.1)
-    where
-      by : (b : Bool) → Behind k (filter passes rows) → Behind k (cond b (r ∷ filter passes rows) (filter passes rows))
-      by true rest = (h.0, rest)
-      by false rest = rest
+  still_behind k = all-filter (λ r. nat_cmp k r.0 ≡ Less)
 
   -- a row is put before those behind it
   put_before : (k : ℕ) (v : V) (rows : List (ℕ × V)) → Behind k rows → insert_entry nat_cmp rows k v ≡ (k, v) ∷ rows
@@ -97,13 +93,18 @@ module _ {V : Type 0} where
             gone same = ap (λ k. list_any (λ m. k == m) (map (λ e. e.0) (filter of_row es))) (eqb-true n e.0 same) ∙ none_is e.0 of_row es up.0
         by false false fails other is rest = rw (is, other) rest
 
+-- nothing more, and all
+pub or_false : (b : Bool) → (b || false) ≡ b
+or_false true = refl
+or_false false = refl
+
+pub or_true : (b : Bool) → (b || true) ≡ true
+or_true true = refl
+or_true false = refl
+
 -- one of more
 pub any_more : {X : Type 0} (f : X → Bool) (xs : List X) (x : X) → (list_any f xs || f x) ≡ list_any f (xs ++ x ∷ [])
-any_more f xs x = sym (list_any-append f xs (x ∷ []) ∙ ap (λ b. list_any f xs || b) (by (f x)))
-  where
-    by : (b : Bool) → (b || false) ≡ b
-    by true = refl
-    by false = refl
+any_more f xs x = sym (list_any-append f xs (x ∷ []) ∙ ap (λ b. list_any f xs || b) (or_false (f x)))
 
 -- none passes
 pub none_pass : {X : Type 0} (xs : List X) → filter (λ x. false) xs ≡ []
