@@ -1,22 +1,20 @@
 -- What is shown of a program is told by what is known of its upstream key.
-use Rattle.std.proofs.Common.{◌≡◌, ℕ, true, List, [], ◌∷◌, Option, Some, None, Ordering, Less, Result, filter, refl, ap, ◌∙◌}
+use Rattle.std.proofs.Common.{◌≡◌, ℕ, true, List, [], ◌∷◌, Option, Some, None, Result, filter, refl, ap, ◌∙◌}
 use Rattle.std.specs.Prelude.{◌==◌, option_and_then}
 use Rattle.std.specs.List.{filter_map}
 use Rattle.std.proofs.lemmas.Cmp.{nat_list_cmp_total, tied_itself}
-use Rattle.std.specs.Map.{keys_of}
 use Rattle.std.specs.Ordering.{is_eq}
 use Rattle.adr_text.specs.Refusals.{◌>>=◌}
 use Rattle.adr_objects.specs.declared.body.Body.TheVariants as body
 use Rattle.adr_objects.specs.declared.kind.Kind.{Kind}
 use Rattle.adr_objects.specs.declared.kind.Kind.TheVariants as kind
 use Rattle.adr_objects.specs.declared.shown.Stamps.{Stamps}
-use Rattle.adr_db.proofs.Common.{AllByRecursion, Base, IsAscending, Mark, MirrorKey, Live, Dead, cons_option, Refusal, State, ViewKey, at, id_cmp, mirror_cmp, nat_cmp, view_cmp}
-use Rattle.adr_db.proofs.Rises.{mirror_rises, resources_rise, reports_rise}
+use Rattle.adr_db.proofs.Common.{Base, Mark, MirrorKey, Live, Dead, cons_option, Refusal, State, ViewKey, at, id_cmp, mirror_cmp, nat_cmp, view_cmp}
+use Rattle.adr_db.proofs.Rises.{keys_in_order, mirror_rises, resources_rise, reports_rise}
 use Rattle.adr_db.specs.Images.{image_kept}
 use Rattle.adr_db.specs.Kept.{Kept, Keeps}
 use Rattle.adr_db.specs.Rows.{kind_number}
 use Rattle.adr_state.specs.declared.keys.ViewKey.TheVariants as key
-use Rattle.adr_view.proofs.Common.{IsStrictlySortedBy}
 use Rattle.adr_view.specs.declared.view.Content.{Content}
 use Rattle.adr_view.specs.Laws.{StandsInOrder}
 use Rattle.adr_view.specs.Views.{rows_known, view}
@@ -28,16 +26,6 @@ use Rattle.adr_queries.specs.Shown.{object_at, program_reply, told}
 use Rattle.adr_answers.specs.Told.{program_in, program_key, program_known, program_named, name_in}
 
 -- ---- what is kept stands in order
-
-module _ {K V : Type 0} (cmp : K → K → Ordering) where
-  keys_behind : (k : K) (es : List (K × V)) → AllByRecursion (λ e. cmp k e.0 ≡ Less) es → AllByRecursion (λ l. cmp k l ≡ Less) (keys_of es)
-  keys_behind k [] behind = tt
-  keys_behind k (e ∷ es) behind = (behind.0, keys_behind k es behind.1)
-
-  keys_in_order : (es : List (K × V)) → IsAscending (λ a b. cmp a.0 b.0 ≡ Less) es → IsStrictlySortedBy cmp (keys_of es)
-  unfolding IsStrictlySortedBy
-  keys_in_order [] up = tt
-  keys_in_order (e ∷ es) up = (keys_behind e.0 es up.0, keys_in_order es up.1)
 
 pub kept_in_order : (kept : Kept) (s : State) → Keeps kept s → StandsInOrder (image_kept kept).base
 kept_in_order kept s was = record {

@@ -18,5 +18,6 @@ pub mod Results
 pub mod Unread
 pub mod VersionStatement
 pub mod Understood
+pub mod Comparisons
 pub mod Ranges
 pub mod Unions

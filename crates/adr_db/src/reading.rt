@@ -1,10 +1,10 @@
 //! Values that are read from the rows of a query.
-ghost use Rattle.std.specs.Prelude.{◌≡◌, ℕ, [], ◌∷◌, take, option_to_list, IfOk, IfErr};
+ghost use Rattle.std.specs.Prelude.{◌≡◌, ℕ, [], ◌∷◌, take, option_to_list, IfOk, OnOk, IfErr};
 ghost use Rattle.std.specs.List.{AllZip};
 ghost use Rattle.sqlite.specs.Order.{column};
 ghost use Rattle.sqlite.specs.Values.{bound};
 ghost use Rattle.adr_sql.specs.Calls.{LeavesLent};
-ghost use Rattle.adr_state.specs.Keys.{map_of};
+ghost use Rattle.adr_state.specs.Keys.{map_of, with_rows};
 ghost use Rattle.adr_db.specs.Calls.{Shows, IsOfStore};
 ghost use Rattle.adr_db.specs.Admitted.{IsNumber, ReadsNumber};
 ghost use Rattle.adr_db.specs.Refusals.{CannotRead, CannotReadAll, CannotReadFirst, RefusesToShow};
@@ -16,7 +16,7 @@ use adr_objects::Number;
 use adr_text::{Refusal, Rows, Table};
 use sqlite::types::ValueRef;
 use sqlite::{Alter, Row, Transaction};
-use std::alloc::Global;
+use std::alloc::{AllocError, Global};
 
 /// A value that stands in columns of its own in a row. What no call on the tables wrote is the store's
 /// refusal.
@@ -126,6 +126,19 @@ pub fn first_number<S: Alter>(
     first_number_in(&rows)
 }
 
+/// Puts entries into a map, one after another.
+pub fn put_all<K: Ord + Drop, V: Drop>(
+    table: &mut Table<K, V>,
+    rows: Rows<(K, V)>,
+) -> Result<(), AllocError>
+    ensures { OnOk result (table.new ≡ with_rows K.cmp table.old rows) }
+{
+    'rows: for row in rows.into_vec() {
+        table.put(row.0, row.1)?;
+    }
+    Ok(())
+}
+
 /// The map that entries make, put one after another.
 pub fn table_of<K: Ord + Drop, V: Drop>(
     alloc: Global,
@@ -135,8 +148,6 @@ pub fn table_of<K: Ord + Drop, V: Drop>(
     ensures refused { IfErr result (λ refusal. refusal ≡ OutOfMemory) }
 {
     let mut table = Table::new(alloc);
-    'rows: for row in rows.into_vec() {
-        table.put(row.0, row.1)?;
-    }
+    put_all(&mut table, rows)?;
     Ok(table)
 }

@@ -22,7 +22,8 @@ use Rattle.adr_db.specs.Kept.{Kept, Keeps, contents_of, numbers_lost}
 use Rattle.adr_db.proofs.Rows.{numbers_as_values}
 use Rattle.adr_db.proofs.Tables.{outbox, outbox_keyed, sub}
 use Rattle.adr_db.proofs.Maps.{outbox_map}
-use Rattle.adr_db_outbox.proofs.NextStatement.{equals, compared}
+use Rattle.adr_db.proofs.Comparisons.{compared}
+use Rattle.adr_db_outbox.proofs.NextStatement.{equals}
 
 abbrev tests : List Term
 tests = equals (col 2 1) (col 1 2) ∷ []

@@ -1,22 +1,21 @@
 -- The selection of the entry that leaves next: of the first entries, those that may leave, in the order of their numbers.
 use Rattle.std.proofs.Common.{◌≡◌, ℕ, pos, ◌<◌, Bool, true, false, not, ◌&&◌, ◌||◌, ◌++◌, cond, None, Some, Option, List, [], ◌∷◌, map, filter, flat_map, take, refl, sym, ap, ap₂, subst, ◌∙◌, arith, slice_index_or, suc, Less, Equal, Greater, Ordering, is_eq, IsPermutation}
-use Rattle.std.specs.Prelude.{option_to_list, is_some, nat_le, nat_lt}
+use Rattle.std.specs.Prelude.{option_to_list, is_some, nat_lt}
 use Rattle.std.specs.Option.{option_map_or}
 use Rattle.std.specs.Ordering.{is_le}
-use Rattle.std.proofs.lemmas.Bool.{le-leb, lt-leb, le-ltb, lt-ltb}
+use Rattle.std.proofs.lemmas.Bool.{le-ltb, lt-ltb}
 use Rattle.std.proofs.lemmas.List.Sorted.{IsPermutation-map}
 use Rattle.adr_db.proofs.Common.{AllByRecursion, list_all, nat_cmp, ranked, MatchOrdering, take-map, Null, Row, value_cmp-Int, flat_map-map, map-map, IsAscending, Has, Query, Join, inner, end, matches, Term, Env, lit, col, op2, holds, State, Shown, understood, everything, and_true, at, equal_is, named_is, seen, selection}
 use Rattle.sqlite_value.specs.Keys.{ascending}
 use Rattle.sqlite_value.specs.declared.keys.Collation.TheVariants.{Binary}
 use Rattle.sqlite_sql.specs.declared.ops.BinaryOp.TheVariants.{Compare, Or}
-use Rattle.sqlite_sql.specs.declared.ops.CompareOp.{CompareOp}
 use Rattle.sqlite_sql.specs.declared.ops.CompareOp.TheVariants.{Eq, Le}
 use Rattle.sqlite_sql.specs.Ops.{binary, is_true, from_truth, test}
 use Rattle.sqlite_sql.specs.Query.{Output, output, output_cmp}
 use Rattle.sqlite_trees.proofs.ListLemmas.{map-flat_map}
 use Rattle.sqlite_value.specs.Order.{column}
 use Rattle.adr_sql.proofs.Joins.{erased, slots}
-use Rattle.adr_sql.proofs.Keys.{told, column_drop}
+use Rattle.adr_sql.proofs.Keys.{column_drop}
 use Rattle.adr_sql.proofs.Selections.{picked}
 use Rattle.adr_delivery.specs.declared.entry.Entry.{Entry}
 use Rattle.adr_delivery.specs.Deliveries.{may_leave}
@@ -25,6 +24,7 @@ use Rattle.adr_db_outbox.specs.declared.next.TheConstants.{READ_NEXT}
 use Rattle.adr_db.specs.Tables.{schema}
 use Rattle.adr_db.specs.Rows.{number, flag_cell, lease_end, head_row, entry_row}
 use Rattle.adr_db.specs.Kept.{Kept, Keeps, heads_of, contents_of}
+use Rattle.adr_db.proofs.Comparisons.{compared, number_le}
 use Rattle.adr_db.proofs.Entries.{NumbersRise, found_of}
 use Rattle.adr_db.proofs.Rises.{waiting_rises}
 use Rattle.adr_db.proofs.Rows.{numbers_as_values, numbers_as_rows, number_same_is}
@@ -73,18 +73,6 @@ selects = record { names = columns; command = refl; alone = (refl, refl); unlist
 
 -- ---- the tests
 
-pub compared : (op : CompareOp) (a b : ℕ) → binary (Compare op Binary) (number a) (number b) ≡ from_truth (Some (test op (nat_cmp a b)))
-unfolding binary
-compared op a b = ap (λ o. from_truth (Some (test op o))) (value_cmp-Int (pos a) (pos b) ∙ numbers_as_values a b)
-
-le_is : (a b : ℕ) → is_le (nat_cmp a b) ≡ nat_le a b
-le_is a b = by (nat_cmp a b) (ranked a b (nat_cmp a b) refl)
-  where
-    by : (o : Ordering) → MatchOrdering o (a < b) (a ≡ b) (b < a) → is_le o ≡ nat_le a b
-    by Less h = sym (le-leb a b (omega (arith, h)))
-    by Equal h = sym (le-leb a b (omega (arith, h)))
-    by Greater h = sym (lt-leb a b h)
-
 ended_is : (until now : ℕ) → is_le (nat_cmp until now) ≡ not (nat_lt now until)
 ended_is until now = by (nat_cmp until now) (ranked until now (nat_cmp until now) refl)
   where
@@ -100,10 +88,6 @@ either_told true false = refl
 either_told false true = refl
 either_told false false = refl
 
--- it is due
-due_is : (due now : ℕ) → is_true (binary (Compare Le Binary) (number due) (number now)) ≡ nat_le due now
-due_is due now = ap is_true (compared Le due now) ∙ told _ ∙ le_is due now
-
 -- it has no lease, or one that has ended
 lease_is : (now : ℕ) (lease : Option ℕ) → is_true (binary Or (binary (Compare Eq Binary) (flag_cell (is_some lease)) (number 0)) (binary (Compare Le Binary) (number (lease_end lease)) (number now))) ≡ not (option_map_or (λ until. nat_lt now until) lease false)
 lease_is now None = ap is_true (ap₂ (binary Or) (compared Eq 0 0) (compared Le 0 now)) ∙ either_told (test Eq (nat_cmp 0 0)) (test Le (nat_cmp 0 now))
@@ -116,7 +100,7 @@ beside now h e = (number now ∷ []) ∷ (Null ∷ head_row h) ∷ (Null ∷ ent
 passes_is : (now : ℕ) (h : ℕ × ℕ) (e : Waiting) → list_all (holds (beside now h e)) filters ≡ (is_eq (nat_cmp h.1 e.0) && may_leave now e.1.delivery)
 passes_is now h e =
     ap₂ ◌&&◌ (equal_is (number e.0) (number h.1) refl ∙ ap is_eq (value_cmp-Int (pos h.1) (pos e.0) ∙ numbers_as_values h.1 e.0))
-    (ap₂ ◌&&◌ (due_is e.1.delivery.due now) (and_true _ ∙ lease_is now e.1.delivery.lease))
+    (ap₂ ◌&&◌ (number_le e.1.delivery.due now) (and_true _ ∙ lease_is now e.1.delivery.lease))
 
 -- ---- what is found
 

@@ -10,4 +10,4 @@ mod stamps;
 pub use programs::read_live_events;
 pub use rollup::{put_rollup, read_rollup, remove_rollup};
 pub use shown::{put_shown, read_shown_at, read_shown_of, remove_shown};
-pub use stamps::read_event_stamps;
+pub use stamps::{read_event_stamps, read_stamps_between};

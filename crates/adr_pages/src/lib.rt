@@ -4,6 +4,7 @@
 pub mod laws;
 mod objects;
 mod single;
+mod stamps;
 
 pub use objects::objects_of;
 pub use single::event;

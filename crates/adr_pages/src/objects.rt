@@ -4,6 +4,7 @@ ghost use Rattle.adr_sql.specs.Calls.{LeavesLent};
 ghost use Rattle.adr_db.specs.Calls.{Finds, IsOfStore};
 ghost use Rattle.adr_pages.specs.Objects.{event_key, object_with, object_kept, shown_kept};
 
+use crate::stamps::stamps_of;
 use adr_db::{ShownColumns, ShownKey};
 use adr_db_shown::read_shown_at;
 use adr_db_state::read_stamps_of;
@@ -11,7 +12,7 @@ use adr_event_text::KeptEvent;
 use adr_objects::Stamps;
 use adr_queries::Object;
 use adr_state::ViewKey;
-use adr_text::{Refusal, Rows};
+use adr_text::{Refusal, Rows, Table};
 use sqlite::{Alter, Transaction};
 use std::alloc::{AllocError, Global};
 
@@ -68,8 +69,26 @@ fn told<S: Alter>(
     object_of(key, columns, stamps)
 }
 
-/// What is kept in rows of shown events, as objects, each with its stamps, which are read by its key: nothing else is, and no
-/// text is read. A row without stamps is the store's refusal.
+// Each row as an object, with what these stamps have at its key.
+fn all_told(
+    alloc: Global,
+    rows: Rows<(ShownKey, ShownColumns)>,
+    stamps: &Table<ViewKey, Stamps>,
+) -> Result<Rows<Object>, Refusal>
+    ensures objects { IfOk result (λ objects. map Some objects ≡ map (object_kept stamps.now) rows) }
+    ensures refused { IfErr result IsOfStore }
+{
+    let mut objects = Rows::new(alloc);
+    'rows: for (key, columns) in rows.into_vec() {
+        let place = event_key(alloc, &key)?;
+        let object = object_of(key, columns, stamps.get(&place).copied())?;
+        objects.push(object)?;
+    }
+    Ok(objects)
+}
+
+/// What is kept in rows of shown events, as objects, each with its stamps. These are read by their keys, those of rows near
+/// each other at once; no text is read. A row without stamps is the store's refusal.
 pub fn objects_of<S: Alter>(
     alloc: Global,
     tx: &mut Transaction<'_, S>,
@@ -79,13 +98,8 @@ pub fn objects_of<S: Alter>(
     ensures finds { Finds S.Store tx.old.conn.now tx.new.conn.now (λ kept objects. map Some objects ≡ map (object_kept kept.stamps) rows) result }
     ensures refused { IfErr result IsOfStore }
 {
-    let mut objects = Rows::new(alloc);
-    'rows: for row in rows.into_vec() {
-        let (key, columns) = row;
-        let object = told(alloc, tx, key, columns)?;
-        objects.push(object)?;
-    }
-    Ok(objects)
+    let stamps = stamps_of(alloc, tx, rows.as_slice())?;
+    all_told(alloc, rows, &stamps)
 }
 
 /// What a resource is shown of an event, by its row, with its stamps, where it is shown.
