@@ -3,7 +3,7 @@ use Rattle.std.proofs.Common.{◌≡◌, ◌<◌, ℕ, pos, Some, Ordering, Less
 use Rattle.std.specs.Prelude.{nat_le}
 use Rattle.std.specs.Ordering.{is_le, is_ge}
 use Rattle.std.proofs.lemmas.Bool.{le-leb, lt-leb}
-use Rattle.adr_db.proofs.Common.{nat_cmp, ranked, MatchOrdering, value_cmp-Int}
+use Rattle.adr_db.proofs.Common.{nat_cmp, nat_cmp_total, ranked, MatchOrdering, ordering_reverse, value_cmp-Int}
 use Rattle.sqlite_value.specs.declared.keys.Collation.TheVariants.{Binary}
 use Rattle.sqlite_sql.specs.declared.ops.BinaryOp.TheVariants.{Compare}
 use Rattle.sqlite_sql.specs.declared.ops.CompareOp.{CompareOp}
@@ -25,13 +25,13 @@ le_is a b = by (nat_cmp a b) (ranked a b (nat_cmp a b) refl)
     by Equal h = sym (le-leb a b (omega (arith, h)))
     by Greater h = sym (lt-leb a b h)
 
+turned : (o : Ordering) → is_ge o ≡ is_le (ordering_reverse o)
+turned Less = refl
+turned Equal = refl
+turned Greater = refl
+
 ge_is : (a b : ℕ) → is_ge (nat_cmp a b) ≡ nat_le b a
-ge_is a b = by (nat_cmp a b) (ranked a b (nat_cmp a b) refl)
-  where
-    by : (o : Ordering) → MatchOrdering o (a < b) (a ≡ b) (b < a) → is_ge o ≡ nat_le b a
-    by Less h = sym (lt-leb b a h)
-    by Equal h = sym (le-leb b a (omega (arith, h)))
-    by Greater h = sym (le-leb b a (omega (arith, h)))
+ge_is a b = turned (nat_cmp a b) ∙ ap is_le (sym (nat_cmp_total.antisymm b a)) ∙ le_is b a
 
 pub number_le : (a b : ℕ) → is_true (binary (Compare Le Binary) (number a) (number b)) ≡ nat_le a b
 number_le a b = ap is_true (compared Le a b) ∙ told _ ∙ le_is a b

@@ -21,3 +21,4 @@ pub mod Understood
 pub mod Comparisons
 pub mod Ranges
 pub mod Unions
+pub mod Yielded

@@ -16,18 +16,18 @@ use Rattle.adr_state.specs.Keys.{with_rows}
 above : (n m : ℕ) → nat_cmp n m ≡ Less → nat_cmp m n ≡ Greater
 above n m is = grind (arith, nat_tests)
 
-differ : (n m : ℕ) → nat_cmp n m ≡ Less → (n == m) ≡ false
+pub differ : (n m : ℕ) → nat_cmp n m ≡ Less → (n == m) ≡ false
 differ n m is = grind (arith, nat_tests)
 
 one_of : (n m : ℕ) → is_eq (nat_cmp n m) ≡ (n == m)
 one_of n m = grind (arith, nat_tests)
 
 module _ {V : Type 0} where
-  abbrev Behind : ℕ → List (ℕ × V) → Type 0
+  abbrev pub Behind : ℕ → List (ℕ × V) → Type 0
   Behind k rows = AllByRecursion (λ r. nat_cmp k r.0 ≡ Less) rows
 
   -- those that are left of rows behind a number stand behind it
-  still_behind : (k : ℕ) (passes : ℕ × V → Bool) (rows : List (ℕ × V)) → Behind k rows → Behind k (filter passes rows)
+  pub still_behind : (k : ℕ) (passes : ℕ × V → Bool) (rows : List (ℕ × V)) → Behind k rows → Behind k (filter passes rows)
   still_behind k = all-filter (λ r. nat_cmp k r.0 ≡ Less)
 
   -- a row is put before those behind it

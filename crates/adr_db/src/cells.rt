@@ -7,6 +7,7 @@ ghost use Rattle.sqlite_value.specs.Value.{owned};
 ghost use Rattle.sqlite.specs.declared.types.Value.TheVariants.{Int, Text};
 ghost use Rattle.adr_sql.specs.Keys.{cells};
 ghost use Rattle.adr_db.specs.Calls.{IsOfStore};
+ghost use Rattle.adr_db.specs.Kept.{limit_number};
 ghost use Rattle.adr_db.specs.Refusals.{IsBeyond, IsMisread, CannotRead};
 ghost use Rattle.adr_db.specs.Admitted.{IsIdText, IsNameText, IsMoment, AreStamps, IsNumber, IsKey, ReadsId, ReadsNumber, ReadsKey};
 ghost use Rattle.adr_state.specs.Weights.{is_weight};
@@ -50,6 +51,16 @@ pub fn number(n: u64) -> Result<ValueRef<'static>, Refusal>
     match i64::try_from(n) {
         Ok(n) => Ok(ValueRef::Int(n)),
         Err(_) => Err(Refusal::Store),
+    }
+}
+
+/// At most how many rows a query shows: below 0 SQL has no limit.
+pub fn row_limit(most: Option<u32>) -> ValueRef<'static>
+    ensures { owned result ≡ Int (limit_number most) }
+{
+    match most {
+        Some(n) => ValueRef::Int(i64::from(n)),
+        None => ValueRef::Int(-1),
     }
 }
 

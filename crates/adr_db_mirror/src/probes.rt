@@ -1,6 +1,5 @@
 //! What a scan has not seen, from the tables `mirror` and `polled`.
 ghost use Rattle.std.specs.Prelude.{◌≡◌, [], ◌∷◌, IfErr};
-ghost use Rattle.sqlite_value.specs.Value.{owned};
 ghost use Rattle.sqlite.specs.declared.types.Value.TheVariants.{Int};
 ghost use Rattle.adr_sql.specs.Calls.{LeavesLent};
 ghost use Rattle.adr_state.specs.Scans.{probes};
@@ -9,25 +8,15 @@ ghost use Rattle.adr_db.specs.Calls.{Finds, IsOfStore};
 ghost use Rattle.adr_db.specs.Refusals.{RefusesToShow, CannotReadAll};
 ghost use Rattle.adr_db.specs.Admitted.{IsKey, ReadsKey};
 
+use adr_db::cells::row_limit;
 use adr_db::reading::all_of;
 use adr_state::MirrorKey;
 use adr_text::{Refusal, Rows};
-use sqlite::types::{ToSql, ValueRef};
 use sqlite::{Alter, Transaction};
 use std::alloc::Global;
 
 const READ_UNSEEN: &str =
     "SELECT kind, id FROM mirror WHERE state = 1 AND NOT EXISTS (SELECT 1 FROM polled p WHERE p.kind = mirror.kind AND p.id = mirror.id) ORDER BY kind, id LIMIT ?1";
-
-// Below 0 there is no limit.
-fn limit_of(limit: Option<u32>) -> ValueRef<'static>
-    ensures { owned result ≡ Int (limit_number limit) }
-{
-    match limit {
-        Some(n) => n.to_sql(),
-        None => ValueRef::Int(-1),
-    }
-}
 
 /// The live keys that were not polled: programs before events, each by the bytes of its id; the first of
 /// them where there is a limit, at most so many.
@@ -41,5 +30,5 @@ pub fn read_unseen<S: Alter>(
     ensures refused { IfErr result IsOfStore }
     ensures fails { RefusesToShow S.Store tx.old.conn.now tx.new.conn.now READ_UNSEEN.now (Int (limit_number limit) ∷ []) (CannotReadAll IsKey ReadsKey) result }
 {
-    all_of(alloc, tx, READ_UNSEEN, &[limit_of(limit)])
+    all_of(alloc, tx, READ_UNSEEN, &[row_limit(limit)])
 }

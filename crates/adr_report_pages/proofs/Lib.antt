@@ -1,3 +1,4 @@
 pub mod Queries
+pub mod FirstLemmas
 pub mod OwnLemmas
 pub mod ReportLemmas

@@ -1,12 +1,13 @@
-//! A report by its number: its columns, and its intervals.
-ghost use Rattle.std.specs.Prelude.{◌≡◌, IfErr};
+//! A report by its number: its columns, and its intervals; and the numbers of those on a resource.
+ghost use Rattle.std.specs.Prelude.{◌≡◌, ◌==◌, filter, map, IfErr};
+ghost use Rattle.adr_state.specs.Portfolios.{reported_on};
 ghost use Rattle.adr_sql.specs.Calls.{LeavesLent};
 ghost use Rattle.adr_db.specs.Calls.{Finds, IsOfStore};
-ghost use Rattle.adr_db.specs.Kept.{intervals_of};
+ghost use Rattle.adr_db.specs.Kept.{at_most, intervals_of};
 ghost use Rattle.adr_report_pages.specs.Columns.{columns_at};
 
 use adr_db::ReportColumns;
-use adr_db::cells::number;
+use adr_db::cells::{number, row_limit};
 use adr_db::reading::{all_of, first_of};
 use adr_objects::{Number, UsageInterval};
 use adr_text::{Refusal, Rows};
@@ -18,6 +19,8 @@ const READ_COLUMNS: &str =
 
 const READ_INTERVALS: &str =
     "SELECT report, pos, interval, value FROM report_value WHERE report = ?1 ORDER BY report, pos";
+
+const READ_ON: &str = "SELECT id FROM report WHERE resource = ?1 ORDER BY id LIMIT ?2";
 
 /// The columns of the report of a number, where there is one. Its intervals are not read.
 pub(crate) fn read_columns<S: Alter>(
@@ -43,4 +46,20 @@ pub(crate) fn read_intervals<S: Alter>(
     ensures refused { IfErr result IsOfStore }
 {
     all_of(alloc, tx, READ_INTERVALS, &[number(id.get())?])
+}
+
+/// The numbers of the reports on a resource, in their order: of the first ones, where there is a limit. Nothing else of them
+/// is read, and no row behind the last of them.
+pub(crate) fn read_numbers_on<S: Alter>(
+    alloc: Global,
+    tx: &mut Transaction<'_, S>,
+    resource: Number,
+    most: Option<u32>,
+) -> Result<Rows<Number>, Refusal>
+    ensures lent { LeavesLent S.Store tx.old.conn tx.new.conn result }
+    ensures finds { Finds S.Store tx.old.conn.now tx.new.conn.now (λ kept numbers. numbers ≡ map (λ r. r.0) (at_most most (filter (λ r. reported_on r == resource) kept.portfolio.reports))) result }
+    ensures refused { IfErr result IsOfStore }
+{
+    let n = number(resource.get())?;
+    all_of(alloc, tx, READ_ON, &[n, row_limit(most)])
 }

@@ -1,5 +1,5 @@
 //! The reports on the resources of a ven, by their numbers.
-ghost use Rattle.std.specs.Prelude.{◌≡◌, ◌≤◌, ◌+◌, length, map, filter, take, drop, option_to_list, OnOk, IfErr};
+ghost use Rattle.std.specs.Prelude.{◌≡◌, ◌≤◌, ◌+◌, length, map, filter, take, drop, option_to_list, None, IfSome, OnOk, IfErr};
 ghost use Rattle.std.specs.List.{filter_map};
 ghost use Rattle.std.specs.Ordering.{nat_cmp};
 ghost use Rattle.adr_state.specs.Keys.{with_rows};
@@ -9,12 +9,13 @@ ghost use Rattle.adr_db.specs.Calls.{Finds, IsOfStore};
 ghost use Rattle.adr_db.specs.Images.{image_kept};
 ghost use Rattle.adr_queries.specs.Reported.{sees_report};
 ghost use Rattle.adr_report_pages.specs.Cuts.{CutsOn};
+ghost use Rattle.adr_report_pages.specs.Firsts.{HaveFirst};
 ghost use Rattle.adr_report_pages.specs.Columns.{with_resource, on_any, entry_at, columns_in_sight, wanted_among};
 
-use crate::by_key::read_columns;
+use crate::by_key::{read_columns, read_numbers_on};
 use crate::wanted::ByColumns;
 use adr_db::ReportColumns;
-use adr_db_portfolio::{read_reports_on, read_resources_of};
+use adr_db_portfolio::read_resources_of;
 use adr_lent::offer;
 use adr_objects::Number;
 use adr_queries::{Page, ReportFilter};
@@ -36,37 +37,50 @@ fn put_numbers(
     Ok(())
 }
 
-// The numbers of the reports on these resources, in their order, each with that of its resource. Nothing else of a report is
-// read.
+// How many of the reports on each resource a page needs at most: where all are wanted, so many as it and those before it have.
+fn most_of(filter: &ReportFilter, page: Page) -> Option<u32>
+    ensures { IfSome result (λ most. (filter.now.programs ≡ None) × (filter.now.clients ≡ None) × (most ≡ page.skip + page.limit)) }
+{
+    match (&filter.programs, &filter.clients) {
+        (None, None) => page.skip.checked_add(page.limit),
+        _ => None,
+    }
+}
+
+// The numbers of the reports on these resources, in their order, each with that of its resource: of the first ones on each,
+// where there is a limit. Nothing else of a report is read.
 fn numbers_on<S: Alter>(
     alloc: Global,
     tx: &mut Transaction<'_, S>,
     resources: Rows<Number>,
+    most: Option<u32>,
 ) -> Result<Table<Number, Number>, Refusal>
     ensures lent { LeavesLent S.Store tx.old.conn tx.new.conn result }
-    ensures finds { Finds S.Store tx.old.conn.now tx.new.conn.now (λ kept numbers. numbers ≡ filter (on_any resources) (map with_resource kept.portfolio.reports)) result }
+    ensures finds { Finds S.Store tx.old.conn.now tx.new.conn.now (λ kept numbers. HaveFirst most (λ r. on_any resources (with_resource r)) kept.portfolio.reports numbers) result }
     ensures refused { IfErr result IsOfStore }
 {
     let mut numbers = Table::new(alloc);
     'resources: for resource in resources.into_vec() {
-        let more = read_reports_on(alloc, tx, resource)?;
+        let more = read_numbers_on(alloc, tx, resource, most)?;
         put_numbers(&mut numbers, more, resource)?;
     }
     Ok(numbers)
 }
 
-// The numbers of the reports on the resources of a ven, in their order, each with that of its resource.
+// The numbers of the reports on the resources of a ven, in their order, each with that of its resource: of the first ones, and
+// of others on the same resources, where there is a limit.
 fn own_numbers<S: Alter>(
     alloc: Global,
     tx: &mut Transaction<'_, S>,
     ven: Number,
+    most: Option<u32>,
 ) -> Result<Table<Number, Number>, Refusal>
     ensures lent { LeavesLent S.Store tx.old.conn tx.new.conn result }
-    ensures finds { Finds S.Store tx.old.conn.now tx.new.conn.now (λ kept numbers. numbers ≡ map with_resource (filter (sees_report (image_kept kept).base (Of ven)) kept.portfolio.reports)) result }
+    ensures finds { Finds S.Store tx.old.conn.now tx.new.conn.now (λ kept numbers. HaveFirst most (sees_report (image_kept kept).base (Of ven)) kept.portfolio.reports numbers) result }
     ensures refused { IfErr result IsOfStore }
 {
     let resources = read_resources_of(alloc, tx, ven)?;
-    numbers_on(alloc, tx, resources)
+    numbers_on(alloc, tx, resources, most)
 }
 
 // The report of a number, where there is one, is passed over or put, as it is wanted.
@@ -114,8 +128,8 @@ fn page_at<S: Alter>(
 }
 
 /// The columns of the reports on the resources of a ven that are wanted, by number: after the first ones, at most so many. Of
-/// those on its resources the numbers are read, and then the columns one after another, as far as the page needs them; of
-/// others nothing is, and no interval.
+/// those on its resources the numbers are read, and then the columns one after another, as far as the page needs them; where
+/// all are wanted no more numbers on each resource than the page can need. Of others nothing is read, and no interval.
 pub fn own_page<S: Alter>(
     alloc: Global,
     tx: &mut Transaction<'_, S>,
@@ -127,6 +141,7 @@ pub fn own_page<S: Alter>(
     ensures finds { Finds S.Store tx.old.conn.now tx.new.conn.now (λ kept rows. rows ≡ take page.limit (drop page.skip (wanted_among filter.now (columns_in_sight kept (Of ven))))) result }
     ensures refused { IfErr result IsOfStore }
 {
-    let numbers = own_numbers(alloc, tx, ven)?;
+    let most = most_of(filter, page);
+    let numbers = own_numbers(alloc, tx, ven, most)?;
     page_at(alloc, tx, &numbers, filter, page)
 }

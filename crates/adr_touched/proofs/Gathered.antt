@@ -1,18 +1,8 @@
 -- What is made of the elements that pass a test, as it is gathered from answers one after another.
-use Rattle.std.proofs.Common.{◌≡◌, ◌⊎◌, inl, inr, Bool, true, false, ◌||◌, ◌&&◌, cond, List, [], ◌∷◌, ◌++◌, length, map, filter, Option, None, Some, refl, sym, ap, ◌∙◌}
-use Rattle.std.specs.declared.vec.IntoIter.{IntoIter}
-use Rattle.std.specs.Iterator.{Yields}
-use Rattle.std.specs.Vec.Iter.{into_iter_items, into_iter_len, into_iter_steps}
-use Rattle.std.proofs.lemmas.Iterator.Adapters.{YieldsList-from_vec}
-use Rattle.std.proofs.lemmas.Iterator.Consumers.{YieldsList-end}
-use Rattle.std.proofs.lemmas.List.{map-id}
+use Rattle.std.proofs.Common.{◌≡◌, ◌⊎◌, inl, inr, Bool, true, false, ◌||◌, ◌&&◌, cond, List, [], ◌∷◌, ◌++◌, map, filter, Option, Some, refl, sym, ap, ◌∙◌}
 use Rattle.std.proofs.lemmas.List.Folds.{list_any-append, list_any_at}
 use Rattle.adr_refresh.proofs.Common.{Contains, Contains-append_left, Contains-append_right, filter_map, in_filter_map, list_any}
 use Rattle.adr_view.proofs.ListLemmas.{from_filter_map}
-
--- a loop over a list that came to its end went over the whole list
-pub each_yielded : {A Z : Type 0} (s t u : IntoIter A Z) {r : Option A} (xs ys : List A) → into_iter_items s ≡ xs → into_iter_len s ≡ length xs → Yields (into_iter_steps {X = A} {Z = Z}) s ys t → r ≡ None → into_iter_steps t r u → ys ≡ xs
-each_yielded s t u xs ys items len yields none last = sym (map-id ys) ∙ (YieldsList-end (YieldsList-from_vec {s = s} xs items len) ys t yields _ u none last).0
 
 -- where one that is there passes
 pub any_there : {A : Type 0} (p : A → Bool) (xs : List A) (x : A) → Contains xs x → p x ≡ true → list_any p xs ≡ true

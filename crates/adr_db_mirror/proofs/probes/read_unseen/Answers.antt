@@ -13,7 +13,7 @@ returns-clause-finds g c =
     let limit = c.args.limit in
     shown_finds g.S.Store c.args.tx.now.conn.now c.all_of.new.tx.conn.now _ _ (AllZip (λ row key. key_row key ≡ cells 0 2 row)) (λ kept keys. keys ≡ at_most limit (probes kept.mirror kept.polled)) _ selects.alone (λ keys rows kept shown was read.
     read_back (λ row key. key_row key ≡ cells 0 2 row) key_row keys (at_most limit (probes kept.mirror kept.polled)) (λ j k has same. key_kept j k same) (subst (λ rows. AllZip (λ row key. key_row key ≡ cells 0 2 row) rows keys) (unseen_read limit _ _ rows kept shown was) read))
-    (rw c.limit_of.ensures at c.all_of.ensures.shows)
+    (rw c.row_limit.ensures at c.all_of.ensures.shows)
 
 pub returns-clause-fails : goal.returns-clause-fails
-returns-clause-fails g c = rw c.limit_of.ensures at c.all_of.ensures.fails
+returns-clause-fails g c = rw c.row_limit.ensures at c.all_of.ensures.fails

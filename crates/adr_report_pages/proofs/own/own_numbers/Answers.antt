@@ -1,9 +1,10 @@
-use Rattle.std.proofs.Common.{ap, arith, filter, map, ◌∙◌}
+use Rattle.std.proofs.Common.{arith, subst}
 use Rattle.adr_db.proofs.Common.{state, HasCleanDisk}
 use Rattle.adr_db.proofs.Results.{ok_then}
 use Rattle.adr_db.proofs.Rises.{resources_rise}
 use Rattle.adr_db.specs.Images.{image_kept}
 use Rattle.adr_report_pages.specs.Columns.{on_any, with_resource}
+use Rattle.adr_report_pages.specs.Firsts.{HaveFirst}
 use Rattle.adr_report_pages.proofs.OwnLemmas.{own_seen}
 use Rattle.adr_report_pages.proofs.own.own_numbers.Goals as goal
 
@@ -13,4 +14,5 @@ returns-clause-finds g c clean =
     ok_then c.numbers_on.result (λ numbers finds kept was.
     let resources = c.in_ok-resources.ensures.finds early kept was in
     let found = finds kept resources.1 in
-    (found.0 ∙ ap (λ ns. filter (on_any ns) (map with_resource kept.portfolio.reports)) resources.0 ∙ own_seen (image_kept kept).base c.args.ven (resources_rise kept (state g.S.Store c.args.tx.now.conn.now) was), found.1)) (c.numbers_on.ensures.finds clean)
+    let their = subst (λ ns. HaveFirst c.args.most (λ r. on_any ns (with_resource r)) kept.portfolio.reports numbers) resources.0 found.0 in
+    (own_seen c.args.most (image_kept kept).base c.args.ven numbers (resources_rise kept (state g.S.Store c.args.tx.now.conn.now) was) their, found.1)) (c.numbers_on.ensures.finds clean)

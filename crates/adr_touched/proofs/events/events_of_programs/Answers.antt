@@ -5,7 +5,8 @@ use Rattle.adr_db.proofs.Common.{state, HasCleanDisk, lent_then}
 use Rattle.adr_refresh.specs.Touched.{live_in}
 use Rattle.adr_view.specs.Rollups.{event_key}
 use Rattle.adr_touched.specs.Answers.{HasEvents, live_events}
-use Rattle.adr_touched.proofs.Gathered.{each_yielded, none_made, more_made}
+use Rattle.adr_db.proofs.Yielded.{each_yielded}
+use Rattle.adr_touched.proofs.Gathered.{none_made, more_made}
 use Rattle.adr_touched.proofs.Tested.{by_program}
 use Rattle.adr_touched.proofs.events.events_of_programs.Goals as goal
 

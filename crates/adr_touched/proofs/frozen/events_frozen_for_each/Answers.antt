@@ -4,7 +4,8 @@ use Rattle.std.specs.List.{list_any, filter_map}
 use Rattle.adr_db.proofs.Common.{state, HasCleanDisk, lent_then}
 use Rattle.adr_view.specs.Rollups.{event_key}
 use Rattle.adr_touched.specs.Answers.{HasEvents, frozen_by}
-use Rattle.adr_touched.proofs.Gathered.{each_yielded, none_made, more_made}
+use Rattle.adr_db.proofs.Yielded.{each_yielded}
+use Rattle.adr_touched.proofs.Gathered.{none_made, more_made}
 use Rattle.adr_touched.proofs.FrozenFound.{by_share, frozen_are}
 use Rattle.adr_touched.proofs.frozen.events_frozen_for_each.Goals as goal
 

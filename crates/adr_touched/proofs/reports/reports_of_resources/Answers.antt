@@ -4,7 +4,8 @@ use Rattle.std.specs.List.{list_any}
 use Rattle.adr_db.proofs.Common.{state, HasCleanDisk, lent_then}
 use Rattle.adr_refresh.specs.Touched.{report_by, reports_by}
 use Rattle.adr_touched.specs.Answers.{HasEach}
-use Rattle.adr_touched.proofs.Gathered.{each_yielded, none_made, more_made}
+use Rattle.adr_db.proofs.Yielded.{each_yielded}
+use Rattle.adr_touched.proofs.Gathered.{none_made, more_made}
 use Rattle.adr_touched.proofs.Tested.{by_resource}
 use Rattle.adr_touched.proofs.Statements.{reported_are}
 use Rattle.adr_touched.proofs.reports.reports_of_resources.Goals as goal

@@ -3,7 +3,7 @@ use Rattle.std.proofs.lemmas.List.{map-append}
 use Rattle.adr_db.proofs.Common.{state, HasCleanDisk, lent_then}
 use Rattle.adr_kept_view.specs.declared.object.OldObject.{OldObject}
 use Rattle.adr_touched.specs.Touched.{old_object}
-use Rattle.adr_touched.proofs.Gathered.{each_yielded}
+use Rattle.adr_db.proofs.Yielded.{each_yielded}
 use Rattle.adr_touched.proofs.stood.objects_at.Goals as goal
 
 pub keys-init : goal.keys-init
