@@ -1,8 +1,9 @@
 //! The stamps of rows that are kept of shown events, of those that stand near each other at once.
-ghost use Rattle.std.specs.Prelude.{IfErr};
+ghost use Rattle.std.specs.Prelude.{◌≡◌, true, IfErr};
 ghost use Rattle.adr_sql.specs.Calls.{LeavesLent};
 ghost use Rattle.adr_db.specs.Calls.{Finds, IsOfStore};
-ghost use Rattle.adr_pages.specs.Stamps.{AreAmong};
+ghost use Rattle.adr_db_shown.specs.Entries.{is_key_between};
+ghost use Rattle.adr_pages.specs.Stamps.{AreFound, AreJoined, GoesOn};
 
 use adr_db::reading::put_all;
 use adr_db::{ShownColumns, ShownKey};
@@ -13,24 +14,17 @@ use adr_text::{ObjectId, Refusal, Table};
 use sqlite::{Alter, Transaction};
 use std::alloc::Global;
 
-// How far behind a row's resource the next row's may stand for both to be near: a statement more takes as long as some eight
-// rows that nobody asked for.
+// How far behind a row's resource the next row's may stand for both to be near: a statement more may take as long as some
+// eight rows that nobody asked for, which is an estimate.
 const NEAR: u64 = 8;
 
-// Whether the stamps of one row are read together with those of the row before it. What is read rests on it, and not what is
-// told.
-fn is_near(before: &ShownKey, key: &ShownKey) -> bool {
+// Whether the stamps of one row are read together with those of the row before it. A row is near itself.
+fn is_near(before: &ShownKey, key: &ShownKey) -> bool
+    ensures { result ≡ true → GoesOn before.now key.now }
+{
     before.event == key.event
-        && before.resource.get() < key.resource.get()
+        && before.resource.get() <= key.resource.get()
         && key.resource.get() - before.resource.get() <= NEAR
-}
-
-// Whether the row behind this one, where there is one, is near it.
-fn goes_on(key: &ShownKey, next: Option<&(ShownKey, ShownColumns)>) -> bool {
-    match next {
-        Some((next, _)) => is_near(key, next),
-        None => false,
-    }
 }
 
 // Puts the stamps of what the resources from one number to another are shown of an event among others.
@@ -43,7 +37,7 @@ fn put_run<S: Alter>(
     last: Number,
 ) -> Result<(), Refusal>
     ensures lent { LeavesLent S.Store tx.old.conn tx.new.conn result }
-    ensures among { Finds S.Store tx.old.conn.now tx.new.conn.now (λ kept done. AreAmong kept.stamps stamps.old → AreAmong kept.stamps stamps.new) result }
+    ensures puts { Finds S.Store tx.old.conn.now tx.new.conn.now (λ kept done. AreJoined kept.stamps stamps.old stamps.new (is_key_between event.now first last)) result }
     ensures refused { IfErr result IsOfStore }
 {
     let more = read_stamps_between(alloc, tx, event, first, last)?;
@@ -57,20 +51,23 @@ pub(crate) fn stamps_of<S: Alter>(
     rows: &[(ShownKey, ShownColumns)],
 ) -> Result<Table<ViewKey, Stamps>, Refusal>
     ensures lent { LeavesLent S.Store tx.old.conn tx.new.conn result }
-    ensures finds { Finds S.Store tx.old.conn.now tx.new.conn.now (λ kept stamps. AreAmong kept.stamps stamps) result }
+    ensures finds { Finds S.Store tx.old.conn.now tx.new.conn.now (λ kept stamps. AreFound kept.stamps stamps rows.now) result }
     ensures refused { IfErr result IsOfStore }
 {
     let mut stamps = Table::new(alloc);
-    let mut first = None;
-    'rows: for at in 0..rows.len() {
-        let key = &rows[at].0;
-        let begin = first.unwrap_or(key.resource);
-        if goes_on(key, rows.get(at + 1)) {
-            first = Some(begin);
-        } else {
-            put_run(alloc, tx, &mut stamps, &key.event, begin, key.resource)?;
-            first = None;
+    let Some(begin) = rows.first() else {
+        return Ok(stamps);
+    };
+    let mut first = begin.0.resource;
+    let mut last = &begin.0;
+    'rows: for row in rows {
+        let key = &row.0;
+        if !is_near(last, key) {
+            put_run(alloc, tx, &mut stamps, &last.event, first, last.resource)?;
+            first = key.resource;
         }
+        last = key;
     }
+    put_run(alloc, tx, &mut stamps, &last.event, first, last.resource)?;
     Ok(stamps)
 }
