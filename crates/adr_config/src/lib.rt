@@ -11,8 +11,6 @@ mod members;
 mod oddity;
 mod place;
 mod read;
-#[cfg(test)]
-mod tests;
 mod texts;
 mod wrong;
 

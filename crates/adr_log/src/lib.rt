@@ -8,8 +8,6 @@
 mod console;
 mod shown;
 mod stopwatch;
-#[cfg(test)]
-mod tests;
 
 pub use console::{Console, Writer};
 pub use shown::{MOST_SHOWN, Shown};

@@ -7,8 +7,6 @@ pub mod laws;
 mod network;
 mod networks;
 mod read;
-#[cfg(test)]
-mod tests;
 
 pub use address::address_of;
 pub use network::Network;

@@ -16,8 +16,6 @@ mod place;
 mod shape;
 mod stopped;
 mod target;
-#[cfg(test)]
-mod tests;
 
 pub use adr_objects::{Kind, Reason, Text};
 pub use defect::Defect;

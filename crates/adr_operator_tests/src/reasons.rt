@@ -1,6 +1,6 @@
 //! What no clause says: the words of each reason, and that each public call succeeds. A line of a table has
 //! JSON, ` => ` and what is wanted.
-use crate::{Fate, Kind, faults_on_page, object_fault, targets_passed_over};
+use adr_reasons::{Fate, Kind, faults_on_page, object_fault, targets_passed_over};
 use adr_text::read_value;
 use std::alloc::Global;
 use std::test::Fail;

@@ -1,8 +1,6 @@
 //! What no clause says: that an example is read, that each wrong member is refused and told, by which words the members go,
 //! and what has no effect.
-use crate::config::Config;
-use crate::level::log_of;
-use crate::oddity::oddities;
+use adr_config::{Config, log_of, oddities};
 use adr_http::Roles;
 use adr_machine::Role;
 use adr_network::Networks;

@@ -1,7 +1,5 @@
 //! What no clause says: which texts are read, and whether some addresses are in some networks.
-use crate::address::address_of;
-use crate::network::Network;
-use crate::networks::Networks;
+use adr_network::{Network, Networks, address_of};
 use adr_text::Rows;
 use std::net::IpAddr;
 use std::test::Fail;

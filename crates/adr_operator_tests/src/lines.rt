@@ -1,5 +1,5 @@
 //! What no clause says: which text a line has, and what is left out.
-use crate::{MOST_SHOWN, Shown, Writer};
+use adr_log::{MOST_SHOWN, Shown, Writer};
 use log::{Level, Log, Logged, info, warn};
 use std::alloc::AllocError;
 use std::fmt::Write;
