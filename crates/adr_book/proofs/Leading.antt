@@ -1,5 +1,5 @@
 -- A trail with one command more, and the run of the machine along a trail.
-use Rattle.std.proofs.Common.{◌≡◌, ◌≢◌, ℕ, ◌+◌, ◌<◌, length, drop, get_or, List, [], ◌∷◌, ◌++◌, map, None, Some, Result, Ok, Err, ap, refl, sym, subst, ◌∙◌}
+use Rattle.std.proofs.Common.{◌≡◌, ◌≢◌, ℕ, ◌+◌, ◌<◌, length, drop, get_or, List, [], ◌∷◌, ◌++◌, map, None, Some, Result, Ok, Err, ap, ap₂, refl, sym, subst, ◌∙◌}
 use Rattle.std.specs.List.{fold}
 use Rattle.std.proofs.lemmas.List.{append-nil, at_drop_more}
 use Rattle.std.proofs.lemmas.List.Sums.{fold_push}
@@ -14,10 +14,6 @@ use Rattle.adr_queries.specs.Listed.{IsListed}
 use Rattle.adr_machine.specs.declared.command.Command.{Command}
 use Rattle.adr_machine.specs.Runs.{IsTaken, IsRun, step_at}
 use Rattle.adr_book.specs.Trail.{left_by, after, led, answer_then, answers_along, LeadsTo}
-
--- a command and its moment, put behind a trail for which room was made
-pub one_more : (trail roomy pushed : List (ℕ × Command)) (now : ℕ) (c kept : Command) → roomy ≡ trail → kept ≡ c → pushed ≡ roomy ++ (now, kept) ∷ [] → pushed ≡ trail ++ (now, c) ∷ []
-one_more trail roomy pushed now c kept room copy is = is ∙ ap (λ cs. cs ++ (now, kept) ∷ []) room ∙ ap (λ d. trail ++ (now, d) ∷ []) copy
 
 pub led_more : (settings settings' : Settings) (base s t : State) (trail trail' : List (ℕ × Command)) (c : ℕ × Command) (a : Answer)
     → settings' ≡ settings → led settings base trail ≡ Some s → step_at settings s c ≡ Ok (a, t) → trail' ≡ trail ++ c ∷ []
@@ -64,6 +60,10 @@ answers_end settings s trail i c done within at none =
     let left = drop (i + 1) trail in
     let first = at_drop_more (answers_along settings s) trail i c within ∙ ap (λ (d : ℕ × Command). answers_along settings s (d ∷ left)) (sym at) in
     ap (λ (rest : List Answer). done ++ rest) (first ∙ untold (step_at settings s c) (λ t. answers_along settings t left) none) ∙ append-nil done
+
+-- a trail from the same base leads to the same
+pub led_moved : (settings : Settings) (base base' s : State) (trail trail' : List (ℕ × Command)) → base' ≡ base → trail' ≡ trail → led settings base trail ≡ Some s → led settings base' trail' ≡ Some s
+led_moved settings base base' s trail trail' same_base same leads = ap₂ (led settings) same_base same ∙ leads
 
 -- a desk that stayed is still where the trail leads
 pub led_same : (settings settings' : Settings) (base s t : State) (trail : List (ℕ × Command))

@@ -1,4 +1,3 @@
 pub mod Leading
 pub mod Listing
 pub mod Placed
-pub mod Weighing

@@ -50,5 +50,5 @@ module _ (P : Type 0) (these : List Refusal) (seen : ℕ) (e : Refusal) where
   by_tests false true is = let this : TrailFull ≡ e = cc is in subst (IsListed P (Stale seen ∷ TrailFull ∷ these)) this (1, omega arith, refl)
   by_tests false false is = absurd cc
 
-  pub entry_listed : (turn limit count : ℕ) → (not_ahead seen turn >>= λ _. with_room limit count turn) ≡ Err e → IsListed P (Stale seen ∷ TrailFull ∷ these) e
-  entry_listed turn limit count is = by_tests (nat_lt turn seen) (is_full_at limit count turn) is
+  pub entry_listed : (keeps : Bool) (turn limit count : ℕ) → (not_ahead seen turn >>= λ _. with_room keeps limit count turn) ≡ Err e → IsListed P (Stale seen ∷ TrailFull ∷ these) e
+  entry_listed keeps turn limit count is = by_tests (nat_lt turn seen) (is_full_at keeps limit count turn) is

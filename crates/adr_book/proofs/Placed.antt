@@ -103,3 +103,10 @@ module _ (settings settings' : Settings) (base s t : State) (since : ℕ) (trail
 
   pub step_confirms : (r : Receipt) → HasPlace since trail answers r → HasPlace since trail' (answers_along settings' base trail') r
   step_confirms r place = left r (place_stays since trail answers c a r place)
+
+-- a place by another base and turn that are the same
+pub place_moved : (settings : Settings) (base base' : State) (since since' : ℕ) (trail : List (ℕ × Command)) (r : Receipt)
+    → base' ≡ base → since' ≡ since → HasPlace since trail (answers_along settings base trail) r → HasPlace since' trail (answers_along settings base' trail) r
+place_moved settings base base' since since' trail r same_base same_since place =
+    subst (λ (n : ℕ). HasPlace n trail (answers_along settings base' trail) r) (sym same_since)
+    (subst (λ (b : State). HasPlace since trail (answers_along settings b trail) r) (sym same_base) place)

@@ -1,3 +1,4 @@
+pub mod Opened
 pub mod Trail
 pub mod Words
 pub mod Same

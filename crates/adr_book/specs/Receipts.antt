@@ -6,6 +6,7 @@ use Rattle.adr_queries.specs.declared.answer.Answer.{Answer}
 use Rattle.adr_machine.specs.declared.command.Command.{Command}
 use Rattle.adr_machine.specs.declared.desk.Desk.{Ghosts}
 use Rattle.adr_book.specs.declared.kept.Book.{Book}
+use Rattle.adr_book.specs.declared.trail.Trail as trail
 use Rattle.adr_book.specs.declared.kept.Receipt.{Receipt}
 use Rattle.adr_book.specs.declared.kept.AuditFault.{AuditFault}
 use Rattle.adr_book.specs.declared.kept.AuditFault.TheVariants.{Mismatch, Refused}
@@ -23,11 +24,11 @@ HasPlace since trail answers r =
     → (option_map (λ c. c.1) (slice_get trail (r.turn - since - 1)) ≡ Some r.command) × (slice_get answers (r.turn - since - 1) ≡ Some r.answer)
 
 -- the same by a book's trail and the machine's answers along it
-abbrev pub IsOf : {D L : Type 0} {g : Ghosts D} → Book D L g → Receipt → Type 0
+abbrev pub IsOf : {D T L : Type 0} {g : Ghosts D} {h : trail.Ghosts T D} → Book D T L g h → Receipt → Type 0
 IsOf book r = HasPlace (since_of book) (trail_of book) (answers_along (settings_of book) (base_of book) (trail_of book)) r
 
 -- each receipt of the book before is one of the book after
-abbrev pub Confirms : {D L : Type 0} {g : Ghosts D} → Book D L g → Book D L g → Type 0
+abbrev pub Confirms : {D T L : Type 0} {g : Ghosts D} {h : trail.Ghosts T D} → Book D T L g h → Book D T L g h → Type 0
 Confirms old new = (r : Receipt) → IsOf old r → IsOf new r
 
 -- of these receipts the first one without P is of that turn
@@ -36,6 +37,6 @@ IsFirstWithout P receipts turn =
     (i : ℕ) × (r : Receipt) × (slice_get receipts i ≡ Some r) × (r.turn ≡ turn) × ¬ (P r) × All P (take i receipts)
 
 -- why an audit of these receipts may fail: by the first receipt that is not of the book, or for want of memory
-abbrev pub AuditFails : {D L : Type 0} {g : Ghosts D} → Book D L g → List Receipt → AuditFault → Type 0
+abbrev pub AuditFails : {D T L : Type 0} {g : Ghosts D} {h : trail.Ghosts T D} → Book D T L g h → List Receipt → AuditFault → Type 0
 AuditFails book receipts (Mismatch turn) = IsFirstWithout (IsOf book) receipts turn
 AuditFails book receipts (Refused refusal) = refusal ≡ OutOfMemory

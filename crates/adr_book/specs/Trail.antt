@@ -1,5 +1,5 @@
 -- What a trail of accepted commands leads to, and what the machine answers along it.
-use Rattle.std.specs.Prelude.{ℕ, ◌+◌, List, [], ◌∷◌, map, sum_by, Option, None, Some, Result, Ok, Err}
+use Rattle.std.specs.Prelude.{ℕ, List, [], ◌∷◌, map, Option, None, Some, Result, Ok, Err}
 use Rattle.std.specs.List.{fold}
 use Rattle.adr_text.specs.declared.refusal.Refusal.{Refusal}
 use Rattle.adr_state.specs.declared.state.State.{State}
@@ -7,16 +7,10 @@ use Rattle.adr_state.specs.declared.limits.Settings.{Settings}
 use Rattle.adr_queries.specs.declared.answer.Answer.{Answer}
 use Rattle.adr_machine.specs.declared.command.Command.{Command}
 use Rattle.adr_machine.specs.Runs.{IsRun, step_at}
-use Rattle.adr_weight.specs.Commands.{command_weight}
-use Rattle.adr_book.specs.declared.kept.TheConstants.{PLACE}
 
 -- the last turn that a book can reach, 9·10^15
 abbrev pub most_turns : ℕ
 most_turns = 9_000_000_000_000_000
-
--- about how many bytes of memory a trail takes: its commands where they stand, and what stands behind each
-abbrev pub trail_weight : List (ℕ × Command) → ℕ
-trail_weight trail = sum_by (λ c. PLACE + command_weight c.1) trail
 
 -- the state that an accepted step leaves
 abbrev pub left_by : Result (Answer × State) Refusal → Option State

@@ -2,18 +2,17 @@
 ghost use Rattle.std.specs.Prelude.{◌≡◌, ◌+◌, ◌<◌, ◌≤◌, [], ◌∷◌, ◌++◌, Ok, IfOk, IfErr, OnOk, OnErr, length};
 ghost use Rattle.adr_text.specs.Refusals.{IsRefusalOf};
 ghost use Rattle.adr_queries.specs.Listed.{IsListed};
-ghost use Rattle.adr_machine.specs.Steps.{image_of};
 ghost use Rattle.adr_book.specs.Trail.{LeadsTo};
 ghost use Rattle.adr_book.specs.Words.{base_of, since_of, trail_of, turn_of, state_of, settings_of, IsSound, IsKept, seen_by, taken_by};
 ghost use Rattle.adr_book.specs.Same.{IsSame, IsUntouched};
 ghost use Rattle.adr_book.specs.Receipts.{receipt_of, IsOf, Confirms};
 ghost use Rattle.adr_book.specs.Refused.{MayRefuse, MayRefuseQuery};
-ghost use Rattle.adr_book.specs.Entry.{is_full, is_heavy, needs_room, entry_to_ask, entry_to_step, step_in, reply_in, EndsAfter};
+ghost use Rattle.adr_book.specs.Entry.{is_full, entry_to_ask, entry_to_step, step_in, reply_in, EndsAfter};
 
-use crate::kept::{Book, MOST_TURNS, PLACE, Pass, Receipt};
-use adr_machine::{Answer, Command, Desk, Image, Query, Settings};
+use crate::kept::{Book, MOST_TURNS, Pass, Receipt};
+use crate::trail::Trail;
+use adr_machine::{Answer, Command, Desk, Query, Settings};
 use adr_text::{Moment, Refusal};
-use adr_weight::Weigh;
 use std::alloc::Global;
 use std::sync::ledger::{Blank, Ledger, Share};
 
@@ -26,7 +25,7 @@ impl<L: Ledger> Pass<L> {
     }
 }
 
-impl<D: Desk, L: Ledger> Book<D, L> {
+impl<D: Desk, T: Trail<D>, L: Ledger> Book<D, T, L> {
     /// What a book keeps whenever nobody holds it.
     pub fn is_kept(&self)
         ensures { IsKept self.now }
@@ -37,27 +36,6 @@ impl<D: Desk, L: Ledger> Book<D, L> {
     pub fn is_replayed(&self)
         ensures { IsSound self.now → LeadsTo (settings_of self.now) (base_of self.now) (trail_of self.now) (state_of self.now) }
     {}
-
-    /// The image that the trail begins with.
-    pub fn base(&self) -> &Image
-        ensures { result.now ≡ base_of self.now }
-    {
-        &self.base
-    }
-
-    /// The turn of the base.
-    pub fn since(&self) -> u64
-        ensures { result ≡ since_of self.now }
-    {
-        self.since
-    }
-
-    /// The commands that were accepted since then, each with its moment.
-    pub fn trail(&self) -> &[(Moment, Command)]
-        ensures { result.now ≡ trail_of self.now }
-    {
-        &self.trail
-    }
 
     /// What the desk is set to.
     pub fn settings(&self) -> &Settings
@@ -78,22 +56,7 @@ impl<D: Desk, L: Ledger> Book<D, L> {
         ensures { result ≡ is_full self.now }
     {
         let limit = self.settings().limits.trail.get();
-        limit <= self.trail.len() as u64 || MOST_TURNS <= self.turn
-    }
-
-    /// Whether its trail takes more memory than so much, and than the base.
-    fn is_heavy(&self, most: u64) -> bool
-        ensures { result ≡ is_heavy most self.now }
-    {
-        most.max(self.base_weight) < self.weight
-    }
-
-    /// Whether room is to be made for one command more: the trail is full, or takes more memory than so much and than the
-    /// base, whose making so costs no more than the commands that led to it.
-    pub fn needs_room(&self, most: u64) -> bool
-        ensures { result ≡ needs_room most self.now }
-    {
-        self.is_full() || self.is_heavy(most)
+        self.trail.is_full(limit) || MOST_TURNS <= self.turn
     }
 
     /// Whether who comes with the pass may ask: nobody was told of a later turn than the book's.
@@ -117,7 +80,7 @@ impl<D: Desk, L: Ledger> Book<D, L> {
         Ok(())
     }
 
-    /// Takes one step, and answers it. An accepted command takes one turn. It is copied once, for the trail.
+    /// Takes one step, and answers it. An accepted command takes one turn, and is copied where the trail keeps it.
     pub fn take(
         &mut self,
         pass: &mut Pass<L>,
@@ -140,23 +103,15 @@ impl<D: Desk, L: Ledger> Book<D, L> {
         ensures was_sound { IsSound self.new → IsSound self.old }
     {
         self.admit_step(pass)?;
-        let kept = command.copy()?;
         let Book {
-            base: _,
-            since: _,
             trail,
-            weight,
-            base_weight: _,
             turn,
             desk,
             total,
         } = self;
-        trail.reserve(1)?;
+        let copy = trail.ready(command)?;
         let answer = desk.apply(now, command)?;
-        trail.push_reserved((now, kept));
-        *weight = weight
-            .saturating_add(PLACE)
-            .saturating_add(command.weight());
+        trail.note(now, command, copy);
         *turn += 1;
         pass.turn = *turn;
         total.add(&mut pass.share, 1);
@@ -232,39 +187,7 @@ impl<D: Desk, L: Ledger> Book<D, L> {
         Ok((self.turn, answer))
     }
 
-    /// Makes the present image the base. The trail is empty then, and the turn stays.
-    pub fn rebase(&mut self) -> Result<(), Refusal>
-        ensures base { OnOk result (IsSound self.new → base_of self.new ≡ state_of self.old) }
-        ensures trail { OnOk result (trail_of self.new ≡ []) }
-        ensures turn { OnOk result ((turn_of self.new ≡ turn_of self.old) × (since_of self.new ≡ turn_of self.old)) }
-        ensures state { IsSound self.new → state_of self.new ≡ state_of self.old }
-        ensures refused { IfErr result (λ refusal. IsSound self.new → IsRefusalOf refusal (image_of (state_of self.old))) }
-        ensures listed { IfErr result (IsListed D.may_refuse []) }
-        ensures unchanged { OnErr result (IsSame self.old self.new) }
-        ensures confirms { Confirms self.old self.new }
-        ensures same_settings { settings_of self.new ≡ settings_of self.old }
-        ensures was_sound { IsSound self.new → IsSound self.old }
-    {
-        let image = self.desk.image()?;
-        let Book {
-            base,
-            since,
-            trail,
-            weight,
-            base_weight,
-            turn,
-            desk: _,
-            total: _,
-        } = self;
-        *base_weight = image.weight();
-        *base = image;
-        trail.clear();
-        *weight = 0;
-        *since = *turn;
-        Ok(())
-    }
-
-    /// A book whose base is the desk's image, and one share with every part.
+    /// A book whose trail begins with the desk's state, and one share with every part.
     pub fn open(alloc: Global, blank: Blank, mut desk: D) -> Result<(Self, Share<L>), Refusal>
     where
         D: Drop,
@@ -278,15 +201,10 @@ impl<D: Desk, L: Ledger> Book<D, L> {
         ensures share { IfOk result (λ r. (r.1.parts ≡ L.parts) × (r.1.amount ≡ 0)) }
         ensures listed { IfErr result (IsListed D.may_refuse []) }
     {
-        let base = desk.image()?;
+        let trail = T::open(alloc, &mut desk)?;
         let (total, share) = blank.open::<L>();
-        let base_weight = base.weight();
         let book = Book {
-            base,
-            since: 0,
-            trail: Vec::new(alloc),
-            weight: 0,
-            base_weight,
+            trail,
             turn: 0,
             desk,
             total,

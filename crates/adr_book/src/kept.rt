@@ -1,16 +1,12 @@
 //! The book and the passes. Their methods stand in other files, whose clauses cite definitions over these types.
-ghost use Rattle.std.specs.Prelude.{◌≡◌, ◌+◌, ◌≤◌, Some, length};
-ghost use Rattle.adr_weight.specs.Sums.{capped};
-ghost use Rattle.adr_weight.specs.Bases.{state_weight};
-ghost use Rattle.adr_book.specs.Trail.{most_turns, led, trail_weight};
+ghost use Rattle.std.specs.Prelude.{◌≡◌, ◌+◌, ◌≤◌, IsTrue, Some, length};
+ghost use Rattle.adr_book.specs.Trail.{most_turns, led};
 
-use adr_machine::{Answer, Command, Desk, Image};
-use adr_text::{Moment, Refusal};
+use crate::trail::Trail;
+use adr_machine::{Answer, Command, Desk};
+use adr_text::Refusal;
 use std::sync::ledger;
 use std::sync::ledger::{Ledger, Share};
-
-/// How many bytes a command takes where it stands in a trail.
-pub const PLACE: u64 = size_of::<(Moment, Command)>() as u64;
 
 /// The last turn that a book can reach.
 pub const MOST_TURNS: u64 = 9_000_000_000_000_000;
@@ -31,25 +27,18 @@ pub struct Receipt {
     pub answer: Answer,
 }
 
-/// A desk, with the commands that it accepted since its base.
+/// A desk, with the trail of the commands that it accepted since a base.
 #[derive(Drop)]
-pub struct Book<D: Desk, L: Ledger> {
-    pub(crate) base: Image,
-    pub(crate) since: u64,
-    pub(crate) trail: Vec<(Moment, Command)>,
-    /// About how much memory the trail takes, and the base.
-    pub(crate) weight: u64,
-    pub(crate) base_weight: u64,
+pub struct Book<D: Desk, T: Trail<D>, L: Ledger> {
+    pub(crate) trail: T,
     pub(crate) turn: u64,
     pub(crate) desk: D,
     pub(crate) total: ledger::Book<L>,
-    ghost leads: { D.is_sound desk → led (D.settings desk) base trail.items ≡ Some (D.state desk) },
-    ghost weighs: { weight ≡ capped (trail_weight trail.items) },
-    ghost base_weighs: { base_weight ≡ capped (state_weight base) },
-    ghost turn_is: { turn ≡ since + length trail.items },
+    ghost leads: { D.is_sound desk → led (D.settings desk) (T.base trail) (T.commands trail) ≡ Some (D.state desk) },
+    ghost turn_is: { turn ≡ T.since trail + length (T.commands trail) },
     ghost total_is: { total.total ≡ turn },
     ghost most: { turn ≤ most_turns },
-    ghost within: { length trail.items ≤ (D.settings desk).limits.trail },
+    ghost within: { IsTrue T.keeps → length (T.commands trail) ≤ (D.settings desk).limits.trail },
 }
 
 /// Why an audit found no agreement.

@@ -4,7 +4,14 @@
 mod book;
 mod kept;
 mod office;
+mod rebase;
+mod recorded;
 pub mod replay;
+mod trail;
+mod unrecorded;
 
 pub use kept::{AuditFault, Book, MOST_TURNS, Pass, Receipt};
 pub use office::Office;
+pub use recorded::RecordedTrail;
+pub use trail::Trail;
+pub use unrecorded::UnrecordedTrail;

@@ -5,6 +5,7 @@ ghost use Rattle.adr_queries.specs.Listed.{IsListed};
 ghost use Rattle.adr_book.specs.Words.{seen_by, taken_by};
 
 use crate::kept::{Book, Pass};
+use crate::trail::Trail;
 use adr_machine::Desk;
 use adr_text::Refusal;
 use std::alloc::{AllocError, Global};
@@ -13,12 +14,12 @@ use std::sync::ledger::{Blank, Ledger, Share};
 
 /// A book that threads share.
 #[derive(Drop)]
-pub struct Office<D: Desk, L: Ledger> {
-    pub book: Mutex<Book<D, L>>,
+pub struct Office<D: Desk, T: Trail<D>, L: Ledger> {
+    pub book: Mutex<Book<D, T, L>>,
 }
 
-impl<D: Desk, L: Ledger> Office<D, L> {
-    /// An office whose base is the desk's image, and all its passes.
+impl<D: Desk, T: Trail<D>, L: Ledger> Office<D, T, L> {
+    /// An office whose trail begins with the desk's state, and all its passes.
     pub fn open(
         alloc: Global,
         blank: Blank,

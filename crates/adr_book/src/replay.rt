@@ -7,6 +7,7 @@ ghost use Rattle.adr_book.specs.Same.{IsUntouched};
 ghost use Rattle.adr_book.specs.Receipts.{HasPlace, IsFirstWithout, IsOf, AuditFails};
 
 use crate::kept::{AuditFault, Book, Receipt};
+use crate::recorded::RecordedTrail;
 use adr_machine::{Answer, Command, Desk, Image, PlainDesk, Settings};
 use adr_same::Same;
 use adr_text::{Moment, Refusal};
@@ -99,7 +100,7 @@ fn first_misplaced(
     None
 }
 
-impl<D: Desk, L: Ledger> Book<D, L> {
+impl<D: Desk, L: Ledger> Book<D, RecordedTrail, L> {
     /// Whether each receipt past the base has its command in the trail at its turn, and the machine's answer there.
     pub fn audit(&mut self, alloc: Global, receipts: &[Receipt]) -> Result<(), AuditFault>
         ensures ok { OnOk result (All (IsOf self.old) receipts.now) }
@@ -107,10 +108,11 @@ impl<D: Desk, L: Ledger> Book<D, L> {
         ensures unchanged { IsUntouched self.old self.new }
     {
         let settings = self.desk.settings();
-        let Ok(answers) = replay(alloc, settings, &self.base, &self.trail) else {
+        let trail = &self.trail;
+        let Ok(answers) = replay(alloc, settings, &trail.base, &trail.commands) else {
             return Err(AuditFault::Refused(Refusal::OutOfMemory));
         };
-        match first_misplaced(self.since, &self.trail, &answers, receipts) {
+        match first_misplaced(trail.since, &trail.commands, &answers, receipts) {
             Some(turn) => Err(AuditFault::Mismatch(turn)),
             None => Ok(()),
         }

@@ -7,6 +7,8 @@ mod counted;
 #[cfg(test)]
 mod desks;
 #[cfg(test)]
+mod inspected;
+#[cfg(test)]
 mod machine;
 #[cfg(test)]
 mod objects;

@@ -12,7 +12,6 @@ use Rattle.adr_text.specs.declared.fault.Fault.{Fault}
 use Rattle.adr_state.specs.declared.limits.Limits.{Limits}
 use Rattle.adr_state.specs.declared.limits.Settings.{Settings}
 use Rattle.adr_state.specs.Limits.{largest}
-use Rattle.adr_queries.specs.declared.role.Role.{Role}
 use Rattle.adr_network.specs.declared.network.Network.{Network}
 use Rattle.adr_link.specs.Upstreams.{UpstreamParts, upstream_of}
 use Rattle.adr_config.specs.declared.config.Config.{Config}
@@ -20,6 +19,9 @@ use Rattle.adr_config.specs.Callbacks.{CallsBack}
 use Rattle.adr_config.specs.Grants.{limits_in, roles_in}
 use Rattle.adr_config.specs.Levels.{log_in}
 use Rattle.adr_config.specs.Members.{limit_in}
+use Rattle.adr_config.specs.Deletions.{deletion_read}
+use Rattle.adr_config.specs.declared.deletion.MassDeletion.{MassDeletion}
+use Rattle.adr_config.specs.declared.deletion.MassDeletion.TheVariants.{Confirm}
 
 -- the utility's address, and the token that it is shown
 unfoldable pub upstream_in : Data → Result UpstreamParts Fault
@@ -40,13 +42,13 @@ settings_in d = do
   limits ← optional (member_of (codes "limits") d) limits_in
   Ok (record { client = client; limits = limits_or_largest limits })
 
--- who may ask, after how many connections it stops, and how much is told
-unfoldable pub serving_in : Data → Result (List (List ℕ × Role) × Option ℕ × LevelFilter) Fault
-serving_in d = do
-  roles ← required (member_of (codes "tokens") d) roles_in
+-- after how many connections it stops, what it does of many deletions, and how much is told
+unfoldable pub ending_in : Data → Result (Option ℕ × MassDeletion × LevelFilter) Fault
+ending_in d = do
   stop_after ← optional (member_of (codes "stopAfter") d) (limit_in 4_294_967_295)
+  deletion ← optional (member_of (codes "massDeletion") d) deletion_read
   log ← optional (member_of (codes "log") d) log_in
-  Ok (roles, stop_after, unwrap_or log Off)
+  Ok (stop_after, unwrap_or deletion Confirm, unwrap_or log Off)
 
 -- what is said by a configuration that listens there and lets addresses in those networks be called
 unfoldable pub config_at : SocketAddr → Option (List Network) → Data → Result Config Fault
@@ -56,8 +58,9 @@ config_at listen callbacks d = do
   poll ← required (member_of (codes "poll") d) (limit_in 3_600)
   workers ← required (member_of (codes "workers") d) (limit_in 16)
   store ← optional (member_of (codes "store") d) text_of
-  serving ← serving_in d
-  Ok (record { listen = listen; upstream = upstream; callbacks = callbacks; settings = settings; store = store; poll = poll; workers = workers; roles = serving.0; stop_after = serving.1; log = serving.2 })
+  roles ← required (member_of (codes "tokens") d) roles_in
+  ending ← ending_in d
+  Ok (record { listen = listen; upstream = upstream; callbacks = callbacks; settings = settings; store = store; poll = poll; mass_deletion = ending.1; workers = workers; roles = roles; stop_after = ending.0; log = ending.2 })
 
 -- an address and a port are where it listens
 abbrev pub Listens : Data → SocketAddr → Type 0

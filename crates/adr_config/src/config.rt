@@ -1,4 +1,5 @@
 //! What a node that serves is set to.
+use crate::deletion::MassDeletion;
 use adr_http::Roles;
 use adr_link::Upstream;
 use adr_network::Networks;
@@ -20,8 +21,10 @@ pub struct Config {
     pub settings: Settings,
     /// The file in which it keeps what it has to keep, or none, where it keeps all in memory.
     pub store: Option<FreeText>,
-    /// How many seconds lie between two rounds in which the utility is asked.
+    /// How many seconds lie between two rounds in which the utility is asked, at most: behind one that broke off fewer.
     pub poll: Limit<3_600>,
+    /// Whether a round that finds most objects on no page asks for each of them, or only the next one like it.
+    pub mass_deletion: MassDeletion,
     /// How many connections are served at once, and how many senders there are.
     pub workers: Limit<16>,
     /// Who may ask, by which token.

@@ -11,10 +11,10 @@ use thiserror::Error;
 pub enum ConfigFault {
     #[error("out of memory")]
     OutOfMemory,
-    /// They are no JSON, or no object.
+    /// They are JSON, and no object.
     #[error("not a JSON object")]
     NoObject,
-    /// The first member that is wrong, in the order in which members are read.
+    /// The first member that is wrong, in the order in which members are read; or where they are no JSON.
     #[error(transparent)]
     Wrong(Wrong),
 }

@@ -3,6 +3,7 @@
 
 mod callbacks;
 mod config;
+mod deletion;
 mod fault;
 mod grants;
 mod level;
@@ -15,6 +16,7 @@ mod texts;
 mod wrong;
 
 pub use config::Config;
+pub use deletion::MassDeletion;
 pub use fault::ConfigFault;
 pub use level::log_of;
 pub use oddity::{Oddity, oddities};

@@ -20,6 +20,8 @@ enum What {
     NotKnown(Option<Place>, String),
     /// An id there that no ven ever has.
     NoVen(Place),
+    /// A limit of the trail, which a node that serves doesn't keep.
+    Trail,
 }
 
 impl fmt::Display for Oddity {
@@ -28,12 +30,13 @@ impl fmt::Display for Oddity {
             What::NotKnown(None, name) => write!(f, "{name}: not a known member"),
             What::NotKnown(Some(place), name) => write!(f, "{place}.{name}: not a known member"),
             What::NoVen(place) => write!(f, "{place}: no ven has such an id"),
+            What::Trail => f.write_str("limits.trail: has no effect in a node that serves"),
         }
     }
 }
 
 /// The names of members of a configuration. `$schema` is for editors.
-const MEMBERS: [&str; 13] = [
+const MEMBERS: [&str; 14] = [
     "$schema",
     "listen",
     "upstream",
@@ -46,6 +49,7 @@ const MEMBERS: [&str; 13] = [
     "tokens",
     "limits",
     "stopAfter",
+    "massDeletion",
     "log",
 ];
 
@@ -134,19 +138,29 @@ fn find_in_tokens(alloc: Global, value: &Value, found: &mut Vec<Oddity>) -> Resu
     Ok(())
 }
 
+/// Puts what has no effect in `limits` behind the others.
+fn find_in_limits(alloc: Global, value: &Value, found: &mut Vec<Oddity>) -> Result<(), AllocError> {
+    let Some(limits) = member(value, "limits") else {
+        return Ok(());
+    };
+    find_unknown(alloc, limits, Some(Place::Limits), &NAMES, found)?;
+    if member(limits, "trail").is_some() {
+        found.push(Oddity { what: What::Trail })?;
+    }
+    Ok(())
+}
+
 /// What has no effect in a value.
 fn oddities_in(alloc: Global, value: &Value) -> Result<Vec<Oddity>, AllocError> {
     let mut found = Vec::new(alloc);
     find_unknown(alloc, value, None, &MEMBERS, &mut found)?;
-    if let Some(limits) = member(value, "limits") {
-        find_unknown(alloc, limits, Some(Place::Limits), &NAMES, &mut found)?;
-    }
+    find_in_limits(alloc, value, &mut found)?;
     find_in_tokens(alloc, value, &mut found)?;
     Ok(found)
 }
 
 /// What the bytes of a file say that has no effect: members of names that aren't known, at the top, in `limits` and in
-/// the items of `tokens`, and ids that no ven ever has. None are found in what is no JSON object.
+/// the items of `tokens`, ids that no ven ever has, and a limit of the trail. None are found in what is no JSON object.
 pub fn oddities(alloc: Global, bytes: &[u8]) -> Result<Vec<Oddity>, AllocError> {
     match read_value(alloc, bytes) {
         Ok(value) => oddities_in(alloc, &value),

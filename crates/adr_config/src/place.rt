@@ -5,6 +5,8 @@ use std::fmt;
 /// Where a value of a configuration stands. Items are counted from 0.
 #[derive(Clone, Copy, Debug)]
 pub(crate) enum Place {
+    /// A line and a column of the text, lines counted from 1, columns in bytes.
+    Text(usize, usize),
     Listen,
     Upstream,
     UpstreamToken,
@@ -28,6 +30,7 @@ pub(crate) enum Place {
     /// Its id of a ven.
     VenId(usize),
     StopAfter,
+    MassDeletion,
     Log,
 }
 
@@ -35,6 +38,7 @@ pub(crate) enum Place {
 impl fmt::Display for Place {
     fn fmt<W: fmt::Write>(&self, f: &mut fmt::Formatter<W>) -> fmt::Result {
         match self {
+            Place::Text(line, column) => write!(f, "line {line}, column {column}"),
             Place::Listen => write!(f, "listen"),
             Place::Upstream => write!(f, "upstream"),
             Place::UpstreamToken => write!(f, "upstreamToken"),
@@ -55,6 +59,7 @@ impl fmt::Display for Place {
             Place::Role(i) => write!(f, "tokens[{i}].role"),
             Place::VenId(i) => write!(f, "tokens[{i}].venID"),
             Place::StopAfter => write!(f, "stopAfter"),
+            Place::MassDeletion => write!(f, "massDeletion"),
             Place::Log => write!(f, "log"),
         }
     }

@@ -7,11 +7,12 @@ ghost use Rattle.adr_config.specs.Callbacks.{FindsNone};
 ghost use Rattle.adr_config.specs.Members.{limit_in};
 ghost use Rattle.adr_config.specs.Grants.{roles_in};
 ghost use Rattle.adr_config.specs.declared.config.Config.{Config as Configuration};
-ghost use Rattle.adr_config.specs.Configs.{upstream_in, settings_in, serving_in, config_at, Listens, SaysAt, Says, IsConfig};
+ghost use Rattle.adr_config.specs.Configs.{upstream_in, settings_in, ending_in, config_at, Listens, SaysAt, Says, IsConfig};
 ghost use Rattle.adr_config.specs.Tellings.{Tells};
 
 use crate::callbacks::callbacks;
 use crate::config::Config;
+use crate::deletion::{MassDeletion, deletion_said};
 use crate::fault::ConfigFault;
 use crate::grants::roles;
 use crate::level::level_said;
@@ -91,18 +92,17 @@ fn stop_after(value: &Value) -> Result<Option<Limit<4_294_967_295>>, ConfigFault
     }
 }
 
-/// Who may ask, after how many connections it stops, and how much is told.
-#[tactic(auto, unfolding(crate::specs::Configs::serving_in))]
-fn serving(
-    alloc: Global,
+/// After how many connections it stops, what it does of many deletions, and how much is told.
+#[tactic(auto, unfolding(crate::specs::Configs::ending_in))]
+fn ending(
     value: &Value,
-) -> Result<(Roles, Option<Limit<4_294_967_295>>, LevelFilter), ConfigFault>
-    ensures { Tells (λ s. (s.0, s.1, s.2)) result (serving_in (view value.now)) }
+) -> Result<(Option<Limit<4_294_967_295>>, MassDeletion, LevelFilter), ConfigFault>
+    ensures { Tells (λ s. (s.0, s.1, s.2)) result (ending_in (view value.now)) }
 {
-    let roles = tokens(alloc, value)?;
     let stop_after = stop_after(value)?;
+    let deletion = deletion_said(value)?.unwrap_or(MassDeletion::Confirm);
     let log = level_said(value)?.unwrap_or(LevelFilter::Off);
-    Ok((roles, stop_after, log))
+    Ok((stop_after, deletion, log))
 }
 
 /// The configuration of a node that listens there, and lets addresses in those networks be called.
@@ -120,7 +120,8 @@ fn config_at(
     let poll = needed_limit(value, "poll", Place::Poll)?;
     let workers = needed_limit(value, "workers", Place::Workers)?;
     let store = maybe_text(alloc, value, "store", Place::Store, Why::NoText)?;
-    let (roles, stop_after, log) = serving(alloc, value)?;
+    let roles = tokens(alloc, value)?;
+    let (stop_after, mass_deletion, log) = ending(value)?;
     Ok(Config {
         listen,
         upstream,
@@ -128,6 +129,7 @@ fn config_at(
         settings,
         store,
         poll,
+        mass_deletion,
         workers,
         roles,
         stop_after,
@@ -182,6 +184,18 @@ fn config_in(alloc: Global, value: &Value) -> Result<Config, ConfigFault>
     config(alloc, value)
 }
 
+/// Where bytes that are no JSON stop to be some.
+fn no_json(alloc: Global, bytes: &[u8]) -> ConfigFault {
+    match Value::from_slice(alloc, bytes) {
+        Err(slip) if slip.is_memory() => ConfigFault::OutOfMemory,
+        Err(slip) => {
+            let place = Place::Text(slip.line(), slip.column());
+            ConfigFault::Wrong(place.wrong(Why::NoJson))
+        }
+        Ok(_) => ConfigFault::NoObject,
+    }
+}
+
 impl Config {
     /// The configuration that the bytes of a file are, or what is wrong in them.
     #[tactic(auto, using(crate::proofs::Listening::no_value))]
@@ -192,7 +206,7 @@ impl Config {
         match read_value(alloc, bytes) {
             Ok(value) => config_in(alloc, &value),
             Err(Fault::OutOfMemory) => Err(ConfigFault::OutOfMemory),
-            Err(_) => Err(ConfigFault::NoObject),
+            Err(_) => Err(no_json(alloc, bytes)),
         }
     }
 

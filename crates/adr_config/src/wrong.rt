@@ -10,6 +10,8 @@ use thiserror::Error;
 /// Why a member is wrong.
 #[derive(Clone, Copy, Debug, Error)]
 pub(crate) enum Why {
+    #[error("not JSON")]
+    NoJson,
     #[error("missing")]
     Missing,
     #[error("not a text")]
@@ -41,6 +43,8 @@ pub(crate) enum Why {
     OfNoVen,
     #[error("not off, error, warn, info or debug")]
     NoLevel,
+    #[error("not confirm or at once")]
+    NoDeletion,
 }
 
 /// A member that is wrong, told by where it stands and why. No text of the file is told, least of all a token.

@@ -1,11 +1,11 @@
 -- A table that is one of the maps that are kept, and what the calls on it leave and find.
-use Rattle.std.proofs.Common.{◌≡◌, inl, inr, ℕ, true, List, [], ◌∷◌, map, take, Option, None, Some, Ok, Err, Result, IfOk, refl, ap, ap₂, subst, ◌∙◌, Less}
+use Rattle.std.proofs.Common.{◌≡◌, inl, inr, ℕ, true, List, [], ◌∷◌, map, take, Option, None, Some, Result, refl, ap₂, subst, Less}
 use Rattle.std.specs.Prelude.{option_to_list}
 use Rattle.adr_db.proofs.Common.{AllZip, is_at, insert_entry, Row, IsAscending, Has, end, Ghosts, Held, state, State, at, map_of, rows_of_table, with_table, Holds, Runs, are_full, AreValues, IsUpsertText, IsRemoveText, IsSelectText, whole_rows, equalities}
 use Rattle.std.specs.Map.{remove_entry}
 use Rattle.adr_sql.specs.Codecs.{entry_at}
 use Rattle.adr_sql.proofs.References.{is_childless}
-use Rattle.adr_sql.proofs.KeyedMaps.{KeyedMap, key_width, entries_rise, entries_again, upsert_entry_runs, clear_runs, remove_entry_runs, read_entry_runs, read_all_runs}
+use Rattle.adr_sql.proofs.KeyedMaps.{KeyedMap, key_width, entries_rise, entries_again, upsert_entry_runs, clear_runs, remove_entry_runs, read_entry_runs}
 use Rattle.adr_db.specs.Tables.{schema}
 use Rattle.adr_db.specs.Kept.{Kept, Keeps, AreMarks, AreSubs, contents_of}
 use Rattle.adr_db.specs.Calls.{LeavesKept, Finds, Shows}
@@ -29,15 +29,14 @@ pub record KeptMap (K V : Type 0) : Type 0 where
 abbrev pub AreTexts : Kept → Type 0
 AreTexts kept = AreMarks kept.mirror × AreSubs kept.portfolio.subs
 
--- what `refl` finds of the texts on a table that put, remove and read an entry and read all of them, and of its values
-pub record HasTextsOn {K V : Type 0} (m : KeyedMap schema K V) (put remove one all : List ℕ) : Type 0 where
+-- what `refl` finds of the texts on a table that put, remove and read an entry, and of its values
+pub record HasTextsOn {K V : Type 0} (m : KeyedMap schema K V) (put remove one : List ℕ) : Type 0 where
   pub puts : (e : K × V) → IsUpsertText schema m.at m.table put (m.row_of e) (m.row_of e)
   pub fit : (e : K × V) → AreValues m.table (m.row_of e)
   pub removes : IsRemoveText schema m.at m.table end (equalities 0 (key_width m)) remove
   pub reads_one : IsSelectText schema m.table (whole_rows (key_width m) m.table) end one
-  pub reads_all : IsSelectText schema m.table (whole_rows 0 m.table) end all
 
-abbrev pub HasTexts : {K V : Type 0} → KeptMap K V → List ℕ → List ℕ → List ℕ → List ℕ → Type 0
+abbrev pub HasTexts : {K V : Type 0} → KeptMap K V → List ℕ → List ℕ → List ℕ → Type 0
 HasTexts m = HasTextsOn m.rows
 
 -- rows are read as what they stand for, where each is
@@ -59,13 +58,6 @@ module _ {K V : Type 0} (m : StoredMap K V) where
     stored_again = entries_again m.rows (contents_of kept) (m.entries kept) (m.stored kept) s was.rows
 
   module _ {S E : Type 0} (g : Ghosts S) (old new : Held S) (sql : List ℕ) where
-    -- all rows are read
-    pub stored_all_find : {T : Type 0} (Reads : Row → T → Type 0) (IsRight : Kept → List T → Type 0) (r : Result (List T) E) → IsSelectText schema m.rows.table (whole_rows 0 m.rows.table) end sql
-        → ((ts : List T) (kept : Kept) → AreTexts kept → AllZip Reads (map m.rows.row_of (m.entries kept)) ts → IsRight kept ts) → Shows g old new sql [] (AllZip Reads) r → Finds g old new IsRight r
-    stored_all_find Reads IsRight r text right =
-        shown_finds g old new sql [] (AllZip Reads) IsRight r text.alone (λ ts rows kept shown was read.
-        right ts kept (was.marks, was.subs) (subst (λ rows. AllZip Reads rows ts) (read_all_runs m.rows (contents_of kept) (m.entries kept) (m.stored kept) sql [] (state g old) (state g new) text rows shown was.rows) read))
-
     -- the row of a key is read, where there is one
     pub stored_one_finds : {T : Type 0} (Reads : Row → T → Type 0) (IsRight : Option T → Option V → Type 0) (k : K) (r : Result (Option T) E) → are_full 0 (key_width m.rows) (m.rows.key_of k) ≡ true
         → IsSelectText schema m.rows.table (whole_rows (key_width m.rows) m.rows.table) end sql → IsRight None None → ((t : T) (v : V) → Reads (m.rows.row_of (k, v)) t → IsRight (Some t) (Some v))
@@ -80,16 +72,6 @@ module _ {K V : Type 0} (m : StoredMap K V) where
         by None (Some t) read = absurd read
         by (Some v) None read = absurd read
         by (Some v) (Some t) read = some t v read.0
-
-    -- entries that are read back make the map again
-    pub stored_map_finds : (Reads : Row → K × V → Type 0) (es : List (K × V)) (r : Result (List (K × V)) E) → IsSelectText schema m.rows.table (whole_rows 0 m.rows.table) end sql
-        → ((kept : Kept) → AreTexts kept → (d e : K × V) → Has (m.entries kept) e → Reads (m.rows.row_of e) d → d ≡ e) → Shows g old new {E = E} sql [] (AllZip Reads) (Ok es) → IfOk r (λ table. table ≡ map_of m.rows.cmp es)
-        → Finds g old new (λ kept table. table ≡ m.entries kept) r
-    stored_map_finds Reads es r text back shows = by r (stored_all_find Reads (λ kept es. es ≡ m.entries kept) (Ok es) text (λ es kept are. read_back Reads m.rows.row_of es (m.entries kept) (back kept are)) shows)
-      where
-        by : (r : Result (List (K × V)) E) → Finds g old new {E = E} (λ kept es. es ≡ m.entries kept) (Ok es) → IfOk r (λ table. table ≡ map_of m.rows.cmp es) → Finds g old new (λ kept table. table ≡ m.entries kept) r
-        by (Ok table) found is clean = λ kept was. let both = found clean kept was in (is ∙ ap (map_of m.rows.cmp) both.0 ∙ stored_again kept (state g old) was, both.1)
-        by (Err e) found is clean = tt
 
 -- ---- so of a table on which no other follows, and what is written there
 
@@ -134,16 +116,7 @@ module _ {K V : Type 0} (m : KeptMap K V) where
         run_leaves g old new sql [] (m.with_entries []) r (λ count h kept was.
         keeps [] kept (state g new) (texts kept (was.marks, was.subs)) (clear_runs m.rows (contents_of kept) (m.entries kept) (m.stored kept) sql [] (state g old) (state g new) childless text count h was.rows))
 
-    pub all_find : {T : Type 0} (Reads : Row → T → Type 0) (IsRight : Kept → List T → Type 0) (r : Result (List T) E) → IsSelectText schema m.rows.table (whole_rows 0 m.rows.table) end sql
-        → ((ts : List T) (kept : Kept) → AreTexts kept → AllZip Reads (map m.rows.row_of (m.entries kept)) ts → IsRight kept ts) → Shows g old new sql [] (AllZip Reads) r → Finds g old new IsRight r
-    all_find = stored_all_find stored_map g old new sql
-
     pub one_finds : {T : Type 0} (Reads : Row → T → Type 0) (IsRight : Option T → Option V → Type 0) (k : K) (r : Result (Option T) E) → are_full 0 (key_width m.rows) (m.rows.key_of k) ≡ true
         → IsSelectText schema m.rows.table (whole_rows (key_width m.rows) m.rows.table) end sql → IsRight None None → ((t : T) (v : V) → Reads (m.rows.row_of (k, v)) t → IsRight (Some t) (Some v))
         → Shows g old new sql (m.rows.key_of k) (λ rows found. AllZip Reads (take 1 rows) (option_to_list found)) r → Finds g old new (λ kept found. IsRight found (at m.rows.cmp k (m.entries kept))) r
     one_finds = stored_one_finds stored_map g old new sql
-
-    pub map_finds : (Reads : Row → K × V → Type 0) (es : List (K × V)) (r : Result (List (K × V)) E) → IsSelectText schema m.rows.table (whole_rows 0 m.rows.table) end sql
-        → ((kept : Kept) → AreTexts kept → (d e : K × V) → Has (m.entries kept) e → Reads (m.rows.row_of e) d → d ≡ e) → Shows g old new {E = E} sql [] (AllZip Reads) (Ok es) → IfOk r (λ table. table ≡ map_of m.rows.cmp es)
-        → Finds g old new (λ kept table. table ≡ m.entries kept) r
-    map_finds = stored_map_finds stored_map g old new sql

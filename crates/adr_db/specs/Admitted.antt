@@ -1,7 +1,6 @@
 -- What the types of what is kept admit, and how a row reads.
 use Rattle.std.specs.Prelude.{◌≡◌, ◌≤◌, ⊤, length, ◌<◌, ◌^◌, ℕ, ℤ, List, Option, string_bytes, IsUtf8, IsTrue, IfSome, FitsSigned, Ok}
 use Rattle.std.specs.Int.{w32}
-use Rattle.std.specs.List.{AllByRecursion}
 use Rattle.sqlite.specs.Order.{Row, column}
 use Rattle.sqlite.specs.Values.{or_null}
 use Rattle.sqlite.specs.declared.types.Value.{Value}
@@ -136,9 +135,6 @@ IsUsage usage = IsTrue (is_setpoint usage)
 abbrev pub IsUsageInterval : UsageInterval → Type 0
 IsUsageInterval interval = FitsSigned w32 interval.id × IfSome interval.usage IsUsage
 
-abbrev pub IsReportEntry : ℕ × ReportColumns → Type 0
-IsReportEntry e = IsNumber e.0 × AreReportColumns e.1
-
 -- of a subscription, its stamps: its body reads of a text
 abbrev pub IsKeptSub : Sub → Type 0
 IsKeptSub sub = AreStamps sub.stamps
@@ -172,14 +168,6 @@ IsShareWeight weight = IsTrue (is_weight weight)
 abbrev pub IsEntry : MirrorKey × Mark → Type 0
 IsEntry e = IsKey e.0 × ⊤
 
--- a ven behind its number
-abbrev pub IsVenEntry : ℕ × Ven → Type 0
-IsVenEntry e = IsNumber e.0 × IsVen e.1
-
--- a resource behind its number
-abbrev pub IsResourceEntry : ℕ × Resource → Type 0
-IsResourceEntry e = IsNumber e.0 × IsResource e.1
-
 -- a subscription behind its number
 abbrev pub IsSubEntry : ℕ × Sub → Type 0
 IsSubEntry e = IsNumber e.0 × IsKeptSub e.1
@@ -187,14 +175,6 @@ IsSubEntry e = IsNumber e.0 × IsKeptSub e.1
 -- an entry that waits behind its number
 abbrev pub IsWaitingEntry : ℕ × Entry → Type 0
 IsWaitingEntry e = IsNumber e.0 × IsWaiting e.1
-
--- resources behind their numbers: a node has 10,000 of them at most
-abbrev pub AreResources : List (ℕ × Resource) → Type 0
-AreResources es = (length es ≤ 10_000) × AllByRecursion IsResourceEntry es
-
--- a share: its program is an object id, and its weight is from 1 to 1,000,000
-abbrev pub IsShare : ShareKey × ℕ → Type 0
-IsShare e = IsShareKey e.0 × IsShareWeight e.1
 
 -- a frozen share: its event is an object id, and its weight is from 1 to 1,000,000
 abbrev pub IsFrozenShare : FrozenKey × ℕ → Type 0

@@ -19,7 +19,7 @@ mod version;
 
 pub use known::MarkColumns;
 pub use meta::{Meta, put_meta, read_meta};
-pub use migration::{create_later, create_v1, migrate, say_today, upgrade};
+pub use migration::{create_v1, migrate, upgrade};
 pub use outbox::RemoteRow;
 pub use report_columns::ReportColumns;
 pub use schema::create;

@@ -61,8 +61,8 @@ pub fn create_v1<S: Alter>(tx: &mut Transaction<'_, S>) -> Result<(), Refusal>
     }
 }
 
-/// Makes the tables that version 1 had not, behind those that it had: the first half of `migrate`.
-pub fn create_later<S: Alter>(tx: &mut Transaction<'_, S>) -> Result<(), Refusal>
+// Makes the tables that version 1 had not, behind those that it had: the first half of `migrate`.
+fn create_later<S: Alter>(tx: &mut Transaction<'_, S>) -> Result<(), Refusal>
     ensures lent { LeavesLent S.Store tx.old.conn tx.new.conn result }
     ensures made { HasCleanDisk (state S.Store tx.new.conn.now) → OnOk result ((all : Contents) → Holds first_schema all (state S.Store tx.old.conn.now) → Holds schema (all ++ [] ∷ [] ∷ []) (state S.Store tx.new.conn.now)) }
     ensures refused { IfErr result IsOfStore }
@@ -87,8 +87,8 @@ fn read_first<S: Alter>(tx: &mut Transaction<'_, S>) -> Result<Meta, Refusal>
     }
 }
 
-/// The numbers of the node are put again, behind the version of today: the second half of `migrate`.
-pub fn say_today<S: Alter>(tx: &mut Transaction<'_, S>) -> Result<(), Refusal>
+// The numbers of the node are put again, behind the version of today: the second half of `migrate`.
+fn say_today<S: Alter>(tx: &mut Transaction<'_, S>) -> Result<(), Refusal>
     ensures lent { LeavesLent S.Store tx.old.conn tx.new.conn result }
     ensures said { HasCleanDisk (state S.Store tx.new.conn.now) → OnOk result ((said : Meta) (all : Contents) → Holds schema all (state S.Store tx.old.conn.now) → rows_of_table all 0 ≡ first_row said ∷ [] → Holds schema (with_table all 0 (meta_row said ∷ [])) (state S.Store tx.new.conn.now)) }
     ensures refused { IfErr result IsOfStore }

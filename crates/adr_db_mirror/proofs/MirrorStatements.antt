@@ -2,7 +2,7 @@
 use Rattle.std.proofs.Common.{ℕ, List, [], ◌∷◌, Option, None, Some, codes, refl}
 use Rattle.sqlite.specs.Values.{or_null}
 use Rattle.adr_db.proofs.Common.{Null, Text, Row, lit, col, end, understood, everything, AreValues, IsUpsertText, IsSelectText, first_columns, is_text, whole_rows}
-use Rattle.adr_db_mirror.specs.declared.mirror.TheConstants.{PUT, READ_ONE, READ_OF, READ_ALL}
+use Rattle.adr_db_mirror.specs.declared.mirror.TheConstants.{PUT, READ_ONE, READ_OF}
 use Rattle.adr_db.specs.Tables.{schema}
 use Rattle.adr_db.specs.Rows.{number}
 use Rattle.adr_db.proofs.Tables.{mirror}
@@ -32,7 +32,3 @@ reads_one = record { names = columns; command = refl; alone = (refl, refl); unli
 pub reads_of : IsSelectText schema mirror (first_columns 6 (is_text 0) mirror) end READ_OF.now
 unfolding understood everything
 reads_of = record { names = columns; command = refl; alone = (refl, refl); unlisted = refl; from = refl; order = refl; ungrouped = refl; undistinct = refl; joins = refl; sorts = refl; shows = refl }
-
-pub reads_all : IsSelectText schema mirror (whole_rows 0 mirror) end READ_ALL.now
-unfolding understood everything
-reads_all = record { names = columns; command = refl; alone = (refl, refl); unlisted = refl; from = refl; order = refl; ungrouped = refl; undistinct = refl; joins = refl; sorts = refl; shows = refl }

@@ -1,7 +1,7 @@
 -- The statements on the table `polled`.
-use Rattle.std.proofs.Common.{[], ◌∷◌, codes, refl}
-use Rattle.adr_db.proofs.Common.{Null, lit, col, end, understood, everything, MirrorKey, AreValues, IsUpsertText, IsRemoveText, IsSelectText, whole_rows}
-use Rattle.adr_db_mirror.specs.declared.polled.TheConstants.{PUT, CLEAR, READ_ALL}
+use Rattle.std.proofs.Common.{[], ◌∷◌, refl}
+use Rattle.adr_db.proofs.Common.{Null, lit, col, end, understood, everything, MirrorKey, AreValues, IsUpsertText, IsRemoveText}
+use Rattle.adr_db_mirror.specs.declared.polled.TheConstants.{PUT, CLEAR}
 use Rattle.adr_db.specs.Tables.{schema}
 use Rattle.adr_db.specs.Rows.{key_row}
 use Rattle.adr_db.proofs.Tables.{polled}
@@ -17,7 +17,3 @@ values key = record { fits = refl; full = refl; width = refl }
 pub clears : IsRemoveText schema polled_map.rows.at polled end [] CLEAR.now
 unfolding understood everything
 clears = record { command = refl; alone = (refl, refl); flat = refl; joins = refl }
-
-pub reads : IsSelectText schema polled (whole_rows 0 polled) end READ_ALL.now
-unfolding understood everything
-reads = record { names = codes "kind" ∷ codes "id" ∷ []; command = refl; alone = (refl, refl); unlisted = refl; from = refl; order = refl; ungrouped = refl; undistinct = refl; joins = refl; sorts = refl; shows = refl }

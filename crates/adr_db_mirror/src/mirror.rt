@@ -12,11 +12,11 @@ ghost use Rattle.adr_db.specs.Admitted.{AreColumns, IsEntry, ReadsColumns, Reads
 
 use adr_db::MarkColumns;
 use adr_db::cells::{kind_number, number};
-use adr_db::reading::{all_of, first_in, first_of, table_of};
+use adr_db::reading::{all_of, first_in, first_of};
 use adr_db::statement::{rows_of, run};
 use adr_objects::{Body, Kind, canonical};
 use adr_state::{Mark, MirrorKey};
-use adr_text::{Refusal, Rows, Table};
+use adr_text::{Refusal, Rows};
 use sqlite::types::{ToSql, ValueRef};
 use sqlite::{Alter, Transaction};
 use std::alloc::{AllocError, Global};
@@ -29,9 +29,6 @@ const READ_ONE: &str =
 
 const READ_OF: &str =
     "SELECT kind, id, state, moment, body, program FROM mirror WHERE kind = ?1 ORDER BY kind, id";
-
-const READ_ALL: &str =
-    "SELECT kind, id, state, moment, body, program FROM mirror ORDER BY kind, id";
 
 fn columns_of(alloc: Global, mark: &Mark) -> Result<MarkColumns, AllocError>
     ensures same { IfOk result (λ columns. columns_row columns ≡ mark_columns mark.now) }
@@ -153,18 +150,4 @@ pub fn read_kind<S: Alter>(
     ensures fails { RefusesToShow S.Store tx.old.conn.now tx.new.conn.now READ_OF.now (number (kind_number kind) ∷ []) (CannotReadAll IsEntry ReadsEntry) result }
 {
     all_of(alloc, tx, READ_OF, &[kind_number(kind).to_sql()])
-}
-
-/// The whole mirror as the map that it is.
-pub fn read_mirror<S: Alter>(
-    alloc: Global,
-    tx: &mut Transaction<'_, S>,
-) -> Result<Table<MirrorKey, Mark>, Refusal>
-    ensures lent { LeavesLent S.Store tx.old.conn tx.new.conn result }
-    ensures finds { Finds S.Store tx.old.conn.now tx.new.conn.now (λ kept mirror. mirror ≡ kept.mirror) result }
-    ensures refused { IfErr result IsOfStore }
-    ensures fails { RefusesToShow S.Store tx.old.conn.now tx.new.conn.now READ_ALL.now [] (CannotReadAll IsEntry ReadsEntry) result }
-{
-    let entries = all_of(alloc, tx, READ_ALL, &[])?;
-    table_of(alloc, entries)
 }

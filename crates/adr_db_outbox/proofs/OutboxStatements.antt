@@ -7,7 +7,7 @@ use Rattle.adr_sql.proofs.KeyedMaps.{upsert_entry_runs, remove_entry_runs}
 use Rattle.adr_delivery.specs.declared.addressee.Addressee.{Addressee}
 use Rattle.adr_delivery.specs.declared.addressee.Addressee.TheVariants.{Utility, Subscriber}
 use Rattle.adr_delivery.specs.declared.entry.Entry.{Entry}
-use Rattle.adr_db_outbox.specs.declared.outbox.TheConstants.{PUT, REMOVE, READ_ONE, READ_ALL}
+use Rattle.adr_db_outbox.specs.declared.outbox.TheConstants.{PUT, REMOVE, READ_ONE}
 use Rattle.adr_delivery.specs.Entries.{destination, event_of}
 use Rattle.adr_delivery.specs.Jobs.{token_for}
 use Rattle.adr_db.specs.Rows.{number, number_row, operation_number, address_of, delivery_columns, entry_row}
@@ -43,7 +43,7 @@ fit e = by e.1.addressee
     by (Subscriber subscription address None) = record { fits = refl; full = refl; width = refl }
     by (Subscriber subscription address (Some token)) = record { fits = refl; full = refl; width = refl }
 
-pub texts : HasTextsOn outbox_map.rows PUT.now REMOVE.now READ_ONE.now READ_ALL.now
+pub texts : HasTextsOn outbox_map.rows PUT.now REMOVE.now READ_ONE.now
 unfolding understood everything
 texts = record {
   puts = λ e. record {
@@ -59,7 +59,6 @@ texts = record {
   fit = fit;
   removes = record { command = refl; alone = (refl, refl); flat = refl; joins = refl };
   reads_one = record { names = columns; command = refl; alone = (refl, refl); unlisted = refl; from = refl; order = refl; ungrouped = refl; undistinct = refl; joins = refl; sorts = refl; shows = refl };
-  reads_all = record { names = columns; command = refl; alone = (refl, refl); unlisted = refl; from = refl; order = refl; ungrouped = refl; undistinct = refl; joins = refl; sorts = refl; shows = refl };
 }
 
 -- ---- the values of a row

@@ -9,5 +9,5 @@ mod remote;
 
 pub use lost::read_lost;
 pub use next::read_next;
-pub use outbox::{put_entry, read_entries, read_entry, remove_entry};
-pub use remote::{put_remote, read_remote, read_remotes, remove_remote};
+pub use outbox::{put_entry, read_entry, remove_entry};
+pub use remote::{put_remote, read_remote, remove_remote};

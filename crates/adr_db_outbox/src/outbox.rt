@@ -1,5 +1,5 @@
 //! The table `outbox`: the entries that wait. Behind each that comes or goes `head` is set right.
-ghost use Rattle.std.specs.Prelude.{◌≡◌, [], IfErr};
+ghost use Rattle.std.specs.Prelude.{◌≡◌, IfErr};
 ghost use Rattle.std.specs.Ordering.{nat_cmp};
 ghost use Rattle.sqlite.specs.Values.{bound_value, or_null};
 ghost use Rattle.sqlite.specs.declared.types.Value.TheVariants.{Text};
@@ -10,20 +10,20 @@ ghost use Rattle.adr_state.specs.Keys.{at};
 ghost use Rattle.adr_sql.specs.Calls.{LeavesLent};
 ghost use Rattle.adr_db.specs.Kept.{with_waiting, without_waiting};
 ghost use Rattle.adr_db.specs.Rows.{number_row, operation_number, address_of, lease_end, entry_row};
-ghost use Rattle.adr_db.specs.Refusals.{RefusesToPut, RefusesToShow, CannotReadAll, CannotReadFirst};
-ghost use Rattle.adr_db.specs.Admitted.{IsNumber, IsWaiting, IsWaitingEntry, ReadsNumber, ReadsWaiting, ReadsWaitingEntry};
+ghost use Rattle.adr_db.specs.Refusals.{RefusesToPut, RefusesToShow, CannotReadFirst};
+ghost use Rattle.adr_db.specs.Admitted.{IsNumber, IsWaiting, ReadsNumber, ReadsWaiting};
 ghost use Rattle.adr_db.specs.Calls.{ChangesHeads, LeavesKept, Finds, IsOfStore};
 ghost use Rattle.adr_db_outbox.specs.Heads.{destination_at};
 ghost use Rattle.adr_db_outbox.specs.Refused.{RefusesToChange};
 
 use crate::heads::{set_both_heads, set_head_where};
 use adr_db::cells::number;
-use adr_db::reading::{all_of, first_number, first_of, table_of};
+use adr_db::reading::{first_number, first_of};
 use adr_db::statement::run;
 use adr_delivery::{Addressee, Entry};
 use adr_objects::Number;
 use adr_subscription::OperationKind;
-use adr_text::{Moment, Refusal, Table};
+use adr_text::{Moment, Refusal};
 use sqlite::types::{ToSql, ValueRef};
 use sqlite::{Alter, Transaction};
 use std::alloc::Global;
@@ -37,9 +37,6 @@ const READ_DESTINATION: &str = "SELECT dest FROM outbox WHERE id = ?1 ORDER BY i
 
 const READ_ONE: &str =
     "SELECT id, dest, event, operation, url, token, body, failed, leases, leased, until, due FROM outbox WHERE id = ?1 ORDER BY id";
-
-const READ_ALL: &str =
-    "SELECT id, dest, event, operation, url, token, body, failed, leases, leased, until, due FROM outbox ORDER BY id";
 
 // The upstream event, where it goes to the utility.
 fn event_cell(addressee: &Addressee) -> ValueRef<'_>
@@ -186,18 +183,4 @@ pub fn read_entry<S: Alter>(
     ensures fails { RefusesToShow S.Store tx.old.conn.now tx.new.conn.now READ_ONE.now (number_row id) (CannotReadFirst IsWaiting ReadsWaiting) result }
 {
     first_of(alloc, tx, READ_ONE, &[number(id.get())?])
-}
-
-/// The entries that wait, by their numbers.
-pub fn read_entries<S: Alter>(
-    alloc: Global,
-    tx: &mut Transaction<'_, S>,
-) -> Result<Table<Number, Entry>, Refusal>
-    ensures lent { LeavesLent S.Store tx.old.conn tx.new.conn result }
-    ensures finds { Finds S.Store tx.old.conn.now tx.new.conn.now (λ kept entries. entries ≡ kept.entries) result }
-    ensures refused { IfErr result IsOfStore }
-    ensures fails { RefusesToShow S.Store tx.old.conn.now tx.new.conn.now READ_ALL.now [] (CannotReadAll IsWaitingEntry ReadsWaitingEntry) result }
-{
-    let entries = all_of(alloc, tx, READ_ALL, &[])?;
-    table_of(alloc, entries)
 }

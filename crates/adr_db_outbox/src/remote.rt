@@ -1,18 +1,17 @@
 //! The table `remote`: the utility's ids of the reports that it was sent.
-ghost use Rattle.std.specs.Prelude.{◌≡◌, [], IfErr, IfOk, map, option_map};
-ghost use Rattle.adr_text.specs.declared.refusal.Refusal.TheVariants.{OutOfMemory};
-ghost use Rattle.adr_state.specs.Keys.{id_cmp, at, map_of};
+ghost use Rattle.std.specs.Prelude.{◌≡◌, IfErr, option_map};
+ghost use Rattle.adr_state.specs.Keys.{id_cmp, at};
 ghost use Rattle.adr_sql.specs.Calls.{LeavesLent};
 ghost use Rattle.adr_db.specs.Kept.{with_remote_id, without_remote_id};
 ghost use Rattle.adr_db.specs.Rows.{event_key_row, remote_row};
-ghost use Rattle.adr_db.specs.Refusals.{RefusesToPut, RefusesToShow, CannotReadAll, CannotReadFirst};
+ghost use Rattle.adr_db.specs.Refusals.{RefusesToPut, RefusesToShow, CannotReadFirst};
 ghost use Rattle.adr_db.specs.Admitted.{IsRemote, ReadsRemote};
 ghost use Rattle.adr_db.specs.Calls.{LeavesKept, Finds, IsOfStore};
 
 use adr_db::RemoteRow;
-use adr_db::reading::{all_of, first_of};
+use adr_db::reading::first_of;
 use adr_db::statement::run;
-use adr_text::{ObjectId, Refusal, Rows, Table};
+use adr_text::{ObjectId, Refusal};
 use sqlite::types::ToSql;
 use sqlite::{Alter, Transaction};
 use std::alloc::Global;
@@ -23,8 +22,6 @@ const PUT: &str =
 const REMOVE: &str = "DELETE FROM remote WHERE event = ?1";
 
 const READ_ONE: &str = "SELECT event, id FROM remote WHERE event = ?1 ORDER BY event";
-
-const READ_ALL: &str = "SELECT event, id FROM remote ORDER BY event";
 
 /// Puts the utility's id of the report on an upstream event, new or in the place of the one that is known.
 pub fn put_remote<S: Alter>(
@@ -70,31 +67,4 @@ pub fn read_remote<S: Alter>(
 {
     let row = first_of(alloc, tx, READ_ONE, &[event.as_str().to_sql()])?;
     Ok(id_of(row))
-}
-
-// The map that rows make, put one after another.
-fn table_of(alloc: Global, rows: Rows<RemoteRow>) -> Result<Table<ObjectId, ObjectId>, Refusal>
-    ensures map { IfOk result (λ table. table ≡ map_of id_cmp (map (λ row. (row.event, row.id)) rows)) }
-    ensures refused { IfErr result (λ refusal. refusal ≡ OutOfMemory) }
-{
-    let mut table = Table::new(alloc);
-    'rows: for row in rows.into_vec() {
-        let (event, id) = row.into_parts();
-        table.put(event, id)?;
-    }
-    Ok(table)
-}
-
-/// The utility's ids of reports, by their upstream events.
-pub fn read_remotes<S: Alter>(
-    alloc: Global,
-    tx: &mut Transaction<'_, S>,
-) -> Result<Table<ObjectId, ObjectId>, Refusal>
-    ensures lent { LeavesLent S.Store tx.old.conn tx.new.conn result }
-    ensures finds { Finds S.Store tx.old.conn.now tx.new.conn.now (λ kept remotes. remotes ≡ kept.remotes) result }
-    ensures refused { IfErr result IsOfStore }
-    ensures fails { RefusesToShow S.Store tx.old.conn.now tx.new.conn.now READ_ALL.now [] (CannotReadAll IsRemote ReadsRemote) result }
-{
-    let rows = all_of(alloc, tx, READ_ALL, &[])?;
-    table_of(alloc, rows)
 }

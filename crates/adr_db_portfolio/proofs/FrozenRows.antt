@@ -1,15 +1,14 @@
 -- Frozen events and frozen shares, as they are found and read back.
-use Rattle.std.proofs.Common.{◌≡◌, ℕ, true, List, [], ◌∷◌, map, filter, not, refl, sym, ap, ap₂, subst, ◌∙◌, Ok}
-use Rattle.std.proofs.lemmas.Grind.{fold-append}
-use Rattle.adr_db.proofs.Common.{AllZip, Null, Text, Row, filter-map, map-map, cells, has_key, state, Ghosts, Held, State, Executes, passes, text_passes}
+use Rattle.std.proofs.Common.{◌≡◌, ℕ, List, ◌∷◌, map, filter, not, refl, sym, ap, ap₂, subst, ◌∙◌, Ok}
+use Rattle.adr_db.proofs.Common.{AllZip, Null, filter-map, cells, has_key, State, Executes, passes, text_passes}
 use Rattle.adr_sql.proofs.Selections.{equalities, passes_is}
 use Rattle.adr_sql.proofs.Removals.{remove_at_runs}
 use Rattle.adr_state.specs.declared.keys.FrozenKey.{FrozenKey}
 use Rattle.adr_state.specs.Frozen.{is_of_event}
-use Rattle.adr_sql.specs.Contents.{Holds, with_table, rows_of_table}
+use Rattle.adr_sql.specs.Contents.{Holds, with_table}
 use Rattle.adr_db.specs.Tables.{schema}
-use Rattle.adr_db.specs.Rows.{event_key_row, frozen_key_row, frozen_share_row}
-use Rattle.adr_db.specs.Admitted.{ReadsId, ReadsFrozenShare}
+use Rattle.adr_db.specs.Rows.{event_key_row, frozen_share_row}
+use Rattle.adr_db.specs.Admitted.{ReadsFrozenShare}
 use Rattle.adr_db.specs.Kept.{Kept, Keeps, contents_of, with_portfolio}
 use Rattle.adr_db.proofs.Rows.{number_kept, frozen_key_kept}
 use Rattle.adr_db.proofs.Tables.{frozen_share, frozen_share_keyed, frozen_share_childless}
@@ -18,13 +17,6 @@ use Rattle.adr_db.proofs.KeptMaps.{read_back}
 use Rattle.adr_db_portfolio.specs.Frozen.{without_frozen_shares}
 use Rattle.adr_db_portfolio.specs.declared.frozen_share.TheConstants.{CLEAR}
 use Rattle.adr_db_portfolio.proofs.FrozenStatements.{clears}
-
--- the events that rows name, each with nothing
-pub ids_read : (es : List (List ℕ × Unit {0})) (read : List (List ℕ)) → AllZip ReadsId (map (λ e. event_key_row e.0) es) read → map (λ id. (id, tt)) read ≡ es
-ids_read [] [] h = refl
-ids_read [] (id ∷ read) h = absurd h
-ids_read (e ∷ es) [] h = absurd h
-ids_read (e ∷ es) (id ∷ read) h = let same : id ≡ e.0 = cc in ap₂ (λ (id : List ℕ) (rest : List (List ℕ × Unit {0})). (id, tt) ∷ rest) same (ids_read es read h.1)
 
 -- whether a frozen share is kept for an event, as a statement tests it
 pub tests_event : (event : List ℕ) (s : FrozenKey × ℕ) → passes (event_key_row event) (equalities 0 1) (Null ∷ frozen_share_row s) ≡ is_of_event event s

@@ -3,7 +3,7 @@ use Rattle.std.proofs.Common.{ℕ, List, [], ◌∷◌, codes, refl}
 use Rattle.adr_db.proofs.Common.{Null, lit, col, end, understood, everything, AreValues, IsUpsertText, IsRemoveText, IsSelectText, whole_rows, first_columns, is_text, equalities}
 use Rattle.adr_state.specs.declared.keys.FrozenKey.{FrozenKey}
 use Rattle.adr_db_portfolio.specs.declared.frozen.TheConstants as events
-use Rattle.adr_db_portfolio.specs.declared.frozen_share.TheConstants.{PUT, CLEAR, READ_ALL, READ_IN, READ_OF}
+use Rattle.adr_db_portfolio.specs.declared.frozen_share.TheConstants.{PUT, CLEAR, READ_IN, READ_OF}
 use Rattle.adr_db.specs.Tables.{schema}
 use Rattle.adr_db.specs.Rows.{event_key_row, frozen_share_row}
 use Rattle.adr_db.proofs.Tables.{frozen, frozen_share}
@@ -22,10 +22,6 @@ pub event_read : IsSelectText schema frozen (whole_rows 1 frozen) end events.REA
 unfolding understood everything
 event_read = record { names = codes "event" ∷ []; command = refl; alone = (refl, refl); unlisted = refl; from = refl; order = refl; ungrouped = refl; undistinct = refl; joins = refl; sorts = refl; shows = refl }
 
-pub events_read : IsSelectText schema frozen (whole_rows 0 frozen) end events.READ_ALL.now
-unfolding understood everything
-events_read = record { names = codes "event" ∷ []; command = refl; alone = (refl, refl); unlisted = refl; from = refl; order = refl; ungrouped = refl; undistinct = refl; joins = refl; sorts = refl; shows = refl }
-
 -- ---- the shares
 
 abbrev columns : List (List ℕ)
@@ -41,10 +37,6 @@ values e = record { fits = refl; full = refl; width = refl }
 pub clears : IsRemoveText schema frozen_share_map.rows.at frozen_share end (equalities 0 1) CLEAR.now
 unfolding understood everything
 clears = record { command = refl; alone = (refl, refl); flat = refl; joins = refl }
-
-pub reads_all : IsSelectText schema frozen_share (whole_rows 0 frozen_share) end READ_ALL.now
-unfolding understood everything
-reads_all = record { names = columns; command = refl; alone = (refl, refl); unlisted = refl; from = refl; order = refl; ungrouped = refl; undistinct = refl; joins = refl; sorts = refl; shows = refl }
 
 pub reads_in : IsSelectText schema frozen_share (whole_rows 1 frozen_share) end READ_IN.now
 unfolding understood everything

@@ -11,3 +11,4 @@ pub mod ReportStatements
 pub mod Cascades
 pub mod Sharing
 pub mod Participating
+pub mod Whole

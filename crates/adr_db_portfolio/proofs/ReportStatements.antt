@@ -7,10 +7,10 @@ use Rattle.adr_state.specs.declared.portfolio.Report.{Report}
 use Rattle.adr_state.specs.Portfolios.{reported_on}
 use Rattle.adr_sql.specs.Keys.{rows_without}
 use Rattle.adr_sql.specs.Codecs.{entry_at}
-use Rattle.adr_sql.proofs.KeyedMaps.{read_all_runs, read_entry_runs}
+use Rattle.adr_sql.proofs.KeyedMaps.{read_entry_runs}
 use Rattle.adr_sql.proofs.Removals.{remove_at_runs}
 use Rattle.adr_db.specs.declared.report_columns.ReportColumns.{ReportColumns}
-use Rattle.adr_db_portfolio.specs.declared.report.TheConstants.{PUT, REMOVE, READ_ONE, READ_OF, READ_ON, READ_ALL}
+use Rattle.adr_db_portfolio.specs.declared.report.TheConstants.{PUT, REMOVE, READ_ONE, READ_OF, READ_ON}
 use Rattle.adr_db_portfolio.specs.declared.report_value.TheConstants as values
 use Rattle.adr_db.specs.Tables.{schema}
 use Rattle.adr_db.specs.Rows.{number, number_row, name_cell, usage_cell, report_row, report_columns_row, value_row, value_rows_from, value_rows}
@@ -67,10 +67,6 @@ reads_of = record { names = columns; command = refl; alone = (refl, refl); unlis
 reads_on : IsSelectText schema report (first_columns 1 (is_text 2) report) end READ_ON.now
 unfolding understood everything
 reads_on = record { names = codes "id" ∷ []; command = refl; alone = (refl, refl); unlisted = refl; from = refl; order = refl; ungrouped = refl; undistinct = refl; joins = refl; sorts = refl; shows = refl }
-
-pub reads_all : IsSelectText schema report (whole_rows 0 report) end READ_ALL.now
-unfolding understood everything
-reads_all = record { names = columns; command = refl; alone = (refl, refl); unlisted = refl; from = refl; order = refl; ungrouped = refl; undistinct = refl; joins = refl; sorts = refl; shows = refl }
 
 puts_value : (n place : ℕ) (interval : UsageInterval) → IsUpsertText schema 8 report_value values.PUT.now (value_row n place interval) (value_row n place interval)
 unfolding understood everything
@@ -140,12 +136,6 @@ module _ {S E : Type 0} (g : Ghosts S) (old new : Held S) where
       let are = read_runs schema 8 1 report_value report_value_keyed.place values.READ.now (number_row n) reads_values refl (state g old) (state g new) rows (contents_of kept) shown was.rows
       ∙ values_at n kept.portfolio.reports (reports_rise kept (state g old) was) in
       found_read n (at nat_cmp n kept.portfolio.reports) intervals (subst (λ rows. AllZip ReadsUsageInterval rows intervals) are read))
-
-  pub rows_find : (r : Result (List (ℕ × ReportColumns)) E) → Shows g old new READ_ALL.now [] (AllZip ReadsReportEntry) r → Finds g old new (λ kept rows. rows ≡ map columns_of kept.portfolio.reports) r
-  rows_find r =
-      shown_finds g old new READ_ALL.now [] (AllZip ReadsReportEntry) (λ kept rows. rows ≡ map columns_of kept.portfolio.reports) r reads_all.alone (λ read rows kept shown was reads.
-      let are = read_all_runs report_rows (contents_of kept) kept.portfolio.reports refl READ_ALL.now [] (state g old) (state g new) reads_all rows shown was.rows in
-      columns_read kept.portfolio.reports read (subst (λ rows. AllZip ReadsReportEntry rows read) are reads))
 
   pub rows_of_find : (event : List ℕ) (r : Result (List (ℕ × ReportColumns)) E) → Shows g old new READ_OF.now (Text event ∷ []) (AllZip ReadsReportEntry) r
       → Finds g old new (λ kept rows. rows ≡ map columns_of (filter (λ e. bytes_eq e.1.body.head.event event) kept.portfolio.reports)) r

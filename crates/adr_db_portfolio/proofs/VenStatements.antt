@@ -1,7 +1,7 @@
 -- The statements on the table `ven`.
 use Rattle.std.proofs.Common.{ℕ, List, [], ◌∷◌, codes, refl}
 use Rattle.adr_db.proofs.Common.{Null, lit, col, end, understood, everything, IsSelectText, first_columns, is_text}
-use Rattle.adr_db_portfolio.specs.declared.ven.TheConstants.{PUT, REMOVE, READ_ONE, READ_ALL, READ_NAMED}
+use Rattle.adr_db_portfolio.specs.declared.ven.TheConstants.{PUT, REMOVE, READ_ONE, READ_NAMED}
 use Rattle.adr_db.specs.Tables.{schema}
 use Rattle.adr_db.proofs.Tables.{ven}
 use Rattle.adr_db.proofs.Maps.{ven_map}
@@ -10,14 +10,13 @@ use Rattle.adr_db.proofs.KeptMaps.{HasTexts}
 abbrev columns : List (List ℕ)
 columns = codes "id" ∷ codes "name" ∷ codes "created" ∷ codes "modified" ∷ []
 
-pub texts : HasTexts ven_map PUT.now REMOVE.now READ_ONE.now READ_ALL.now
+pub texts : HasTexts ven_map PUT.now REMOVE.now READ_ONE.now
 unfolding understood everything
 texts = record {
   puts = λ e. record { terms = lit Null ∷ col 0 0 ∷ col 0 1 ∷ col 0 2 ∷ col 0 3 ∷ []; met = 4; sets = col 0 6 ∷ col 0 7 ∷ col 0 8 ∷ col 0 9 ∷ []; command = refl; alone = (refl, refl); given = refl; meets = λ id next r. refl; writes = λ id next r. refl };
   fit = λ e. record { fits = refl; full = refl; width = refl };
   removes = record { command = refl; alone = (refl, refl); flat = refl; joins = refl };
   reads_one = record { names = columns; command = refl; alone = (refl, refl); unlisted = refl; from = refl; order = refl; ungrouped = refl; undistinct = refl; joins = refl; sorts = refl; shows = refl };
-  reads_all = record { names = columns; command = refl; alone = (refl, refl); unlisted = refl; from = refl; order = refl; ungrouped = refl; undistinct = refl; joins = refl; sorts = refl; shows = refl };
 }
 
 pub reads_named : IsSelectText schema ven (first_columns 1 (is_text 1) ven) end READ_NAMED.now

@@ -1,28 +1,25 @@
 //! The table `frozen`: the events whose shares are frozen.
-ghost use Rattle.std.specs.Prelude.{◌≡◌, [], map, IfOk, IfErr};
+ghost use Rattle.std.specs.Prelude.{◌≡◌, IfErr};
 ghost use Rattle.adr_sql.specs.Calls.{LeavesLent};
 ghost use Rattle.adr_state.specs.Frozen.{is_frozen};
-ghost use Rattle.adr_state.specs.Keys.{id_cmp, map_of};
 ghost use Rattle.adr_db.specs.Kept.{with_portfolio};
 ghost use Rattle.adr_db.specs.Rows.{event_key_row};
 ghost use Rattle.adr_db.specs.Admitted.{IsIdText, ReadsId};
-ghost use Rattle.adr_db.specs.Refusals.{CannotReadAll, CannotReadFirst, RefusesToPut, RefusesToShow};
+ghost use Rattle.adr_db.specs.Refusals.{CannotReadFirst, RefusesToPut, RefusesToShow};
 ghost use Rattle.adr_db.specs.Calls.{LeavesKept, Finds, IsOfStore};
 ghost use Rattle.adr_db_portfolio.specs.Frozen.{with_frozen_event};
 
-use adr_db::reading::{all_of, first_of};
+use adr_db::reading::first_of;
 use adr_db::statement::run;
-use adr_text::{ObjectId, Refusal, Rows, Table};
+use adr_text::{ObjectId, Refusal};
 use sqlite::types::ToSql;
 use sqlite::{Alter, Transaction};
-use std::alloc::{AllocError, Global};
+use std::alloc::Global;
 
 const PUT: &str =
     "INSERT INTO frozen (event) VALUES (?1) ON CONFLICT (event) DO UPDATE SET event = excluded.event";
 
 const READ_ONE: &str = "SELECT event FROM frozen WHERE event = ?1 ORDER BY event";
-
-const READ_ALL: &str = "SELECT event FROM frozen ORDER BY event";
 
 /// An event is one of those that are frozen from now on.
 pub fn put_frozen<S: Alter>(tx: &mut Transaction<'_, S>, event: &ObjectId) -> Result<(), Refusal>
@@ -47,29 +44,4 @@ pub fn is_frozen<S: Alter>(
 {
     let found: Option<ObjectId> = first_of(alloc, tx, READ_ONE, &[event.as_str().to_sql()])?;
     Ok(found.is_some())
-}
-
-// The events, as the set that they are.
-fn events_of(alloc: Global, rows: Rows<ObjectId>) -> Result<Table<ObjectId, ()>, AllocError>
-    ensures { IfOk result (λ events. events ≡ map_of id_cmp (map (λ id. (id, tt)) rows)) }
-{
-    let mut events = Table::new(alloc);
-    'rows: for id in rows.into_vec() {
-        events.put(id, ())?;
-    }
-    Ok(events)
-}
-
-/// The events that are frozen, by the bytes of their ids.
-pub fn read_frozen<S: Alter>(
-    alloc: Global,
-    tx: &mut Transaction<'_, S>,
-) -> Result<Table<ObjectId, ()>, Refusal>
-    ensures lent { LeavesLent S.Store tx.old.conn tx.new.conn result }
-    ensures finds { Finds S.Store tx.old.conn.now tx.new.conn.now (λ kept events. events ≡ kept.portfolio.frozen) result }
-    ensures refused { IfErr result IsOfStore }
-    ensures fails { RefusesToShow S.Store tx.old.conn.now tx.new.conn.now READ_ALL.now [] (CannotReadAll IsIdText ReadsId) result }
-{
-    let rows = all_of(alloc, tx, READ_ALL, &[])?;
-    Ok(events_of(alloc, rows)?)
 }

@@ -1,5 +1,5 @@
 //! The table `frozen_share`: the shares that are kept for frozen events.
-ghost use Rattle.std.specs.Prelude.{◌≡◌, ◌==◌, [], map, filter, IfErr};
+ghost use Rattle.std.specs.Prelude.{◌≡◌, ◌==◌, map, filter, IfErr};
 ghost use Rattle.adr_sql.specs.Calls.{LeavesLent};
 ghost use Rattle.adr_state.specs.Frozen.{is_of_event};
 ghost use Rattle.adr_db.specs.Kept.{with_portfolio};
@@ -7,15 +7,14 @@ ghost use Rattle.adr_db.specs.Rows.{event_key_row, number_row, frozen_share_row}
 ghost use Rattle.adr_db.specs.Admitted.{IsFrozenKey, IsFrozenShare, ReadsFrozenKey, ReadsFrozenShare};
 ghost use Rattle.adr_db.specs.Refusals.{CannotReadAll, RefusesToPut, RefusesToShow};
 ghost use Rattle.adr_db.specs.Calls.{LeavesKept, Finds, IsOfStore};
-ghost use Rattle.sqlite.specs.declared.types.Value.TheVariants.{Text};
 ghost use Rattle.adr_db_portfolio.specs.Frozen.{with_frozen_share, without_frozen_shares};
 
 use adr_db::cells::number;
-use adr_db::reading::{all_of, table_of};
+use adr_db::reading::all_of;
 use adr_db::statement::run;
 use adr_objects::Number;
 use adr_state::{FrozenKey, Weight};
-use adr_text::{ObjectId, Refusal, Rows, Table};
+use adr_text::{ObjectId, Refusal, Rows};
 use sqlite::types::ToSql;
 use sqlite::{Alter, Transaction};
 use std::alloc::Global;
@@ -24,8 +23,6 @@ const PUT: &str =
     "INSERT INTO frozen_share (event, resource, weight) VALUES (?1, ?2, ?3) ON CONFLICT (event, resource) DO UPDATE SET event = excluded.event, resource = excluded.resource, weight = excluded.weight";
 
 const CLEAR: &str = "DELETE FROM frozen_share WHERE event = ?1";
-
-const READ_ALL: &str = "SELECT event, resource, weight FROM frozen_share ORDER BY event, resource";
 
 const READ_IN: &str =
     "SELECT event, resource, weight FROM frozen_share WHERE event = ?1 ORDER BY event, resource";
@@ -66,20 +63,6 @@ pub fn remove_frozen_shares<S: Alter>(
     ensures fails { RefusesToPut S.Store tx.old.conn.now tx.new.conn.now CLEAR.now (event_key_row event.now) result }
 {
     run(tx, CLEAR, &[event.as_str().to_sql()])
-}
-
-/// The shares that are kept for frozen events, by event and resource.
-pub fn read_frozen_shares<S: Alter>(
-    alloc: Global,
-    tx: &mut Transaction<'_, S>,
-) -> Result<Table<FrozenKey, Weight>, Refusal>
-    ensures lent { LeavesLent S.Store tx.old.conn tx.new.conn result }
-    ensures finds { Finds S.Store tx.old.conn.now tx.new.conn.now (λ kept shares. shares ≡ kept.portfolio.frozen_shares) result }
-    ensures refused { IfErr result IsOfStore }
-    ensures fails { RefusesToShow S.Store tx.old.conn.now tx.new.conn.now READ_ALL.now [] (CannotReadAll IsFrozenShare ReadsFrozenShare) result }
-{
-    let entries = all_of(alloc, tx, READ_ALL, &[])?;
-    table_of(alloc, entries)
 }
 
 /// The shares that are kept for an event, in the order of the resources' numbers. None of another event is read.

@@ -1,5 +1,5 @@
 //! The table `report`: the reports on resources. Their intervals stand in `report_value`.
-ghost use Rattle.std.specs.Prelude.{◌≡◌, ◌==◌, [], bytes_eq, map, filter, IfErr};
+ghost use Rattle.std.specs.Prelude.{◌≡◌, ◌==◌, bytes_eq, map, filter, IfErr};
 ghost use Rattle.std.specs.Ordering.{nat_cmp};
 ghost use Rattle.sqlite.specs.Values.{bound_value};
 ghost use Rattle.sqlite_value.specs.Value.{owned};
@@ -11,18 +11,19 @@ ghost use Rattle.adr_state.specs.Portfolios.{reported_on, with_report, without_r
 ghost use Rattle.adr_db.specs.Tables.{schema};
 ghost use Rattle.adr_db.specs.Kept.{whole_report, report_of, with_portfolio};
 ghost use Rattle.adr_db.specs.Rows.{name_cell, number_row, report_row};
-ghost use Rattle.adr_db.specs.Refusals.{RefusesToPut, RefusesToShow, CannotReadAll};
-ghost use Rattle.adr_db.specs.Admitted.{IsNumber, ReadsNumber};
+ghost use Rattle.adr_db.specs.Refusals.{RefusesToPut, RefusesToShow, CannotReadAll, CannotReadFirst};
+ghost use Rattle.adr_db.specs.Admitted.{IsNumber, AreReportColumns, ReadsNumber, ReadsReportColumns};
 ghost use Rattle.adr_db.specs.Calls.{LeavesKept, Finds, IsOfStore};
+ghost use Rattle.adr_db_portfolio.specs.Columns.{columns_at};
 
 use crate::report_value::{clear_values, put_values, read_values};
 use adr_db::ReportColumns;
 use adr_db::cells::number;
-use adr_db::reading::{all_of, first_of, table_of};
+use adr_db::reading::{all_of, first_of};
 use adr_db::statement::run;
 use adr_objects::{Number, ReportBody, ReportName, UsageInterval};
 use adr_state::Report;
-use adr_text::{ObjectId, Refusal, Rows, Table};
+use adr_text::{ObjectId, Refusal, Rows};
 use sqlite::types::{ToSql, ValueRef};
 use sqlite::{Alter, Transaction};
 use std::alloc::Global;
@@ -39,9 +40,6 @@ const READ_OF: &str =
     "SELECT id, event, resource, program, client, name, resource_name, revision FROM report WHERE event = ?1 ORDER BY id";
 
 const READ_ON: &str = "SELECT id FROM report WHERE resource = ?1 ORDER BY id";
-
-const READ_ALL: &str =
-    "SELECT id, event, resource, program, client, name, resource_name, revision FROM report ORDER BY id";
 
 // A name, where there is one.
 fn name_cell(name: &Option<ReportName>) -> ValueRef<'_>
@@ -119,6 +117,20 @@ fn whole_report(columns: ReportColumns, intervals: Rows<UsageInterval>) -> Repor
     }
 }
 
+/// The columns of the report of a number, where there is one. Its intervals are not read.
+pub fn read_columns<S: Alter>(
+    alloc: Global,
+    tx: &mut Transaction<'_, S>,
+    id: Number,
+) -> Result<Option<ReportColumns>, Refusal>
+    ensures lent { LeavesLent S.Store tx.old.conn tx.new.conn result }
+    ensures finds { Finds S.Store tx.old.conn.now tx.new.conn.now (λ kept found. found ≡ columns_at id kept) result }
+    ensures refused { IfErr result IsOfStore }
+    ensures fails { RefusesToShow S.Store tx.old.conn.now tx.new.conn.now READ_ONE.now (number_row id) (CannotReadFirst AreReportColumns ReadsReportColumns) result }
+{
+    first_of(alloc, tx, READ_ONE, &[number(id.get())?])
+}
+
 /// The report of a number, where there is one.
 pub fn read_report<S: Alter>(
     alloc: Global,
@@ -129,7 +141,7 @@ pub fn read_report<S: Alter>(
     ensures finds { Finds S.Store tx.old.conn.now tx.new.conn.now (λ kept found. found ≡ at nat_cmp id kept.portfolio.reports) result }
     ensures refused { IfErr result IsOfStore }
 {
-    let found: Option<ReportColumns> = first_of(alloc, tx, READ_ONE, &[number(id.get())?])?;
+    let found = read_columns(alloc, tx, id)?;
     match found {
         Some(columns) => {
             let intervals = read_values(alloc, tx, id)?;
@@ -155,20 +167,6 @@ fn with_values<S: Alter>(
         reports.push((row.0, whole_report(row.1, intervals)))?;
     }
     Ok(reports)
-}
-
-/// The reports, by their numbers.
-pub fn read_reports<S: Alter>(
-    alloc: Global,
-    tx: &mut Transaction<'_, S>,
-) -> Result<Table<Number, Report>, Refusal>
-    ensures lent { LeavesLent S.Store tx.old.conn tx.new.conn result }
-    ensures finds { Finds S.Store tx.old.conn.now tx.new.conn.now (λ kept reports. reports ≡ kept.portfolio.reports) result }
-    ensures refused { IfErr result IsOfStore }
-{
-    let rows = all_of(alloc, tx, READ_ALL, &[])?;
-    let reports = with_values(alloc, tx, rows)?;
-    table_of(alloc, reports)
 }
 
 /// The reports of an event, by their numbers. No report of another event is read.

@@ -99,7 +99,7 @@ pub(crate) fn clear_values<S: Alter>(
 }
 
 /// The intervals of the report of a number, in their order; none where there is no such report.
-pub(crate) fn read_values<S: Alter>(
+pub fn read_values<S: Alter>(
     alloc: Global,
     tx: &mut Transaction<'_, S>,
     report: Number,

@@ -1,24 +1,23 @@
 //! The table `resource`: the resources of the vens.
-ghost use Rattle.std.specs.Prelude.{◌≡◌, ◌⊎◌, ◌<◌, ◌==◌, [], ◌∷◌, map, filter, length, IfOk, IfErr};
+ghost use Rattle.std.specs.Prelude.{◌≡◌, ◌<◌, ◌==◌, [], ◌∷◌, map, filter, IfErr};
 ghost use Rattle.std.specs.Ordering.{nat_cmp};
 ghost use Rattle.adr_state.specs.Names.{resource_name};
-ghost use Rattle.adr_state.specs.Keys.{at, map_of};
+ghost use Rattle.adr_state.specs.Keys.{at};
 ghost use Rattle.sqlite.specs.declared.types.Value.TheVariants.{Text};
 ghost use Rattle.adr_sql.specs.Calls.{LeavesLent};
 ghost use Rattle.adr_state.specs.Portfolios.{with_resource, without_resource};
 ghost use Rattle.adr_db.specs.Kept.{numbers_named, with_portfolio};
 ghost use Rattle.adr_db.specs.Rows.{resource_row, number_row};
-ghost use Rattle.adr_db.specs.Refusals.{RefusesToPut, RefusesToShow, CannotRead, CannotReadAll, CannotReadFirst};
-ghost use Rattle.std.specs.List.{AllZip};
-ghost use Rattle.adr_text.specs.declared.refusal.Refusal.TheVariants.{OutOfMemory, Store};
-ghost use Rattle.adr_db.specs.Admitted.{IsNumber, IsResource, AreResources, ReadsNumber, ReadsResource, ReadsResourceEntry};
+ghost use Rattle.adr_db.specs.Refusals.{RefusesToPut, RefusesToShow, CannotReadAll, CannotReadFirst};
+ghost use Rattle.adr_text.specs.declared.refusal.Refusal.TheVariants.{Store};
+ghost use Rattle.adr_db.specs.Admitted.{IsNumber, IsResource, ReadsNumber, ReadsResource};
 ghost use Rattle.adr_db.specs.Calls.{LeavesKept, Finds, IsOfStore};
 
 use adr_db::cells::number;
 use adr_db::reading::{all_of, first_of};
 use adr_db::statement::run;
 use adr_objects::{Number, ResourceName};
-use adr_state::{Resource, Resources};
+use adr_state::Resource;
 use adr_text::{Refusal, Rows};
 use sqlite::types::ToSql;
 use sqlite::{Alter, Transaction};
@@ -31,8 +30,6 @@ const REMOVE: &str = "DELETE FROM resource WHERE id = ?1";
 
 const READ_ONE: &str =
     "SELECT id, ven, name, created, modified FROM resource WHERE id = ?1 ORDER BY id";
-
-const READ_ALL: &str = "SELECT id, ven, name, created, modified FROM resource ORDER BY id";
 
 const READ_NAMED: &str = "SELECT id FROM resource WHERE name = ?1 ORDER BY id";
 
@@ -72,21 +69,6 @@ pub fn remove_resource<S: Alter>(tx: &mut Transaction<'_, S>, id: Number) -> Res
     run(tx, REMOVE, &[number(id.get())?])
 }
 
-// More than a node has is the store's refusal.
-fn resources_of(alloc: Global, rows: Rows<(Number, Resource)>) -> Result<Resources, Refusal>
-    ensures map { IfOk result (λ resources. resources ≡ map_of nat_cmp rows) }
-    ensures refused { IfErr result (λ refusal. (refusal ≡ OutOfMemory) ⊎ ((refusal ≡ Store) × (10_000 < length rows))) }
-{
-    let mut resources = Resources::new(alloc);
-    'rows: for row in rows.into_vec() {
-        if resources.len() >= 10_000 {
-            return Err(Refusal::Store);
-        }
-        resources.put(row.0, row.1)?;
-    }
-    Ok(resources)
-}
-
 /// The resource of a number, where there is one.
 pub fn read_resource<S: Alter>(
     alloc: Global,
@@ -99,20 +81,6 @@ pub fn read_resource<S: Alter>(
     ensures fails { RefusesToShow S.Store tx.old.conn.now tx.new.conn.now READ_ONE.now (number_row id) (CannotReadFirst IsResource ReadsResource) result }
 {
     first_of(alloc, tx, READ_ONE, &[number(id.get())?])
-}
-
-/// The resources, by their numbers.
-pub fn read_resources<S: Alter>(
-    alloc: Global,
-    tx: &mut Transaction<'_, S>,
-) -> Result<Resources, Refusal>
-    ensures lent { LeavesLent S.Store tx.old.conn tx.new.conn result }
-    ensures finds { Finds S.Store tx.old.conn.now tx.new.conn.now (λ kept resources. resources ≡ kept.portfolio.resources) result }
-    ensures refused { IfErr result IsOfStore }
-    ensures fails { RefusesToShow S.Store tx.old.conn.now tx.new.conn.now READ_ALL.now [] (CannotRead AreResources (AllZip ReadsResourceEntry)) result }
-{
-    let entries = all_of(alloc, tx, READ_ALL, &[])?;
-    resources_of(alloc, entries)
 }
 
 /// The numbers of the resources that have a name, in their order.

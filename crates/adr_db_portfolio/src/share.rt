@@ -6,7 +6,7 @@ ghost use Rattle.adr_state.specs.Portfolios.{with_share, without_share};
 ghost use Rattle.adr_db.specs.Kept.{with_portfolio};
 ghost use Rattle.adr_db.specs.Rows.{number_row, share_key_row, share_row};
 ghost use Rattle.adr_db.specs.Refusals.{RefusesToPut, RefusesToShow, CannotReadAll, CannotReadFirst};
-ghost use Rattle.adr_db.specs.Admitted.{IsShareKey, IsShareWeight, IsShare, ReadsShareKey, ReadsShareWeight, ReadsShare};
+ghost use Rattle.adr_db.specs.Admitted.{IsShareKey, IsShareWeight, ReadsShareKey, ReadsShareWeight, ReadsShare};
 ghost use Rattle.adr_db.specs.Calls.{LeavesKept, Finds, IsOfStore};
 
 use adr_db::cells::number;
@@ -88,7 +88,7 @@ pub fn read_shares<S: Alter>(
     ensures lent { LeavesLent S.Store tx.old.conn tx.new.conn result }
     ensures finds { Finds S.Store tx.old.conn.now tx.new.conn.now (λ kept shares. shares ≡ kept.portfolio.shares) result }
     ensures refused { IfErr result IsOfStore }
-    ensures fails { RefusesToShow S.Store tx.old.conn.now tx.new.conn.now READ_ALL.now [] (CannotReadAll IsShare ReadsShare) result }
+    ensures fails { RefusesToShow S.Store tx.old.conn.now tx.new.conn.now READ_ALL.now [] (CannotReadAll (λ e. IsShareKey e.0 × IsShareWeight e.1) ReadsShare) result }
 {
     let entries = all_of(alloc, tx, READ_ALL, &[])?;
     table_of(alloc, entries)

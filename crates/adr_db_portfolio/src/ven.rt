@@ -9,15 +9,15 @@ ghost use Rattle.adr_db.specs.Kept.{numbers_named, with_portfolio};
 ghost use Rattle.adr_db.specs.Rows.{ven_row, number_row};
 ghost use Rattle.adr_db.specs.Refusals.{RefusesToPut, RefusesToShow, CannotReadAll, CannotReadFirst};
 ghost use Rattle.sqlite.specs.declared.types.Value.TheVariants.{Text};
-ghost use Rattle.adr_db.specs.Admitted.{IsNumber, IsVen, IsVenEntry, ReadsNumber, ReadsVen, ReadsVenEntry};
+ghost use Rattle.adr_db.specs.Admitted.{IsNumber, IsVen, ReadsNumber, ReadsVen};
 ghost use Rattle.adr_db.specs.Calls.{LeavesKept, Finds, IsOfStore};
 
 use adr_db::cells::number;
-use adr_db::reading::{all_of, first_of, table_of};
+use adr_db::reading::{all_of, first_of};
 use adr_db::statement::run;
 use adr_objects::Number;
 use adr_state::Ven;
-use adr_text::{Name, Refusal, Rows, Table};
+use adr_text::{Name, Refusal, Rows};
 use sqlite::types::ToSql;
 use sqlite::{Alter, Transaction};
 use std::alloc::Global;
@@ -28,8 +28,6 @@ const PUT: &str =
 const REMOVE: &str = "DELETE FROM ven WHERE id = ?1";
 
 const READ_ONE: &str = "SELECT id, name, created, modified FROM ven WHERE id = ?1 ORDER BY id";
-
-const READ_ALL: &str = "SELECT id, name, created, modified FROM ven ORDER BY id";
 
 const READ_NAMED: &str = "SELECT id FROM ven WHERE name = ?1 ORDER BY id";
 
@@ -75,20 +73,6 @@ pub fn read_ven<S: Alter>(
     ensures fails { RefusesToShow S.Store tx.old.conn.now tx.new.conn.now READ_ONE.now (number_row id) (CannotReadFirst IsVen ReadsVen) result }
 {
     first_of(alloc, tx, READ_ONE, &[number(id.get())?])
-}
-
-/// The vens, by their numbers.
-pub fn read_vens<S: Alter>(
-    alloc: Global,
-    tx: &mut Transaction<'_, S>,
-) -> Result<Table<Number, Ven>, Refusal>
-    ensures lent { LeavesLent S.Store tx.old.conn tx.new.conn result }
-    ensures finds { Finds S.Store tx.old.conn.now tx.new.conn.now (λ kept vens. vens ≡ kept.portfolio.vens) result }
-    ensures refused { IfErr result IsOfStore }
-    ensures fails { RefusesToShow S.Store tx.old.conn.now tx.new.conn.now READ_ALL.now [] (CannotReadAll IsVenEntry ReadsVenEntry) result }
-{
-    let entries = all_of(alloc, tx, READ_ALL, &[])?;
-    table_of(alloc, entries)
 }
 
 /// The numbers of the vens that have a name, in their order.

@@ -1,19 +1,18 @@
 -- The statements on the table `stamp`.
 use Rattle.std.proofs.Common.{ℕ, List, [], ◌∷◌, codes, refl}
 use Rattle.adr_db.proofs.Common.{Null, lit, col, understood, everything}
-use Rattle.adr_db_state.specs.declared.stamp.TheConstants.{PUT, REMOVE, READ_ONE, READ_ALL}
+use Rattle.adr_db_state.specs.declared.stamp.TheConstants.{PUT, REMOVE, READ_ONE}
 use Rattle.adr_db.proofs.Maps.{stamp_map}
 use Rattle.adr_db.proofs.KeptMaps.{HasTexts}
 
 abbrev columns : List (List ℕ)
 columns = codes "kind" ∷ codes "a" ∷ codes "b" ∷ codes "created" ∷ codes "modified" ∷ []
 
-pub texts : HasTexts stamp_map PUT.now REMOVE.now READ_ONE.now READ_ALL.now
+pub texts : HasTexts stamp_map PUT.now REMOVE.now READ_ONE.now
 unfolding understood everything
 texts = record {
   puts = λ e. record { terms = lit Null ∷ col 0 0 ∷ col 0 1 ∷ col 0 2 ∷ col 0 3 ∷ col 0 4 ∷ []; met = 5; sets = col 0 7 ∷ col 0 8 ∷ col 0 9 ∷ col 0 10 ∷ col 0 11 ∷ []; command = refl; alone = (refl, refl); given = refl; meets = λ id next r. refl; writes = λ id next r. refl };
   fit = λ e. record { fits = refl; full = refl; width = refl };
   removes = record { command = refl; alone = (refl, refl); flat = refl; joins = refl };
   reads_one = record { names = columns; command = refl; alone = (refl, refl); unlisted = refl; from = refl; order = refl; ungrouped = refl; undistinct = refl; joins = refl; sorts = refl; shows = refl };
-  reads_all = record { names = columns; command = refl; alone = (refl, refl); unlisted = refl; from = refl; order = refl; ungrouped = refl; undistinct = refl; joins = refl; sorts = refl; shows = refl };
 }

@@ -1,22 +1,21 @@
 //! The table `stamp`: the stamps of what is shown.
-ghost use Rattle.std.specs.Prelude.{◌≡◌, [], IfErr};
+ghost use Rattle.std.specs.Prelude.{◌≡◌, IfErr};
 ghost use Rattle.adr_state.specs.Keys.{view_cmp, at};
 ghost use Rattle.adr_sql.specs.Calls.{LeavesLent};
 ghost use Rattle.adr_db.specs.Kept.{with_stamps, without_stamps};
 ghost use Rattle.adr_db.specs.Rows.{view_kind, view_id, view_number, view_key_row, stamp_row};
-ghost use Rattle.adr_db.specs.Refusals.{RefusesToPut, RefusesToShow, CannotReadAll, CannotReadFirst};
-ghost use Rattle.adr_db.specs.Admitted.{AreStamps, IsStamped, ReadsStamps, ReadsStamped};
+ghost use Rattle.adr_db.specs.Refusals.{RefusesToPut, RefusesToShow, CannotReadFirst};
+ghost use Rattle.adr_db.specs.Admitted.{AreStamps, ReadsStamps};
 ghost use Rattle.adr_db.specs.Calls.{LeavesKept, Finds, IsOfStore};
 
 use adr_db::cells::number;
-use adr_db::reading::{all_of, first_in, table_of};
+use adr_db::reading::first_in;
 use adr_db::statement::{rows_of, run};
 use adr_objects::Stamps;
 use adr_state::ViewKey;
-use adr_text::{Refusal, Table};
+use adr_text::Refusal;
 use sqlite::types::ToSql;
 use sqlite::{Alter, Transaction};
-use std::alloc::Global;
 
 const PUT: &str =
     "INSERT INTO stamp (kind, a, b, created, modified) VALUES (?1, ?2, ?3, ?4, ?5) ON CONFLICT (kind, a, b) DO UPDATE SET kind = excluded.kind, a = excluded.a, b = excluded.b, created = excluded.created, modified = excluded.modified";
@@ -25,8 +24,6 @@ const REMOVE: &str = "DELETE FROM stamp WHERE kind = ?1 AND a = ?2 AND b = ?3";
 
 const READ_ONE: &str =
     "SELECT kind, a, b, created, modified FROM stamp WHERE kind = ?1 AND a = ?2 AND b = ?3 ORDER BY kind, a, b";
-
-const READ_ALL: &str = "SELECT kind, a, b, created, modified FROM stamp ORDER BY kind, a, b";
 
 /// 1 a program, 2 what a resource is shown of an event, 3 a report, 4 the roll-up of an event.
 fn view_kind(key: &ViewKey) -> u32
@@ -120,19 +117,4 @@ pub fn read_stamps_of<S: Alter>(
         &[view_kind(key).to_sql(), view_id(key).to_sql(), n],
     )?;
     first_in(*rows.allocator(), &rows)
-}
-
-/// The stamps of all that is shown: programs by the bytes of their ids; then events so too, and those of one id
-/// by the numbers of their resources; then reports by their numbers; last roll-ups by the bytes of their ids.
-pub fn read_stamps<S: Alter>(
-    alloc: Global,
-    tx: &mut Transaction<'_, S>,
-) -> Result<Table<ViewKey, Stamps>, Refusal>
-    ensures lent { LeavesLent S.Store tx.old.conn tx.new.conn result }
-    ensures finds { Finds S.Store tx.old.conn.now tx.new.conn.now (λ kept stamps. stamps ≡ kept.stamps) result }
-    ensures refused { IfErr result IsOfStore }
-    ensures fails { RefusesToShow S.Store tx.old.conn.now tx.new.conn.now READ_ALL.now [] (CannotReadAll IsStamped ReadsStamped) result }
-{
-    let entries = all_of(alloc, tx, READ_ALL, &[])?;
-    table_of(alloc, entries)
 }

@@ -1,8 +1,8 @@
 -- What the layers below carry out is what the command decides.
-use Rattle.std.proofs.Common.{◌≡◌, ◌⊎◌, inl, inr, ℕ, ◌+◌, Bool, List, [], Option, None, Some, Result, Ok, Err, IfErr, refl, sym, ap, subst, ◌∙◌}
+use Rattle.std.proofs.Common.{◌≡◌, ◌⊎◌, inl, inr, ℕ, ◌+◌, Bool, List, [], Option, Some, Result, Ok, Err, IfErr, refl, sym, ap, subst, ◌∙◌}
 use Rattle.std.proofs.lemmas.Result.{IfErr-weaker}
 use Rattle.std.specs.Result.{IsErrAnd}
-use Rattle.adr_db.proofs.Common.{Ghosts, Held, state, IsRefusalOf, Refusal, OutOfMemory, Store, Base, PortfolioChange, BaseChange, JoinMarks, SetScan, ChangePortfolio, changed, MirrorKey, scan_begin, scan_end, Limits}
+use Rattle.adr_db.proofs.Common.{Ghosts, Held, state, IsRefusalOf, Refusal, OutOfMemory, Store, Base, PortfolioChange, BaseChange, JoinMarks, SetScan, ChangePortfolio, changed, MirrorKey, scan_begin, Limits}
 use Rattle.adr_text.specs.Refusals.{◌>>=◌, Fails}
 use Rattle.adr_subscription.specs.declared.subscription.SubIn.{SubIn}
 use Rattle.adr_subscription.specs.Callbacks.{settled}
@@ -15,7 +15,6 @@ use Rattle.adr_db.specs.BaseCalls.{Carries, Makes, RefusesOn}
 use Rattle.adr_db.specs.Calls.{IsOfStore}
 use Rattle.adr_machine.specs.declared.outcome.Outcome.{Outcome}
 use Rattle.adr_machine.specs.declared.outcome.Outcome.TheVariants as outcome
-use Rattle.adr_mirror.specs.Missed.{closing}
 use Rattle.adr_db.proofs.Results.{refused_so}
 use Rattle.sqlite.specs.State.{HasCleanDisk}
 use Rattle.adr_db.specs.Images.{image_kept}
@@ -30,7 +29,7 @@ use Rattle.adr_machine.specs.Edits.{draws_number, Decision, counted, answered, o
 use Rattle.adr_machine.specs.declared.command.Command.{Command}
 use Rattle.adr_machine.specs.declared.command.Command.TheVariants.{Lease, Sent, Failed}
 use Rattle.adr_db.specs.Kept.{Kept, Keeps, first_meta}
-use Rattle.adr_events.proofs.OrderLemmas.{held_in_order}
+use Rattle.adr_kept_view.proofs.OrderLemmas.{held_in_order}
 use Rattle.adr_commit.proofs.Quiet.{same_rows}
 use Rattle.adr_touched.specs.declared.touched.Touched.{Touched}
 use Rattle.adr_touched.specs.Touched.{Covers, CoversWhatTouchesNothing}
@@ -132,20 +131,6 @@ module _ {S : Type 0} (g : Ghosts S) (old new : Held S) where
       (λ base e h. then_refused e (Ok scan_begin) (λ change. Ok (answered answer.Done change)) h)
       (λ base change x is right. let same : scan_begin ≡ change = cc is in scan_covers touched none (Some []) base change same)
       r makes (λ clean. IfErr-weaker r IsOfStore _ (λ e h beside base was same. of_store e _ h) refused)
-
-  -- a scan is closed
-  pub ended_carries : (touched : Touched) → CoversWhatTouchesNothing touched → (before after : Meta) (r : Result (List MirrorKey) Refusal) → Makes g old new closing before after (λ base made keys. scan_end base ≡ Ok (keys, SetScan None)) r → RefusesOn g old new closing before r
-      → CarriesOut g old new (λ base. scan_end base >>= λ d. Ok (answered (answer.Probes d.0) d.1)) before after (told_by (with_touched touched) (told_by (λ keys. outcome.Told (answer.Probes keys)) r))
-  ended_carries touched none before after =
-      base_carries (λ keys. outcome.Told (answer.Probes keys)) closing _ touched before after _
-      (λ base change keys is right. ap (λ (r : Result (List MirrorKey × BaseChange) Refusal). r >>= λ d. Ok (answered (answer.Probes d.0) d.1)) right ∙ ap (λ (change : BaseChange). Ok (answered (answer.Probes keys) change)) (closes base change keys is right))
-      (λ base e h. told_refused e (scan_end base) (λ d. d.1) (λ d. answered (answer.Probes d.0) d.1) h)
-      (λ base change keys is right. scan_covers touched none None base change (closes base change keys is right))
-    where
-      closes : (base : Base) (change : BaseChange) (keys : List MirrorKey) → closing base ≡ Ok change → scan_end base ≡ Ok (keys, SetScan None) → SetScan None ≡ change
-      closes base change keys is right =
-          let two : ◌≡◌ {A = Result BaseChange Refusal} (Ok (SetScan None)) (Ok change) = sym (ap (λ (r : Result (List MirrorKey × BaseChange) Refusal). r >>= λ d. Ok d.1) right) ∙ is in
-          cc two
 
 -- want of memory and the store's refusal stand in place of any
 module _ {S : Type 0} (g : Ghosts S) (old new : Held S) (decide : Base → Result Decision Refusal) (before after : Meta) where

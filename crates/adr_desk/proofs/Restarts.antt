@@ -1,13 +1,11 @@
 -- What is left of a desk, and what is found of it.
-use Rattle.std.proofs.Common.{◌≡◌, ◌⊎◌, inl, inr, false, Option, Some, None, Result, Ok, Err, IfSome, IfOk, OnOk, sym, ap, subst, ◌∙◌}
+use Rattle.std.proofs.Common.{◌≡◌, ◌⊎◌, inl, inr, false, Option, Some, None, Result, Ok, Err, IfSome, OnOk, sym, subst}
 use Rattle.std.specs.Prelude.{is_err}
-use Rattle.adr_db.proofs.Common.{Trees, HasCleanDisk, Refusal}
+use Rattle.adr_db.proofs.Common.{Trees, HasCleanDisk}
 use Rattle.sqlite.specs.State.{Survives}
 use Rattle.sqlite.specs.State as sql
 use Rattle.adr_state.specs.declared.state.State.{State}
 use Rattle.adr_held.specs.Held.{HoldsState, HoldsInEither, AreLeftWith, AreLeftFirst, AreLeftInEither}
-use Rattle.adr_queries.specs.declared.answer.Answer.{Answer}
-use Rattle.adr_desk.specs.Restarts.{IsStepOf}
 use Rattle.adr_desk.proofs.Transactions.{left_now}
 
 pub some_then : {T : Type 0} {P Q : T → Type 0} (o : Option T) → ((x : T) → P x → Q x) → IfSome o P → IfSome o Q
@@ -43,8 +41,3 @@ recovered recovers x y is = subst recovers (sym is)
 pub before_or_after : (old new : sql.State) (IsAfter : State → Trees → Type 0) (held : State) → Survives old new (λ trees. (h : State) → HoldsState h old → IsAfter h trees) → HasCleanDisk new
     → ((trees : Trees) → old.may_leave trees → trees ≡ old.now.trees) → HoldsState held old → (trees : Trees) → new.may_leave trees → AreLeftWith held trees ⊎ IsAfter held trees
 before_or_after old new IsAfter held survives clean leaves was trees may = elim (survives.crash clean trees may) [ inl early ↦ inl (left_by held old trees (leaves trees early) was) | inr late ↦ inr (late held was) ]
-
--- a step that was taken leads to the state that is found
-pub step_led : {Sound : Type 0} (r : Result Answer Refusal) (stepped : Result (Answer × State) Refusal) (held again : State) → is_err r ≡ false → IfOk r (λ answer. Sound → stepped ≡ Ok (answer, held)) → Sound → again ≡ held → IsStepOf stepped again
-step_led (Ok answer) stepped held again ok leads sound same = (answer, leads sound ∙ ap (λ (t : State). Ok (answer, t)) (sym same))
-step_led (Err e) stepped held again ok leads sound same = absurd cc

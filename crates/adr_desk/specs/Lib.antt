@@ -1,3 +1,4 @@
+pub mod Asking
 pub mod Transactions
 pub mod Steps
 pub mod Decisions
@@ -9,3 +10,4 @@ pub mod Laws
 pub mod Preparing
 pub mod Restarts
 pub mod Ends
+pub mod Inspected

@@ -1,11 +1,9 @@
 -- What a desk finds of what an earlier one left.
-use Rattle.std.specs.Prelude.{◌≡◌, Result, Ok}
+use Rattle.std.specs.Prelude.{◌≡◌}
 use Rattle.sqlite.specs.Store.{Ghosts}
 use Rattle.sqlite.specs.Tree.{Trees}
-use Rattle.adr_text.specs.declared.refusal.Refusal.{Refusal}
 use Rattle.adr_state.specs.declared.state.State.{State}
 use Rattle.adr_held.specs.Held.{AreLeftInEither}
-use Rattle.adr_queries.specs.declared.answer.Answer.{Answer}
 use Rattle.adr_desk.specs.declared.desk.SqlDesk.{SqlDesk}
 use Rattle.adr_desk.specs.Desks.{state_of, IsSound}
 
@@ -17,7 +15,3 @@ module _ {S : Type 0} (g : Ghosts S) where
   -- so it is of one of the outcomes of a crash
   abbrev pub Finds : (Trees → Type 0) → SqlDesk S g → Type 0
   Finds may_leave again = (trees : Trees) × may_leave trees × FindsLeft trees again
-
--- a step leads to this state
-abbrev pub IsStepOf : Result (Answer × State) Refusal → State → Type 0
-IsStepOf stepped held = (answer : Answer) × (stepped ≡ Ok (answer, held))

@@ -1,5 +1,5 @@
 -- What is told of a command, and what becomes of the outbox that the tables hold.
-use Rattle.std.specs.Prelude.{◌≡◌, ℕ, true, false, List, [], length, Result, Ok, IfOk, IfErr, OnOk, All}
+use Rattle.std.specs.Prelude.{◌≡◌, ℕ, true, false, length, Result, Ok, IfOk, IfErr, OnOk, All}
 use Rattle.sqlite.specs.Store.{Ghosts}
 use Rattle.sqlite.specs.Held.{Held, state}
 use Rattle.sqlite.specs.State.{State, HasCleanDisk}

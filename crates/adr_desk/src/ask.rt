@@ -5,39 +5,24 @@ ghost use Rattle.adr_sql.specs.Calls.{LeavesLent};
 ghost use Rattle.adr_queries.specs.declared.query.Query.TheVariants as query;
 ghost use Rattle.adr_queries.specs.Listed.{listed_for, IsListed};
 ghost use Rattle.adr_queries.specs.Replies.{reply};
+ghost use Rattle.adr_desk.specs.Asking.{is_lent};
 ghost use Rattle.adr_desk.specs.Steps.{TellsTables, RefusesAs};
 ghost use Rattle.adr_desk.specs.Transactions.{IsDropped};
 
 use crate::frame::begin;
-use crate::listing::events;
+use crate::listing::page;
 use crate::report_listing::reports;
 use crate::scans::first_missed;
 use crate::site_listing::{subs, vens};
 use crate::totals::counted;
 use adr_answers::{frozen, program, programs, report, resource, shares, sight_in, sub, ven};
-use adr_db_state::read_state;
-use adr_machine::{Answer, Query, Role, is_operator, reply, rollup_told};
+use adr_machine::{Answer, Query, Role, is_operator, rollup_told};
 use adr_pages::event;
 use adr_reports::rollup;
 use adr_site_pages::resources;
 use adr_text::{ObjectId, Refusal};
 use sqlite::{Alter, Connection, Transaction};
 use std::alloc::{AllocError, Global};
-
-/// The reply to a query, by the whole state.
-fn replied<S: Alter>(
-    alloc: Global,
-    tx: &mut Transaction<'_, S>,
-    query: &Query,
-) -> Result<Answer, Refusal>
-    ensures lent { LeavesLent S.Store tx.old.conn tx.new.conn result }
-    ensures tells { TellsTables (λ held. reply held query.now) (state S.Store tx.old.conn.now) (state S.Store tx.new.conn.now) result }
-    ensures refuses { RefusesAs (λ held. reply held query.now) (state S.Store tx.old.conn.now) (state S.Store tx.new.conn.now) result }
-    ensures listed { IfErr result (IsListed (Unit {0}) (listed_for query.now)) }
-{
-    let state = read_state(alloc, tx)?;
-    reply(alloc, &state, query)
-}
 
 /// The event of an id, by its own row.
 fn one_event<S: Alter>(
@@ -80,13 +65,13 @@ fn rolled_up<S: Alter>(
     rollup_told(copy_of(event)?, found)
 }
 
-/// The reply to a query, on a lent transaction, by the rows of what is asked for. Listings of events, of vens, of reports and of
-/// subscriptions and the keys that a scan missed, which `ask_in` answers in another way, are answered by all there is.
+/// The reply to a query, on a lent transaction, by the rows of what is asked for.
 fn asked<S: Alter>(
     alloc: Global,
     tx: &mut Transaction<'_, S>,
     query: &Query,
 ) -> Result<Answer, Refusal>
+    requires { is_lent query.now ≡ false }
     ensures lent { LeavesLent S.Store tx.old.conn tx.new.conn result }
     ensures tells { TellsTables (λ held. reply held query.now) (state S.Store tx.old.conn.now) (state S.Store tx.new.conn.now) result }
     ensures refuses { RefusesAs (λ held. reply held query.now) (state S.Store tx.old.conn.now) (state S.Store tx.new.conn.now) result }
@@ -95,21 +80,21 @@ fn asked<S: Alter>(
     match query {
         Query::Programs { role, page } => programs(alloc, tx, role, *page),
         Query::Program { role, id } => program(alloc, tx, role, id),
-        Query::Events { .. } => replied(alloc, tx, query),
         Query::Event { role, id } => one_event(alloc, tx, role, id),
-        Query::Vens { .. } => replied(alloc, tx, query),
         Query::Ven { role, id } => ven(alloc, tx, role, id),
         Query::Resources { role, ven, page } => resources(alloc, tx, role, ven, *page),
         Query::Resource { role, ven, id } => resource(alloc, tx, role, ven, id),
         Query::Shares { role, program } => shares(alloc, tx, role, program),
         Query::Frozen { role, event } => frozen(alloc, tx, role, event),
-        Query::Reports { .. } => replied(alloc, tx, query),
         Query::Report { role, id } => report(alloc, tx, role, id),
         Query::Rollup { role, event } => rolled_up(alloc, tx, role, event),
-        Query::Subs { .. } => replied(alloc, tx, query),
         Query::Sub { role, id } => sub(alloc, tx, role, id),
         Query::Outbox { role } => counted(tx, role),
-        Query::Probes { .. } => replied(alloc, tx, query),
+        Query::Events { .. }
+        | Query::Vens { .. }
+        | Query::Reports { .. }
+        | Query::Subs { .. }
+        | Query::Probes { .. } => unreachable!(),
     }
 }
 
@@ -119,7 +104,8 @@ fn asked_at_once<S: Alter>(
     conn: &mut Connection<S>,
     query: &Query,
 ) -> Result<Answer, Refusal>
-    requires { conn.old.in_transaction ≡ false }
+    requires settled { conn.old.in_transaction ≡ false }
+    requires at_once { is_lent query.now ≡ false }
     ensures tells { TellsTables (λ held. reply held query.now) (state S.Store conn.old) (state S.Store conn.new) result }
     ensures refuses { RefusesAs (λ held. reply held query.now) (state S.Store conn.old) (state S.Store conn.new) result }
     ensures listed { IfErr result (IsListed (Unit {0}) (listed_for query.now)) }
@@ -129,7 +115,8 @@ fn asked_at_once<S: Alter>(
     asked(alloc, &mut tx, query)
 }
 
-/// The reply to a query. Whatever transaction is begun for it is dropped, so a crash leaves what it could before.
+/// The reply to a query. Listings of events, of vens, of reports and of subscriptions and the keys that a scan missed are told as
+/// their rows are lent, all else in a transaction. Whatever transaction is begun for it is dropped, so a crash leaves what it could before.
 pub(crate) fn ask_in<S: Alter>(
     alloc: Global,
     conn: &mut Connection<S>,
@@ -142,7 +129,11 @@ pub(crate) fn ask_in<S: Alter>(
     ensures dropped { IsDropped S.Store conn.old conn.new }
 {
     match query {
-        Query::Events { role, filter, page } => events(alloc, conn, role, filter, *page),
+        Query::Events {
+            role,
+            filter,
+            page: part,
+        } => page(alloc, conn, role, filter, *part),
         Query::Vens { role, page } => vens(alloc, conn, role, *page),
         Query::Reports { role, filter, page } => reports(alloc, conn, role, filter, *page),
         Query::Subs { role, filter, page } => subs(alloc, conn, role, filter, *page),

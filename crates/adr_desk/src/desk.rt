@@ -18,11 +18,13 @@ ghost use Rattle.adr_queries.specs.Replies.{reply};
 ghost use Rattle.adr_machine.specs.Steps.{step, image_of};
 ghost use Rattle.adr_desk.specs.Preparing.{Becomes, AreKnown};
 ghost use Rattle.adr_desk.specs.declared.ready.Start.TheVariants.{Kept};
+ghost use Rattle.adr_desk.specs.Inspected.{ReadsTables};
 ghost use Rattle.adr_desk.specs.Since.{HoldsSince};
 ghost use Rattle.adr_desk.specs.Steps.{step_by, LeftStepped};
 
 use crate::ask::ask_in;
 use crate::image::image_in;
+use crate::inspect::inspect_in;
 use crate::kept::keep;
 use crate::laws::last_commit_is_left;
 use crate::ready::{Start, prepare};
@@ -127,7 +129,7 @@ impl<S: Alter + Drop> SqlDesk<S> {
 }
 
 impl<S: Alter> SqlDesk<S> {
-    ghost use Rattle.adr_desk.specs.Desks.{shown, state_of, IsSound};
+    ghost use Rattle.adr_desk.specs.Desks.{shown, settings_of, state_of, IsSound, Stands};
 
     /// Until the next call a crash leaves what a sound desk holds, and nothing else.
     pub fn rests(&self)
@@ -137,6 +139,22 @@ impl<S: Alter> SqlDesk<S> {
         last_commit_is_left(&self.conn);
         let is_settled = self.conn.is_autocommit();
         prove!(is_settled);
+    }
+
+    /// Reads every row of each table that keeps the state, each alone, and lets it go: where one reads as none of the node's, the file
+    /// is damaged, which is the store's refusal. What `head`, `shown` and `rollup` hold follows from the others and is not read. The
+    /// state stays.
+    pub fn inspect(&mut self) -> Result<(), Refusal>
+        ensures read { HasCleanDisk (shown S.Store self.new) → OnOk result (ReadsTables S.Store self.old.conn (shown S.Store self.new)) }
+        ensures unchanged { IsSound S.Store self.new → state_of S.Store self.new ≡ state_of S.Store self.old }
+        ensures was_sound { IsSound S.Store self.new → IsSound S.Store self.old }
+        ensures stays_sound { IsSound S.Store self.old → Stands S.Store self.new → IsSound S.Store self.new }
+        ensures stood { Stands S.Store self.new → Stands S.Store self.old }
+        ensures same_settings { settings_of self.new ≡ settings_of self.old }
+        ensures refused { IfErr result IsOfStore }
+        ensures crash { Survives (shown S.Store self.old) (shown S.Store self.new) (λ _. ⊥) }
+    {
+        inspect_in(self.alloc, &mut self.conn)
     }
 
     /// The desk is given up: what it is set to, and its database as it stands.

@@ -12,6 +12,7 @@ mod ended;
 mod evidence;
 mod frame;
 mod image;
+mod inspect;
 mod kept;
 pub mod laws;
 mod listing;
@@ -29,4 +30,5 @@ mod told;
 mod totals;
 
 pub use desk::{MemoryDesk, SqlDesk};
+pub use listing::page;
 pub use ready::Start;

@@ -87,9 +87,10 @@ fn objects_in<S: Alter>(
     objects_of(alloc, &mut tx, rows)
 }
 
-/// The events that a role sees and the filter wants, or `Forbidden`. What is kept of them is read row by row, as far as the page
-/// goes, and then the stamps of those that are told. Whatever is begun on the way is dropped.
-pub(crate) fn events<S: Alter>(
+/// A page of events: of those that the role sees and the filter wants, in the order of their keys, at most as many as its limit
+/// behind those that it skips; `Forbidden` for a ven that isn't enrolled. What is kept of them is read row by row, as far as the
+/// page goes, and then the stamps of those that are told. Whatever is begun on the way is dropped.
+pub fn page<S: Alter>(
     alloc: Global,
     conn: &mut Connection<S>,
     role: &Role,

@@ -11,6 +11,7 @@ ghost use Rattle.adr_db.specs.Calls.{IsOfStore};
 ghost use Rattle.adr_machine.specs.Edits.{edit_of};
 ghost use Rattle.adr_queries.specs.Listed.{IsListed};
 ghost use Rattle.adr_machine.specs.Listed.{listed};
+ghost use Rattle.adr_desk.specs.Asking.{ends_scan};
 ghost use Rattle.adr_desk.specs.Decisions.{IsAnswered};
 ghost use Rattle.adr_desk.specs.Steps.{step_of, step_by, EditsTables, CommitsTables, RefusesToCommit, StepsTables, RefusesAs, HoldsStepped, LeftStepped};
 
@@ -55,6 +56,7 @@ fn numbered<S: Alter>(
     meta: &mut Meta,
     command: &Command,
 ) -> Result<(Outcome, Touched), Refusal>
+    requires { ends_scan command.now ≡ false }
     ensures lent { LeavesLent S.Store tx.old.conn tx.new.conn result }
     ensures makes { EditsTables (λ base. edit_of limits.now now base command.now) meta.old meta.new (state S.Store tx.old.conn.now) (state S.Store tx.new.conn.now) result }
     ensures refuses { RefusesOn S.Store tx.old.conn.now tx.new.conn.now (λ base. edit_of limits.now now base command.now) meta.old result }
@@ -78,6 +80,7 @@ fn committed<S: Alter>(
     meta: &mut Meta,
     command: &Command,
 ) -> Result<Answer, Refusal>
+    requires { ends_scan command.now ≡ false }
     ensures lent { LeavesLent S.Store tx.old.conn tx.new.conn result }
     ensures makes { CommitsTables (step_of settings.now (λ base. edit_of settings.now.limits now base command.now) now) meta.old meta.new (state S.Store tx.old.conn.now) (state S.Store tx.new.conn.now) result }
     ensures refuses { RefusesToCommit (step_of settings.now (λ base. edit_of settings.now.limits now base command.now) now) meta.old (state S.Store tx.old.conn.now) (state S.Store tx.new.conn.now) result }
@@ -99,6 +102,7 @@ fn acted<S: Alter>(
     meta: &mut Meta,
     command: &Command,
 ) -> Result<Answer, Refusal>
+    requires { ends_scan command.now ≡ false }
     ensures lent { LeavesLent S.Store tx.old.conn tx.new.conn result }
     ensures makes { CommitsTables (step_by settings.now now command.now) meta.old meta.new (state S.Store tx.old.conn.now) (state S.Store tx.new.conn.now) result }
     ensures refuses { RefusesToCommit (step_by settings.now now command.now) meta.old (state S.Store tx.old.conn.now) (state S.Store tx.new.conn.now) result }
@@ -119,6 +123,7 @@ fn stepped<S: Alter>(
     now: Moment,
     command: &Command,
 ) -> Result<Answer, Refusal>
+    requires { ends_scan command.now ≡ false }
     ensures lent { LeavesLent S.Store tx.old.conn tx.new.conn result }
     ensures makes { StepsTables (step_by settings.now now command.now) (state S.Store tx.old.conn.now) (state S.Store tx.new.conn.now) result }
     ensures refuses { RefusesAs (step_by settings.now now command.now) (state S.Store tx.old.conn.now) (state S.Store tx.new.conn.now) result }
@@ -138,7 +143,8 @@ fn apply_at_once<S: Alter>(
     now: Moment,
     command: &Command,
 ) -> Result<Answer, Refusal>
-    requires { conn.old.in_transaction ≡ false }
+    requires settled { conn.old.in_transaction ≡ false }
+    requires at_once { ends_scan command.now ≡ false }
     ensures whole { Commits S.Store conn.old conn.new
         (λ s. (held : State) → HoldsState held (state S.Store conn.old) → HoldsStepped (step_by settings.now now command.now) held s)
         (λ trees. (held : State) → HoldsState held (state S.Store conn.old) → LeftStepped (step_by settings.now now command.now) held trees)

@@ -9,6 +9,27 @@ use sqlite::{File, FileStore};
 #[derive(Drop)]
 pub struct FileDesk(pub SqlDesk<FileStore<File>>);
 
+impl FileDesk {
+    ghost use Rattle.std.specs.Prelude.{◌≡◌, OnOk, IfErr};
+    ghost use Rattle.sqlite.specs.State.{HasCleanDisk};
+    ghost use Rattle.sqlite.specs.Files.{over_files};
+    ghost use Rattle.adr_db.specs.Calls.{IsOfStore};
+    ghost use Rattle.adr_desk.specs.Desks.{settings_of, shown, state_of, IsSound, Stands};
+    ghost use Rattle.adr_desk.specs.Inspected.{ReadsTables};
+
+    /// Reads every row of each table that keeps the state, each alone, and lets it go (`SqlDesk::inspect`). The state stays.
+    pub fn inspect(&mut self) -> Result<(), Refusal>
+        ensures read { HasCleanDisk (shown over_files self.new.0) → OnOk result (ReadsTables over_files self.old.0.conn (shown over_files self.new.0)) }
+        ensures unchanged { IsSound over_files self.new.0 → state_of over_files self.new.0 ≡ state_of over_files self.old.0 }
+        ensures was_sound { IsSound over_files self.new.0 → IsSound over_files self.old.0 }
+        ensures stays_sound { IsSound over_files self.old.0 → Stands over_files self.new.0 → IsSound over_files self.new.0 }
+        ensures same_settings { settings_of self.new.0 ≡ settings_of self.old.0 }
+        ensures refused { IfErr result IsOfStore }
+    {
+        self.0.inspect()
+    }
+}
+
 impl Desk for FileDesk {
     ghost state = { λ d. ⟦<SqlDesk<FileStore<File>> as Desk>⟧.state d.0 };
 

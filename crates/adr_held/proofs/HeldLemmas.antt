@@ -17,7 +17,7 @@ use Rattle.adr_db.specs.Images.{image_kept}
 use Rattle.adr_db.specs.Kept.{first_meta}
 use Rattle.adr_db.specs.ReadBack.{state_in}
 use Rattle.adr_db.proofs.ReadBack.{base_again, kept_again}
-use Rattle.adr_events.proofs.OrderLemmas.{held_in_order}
+use Rattle.adr_kept_view.proofs.OrderLemmas.{held_in_order}
 use Rattle.adr_kept_view.specs.Changes.{owner_in}
 use Rattle.adr_kept_view.specs.KeptViews.{KeepsView}
 use Rattle.adr_kept_base.specs.Bases.{KeepsShown}

@@ -59,7 +59,7 @@ fn answer_lent<D: Desk>(
     ensures same_settings { D.settings taker.new.desk.now ≡ D.settings taker.old.desk.now }
     ensures same_desk { taker.new.desk.ghost_name ≡ taker.old.desk.ghost_name }
 {
-    answer_by(alloc, roles, routes, taker, request)
+    answer_by(alloc, roles, routes, taker, request, &mut Unseen)
 }
 
 /// Takes the step that a request asks for, at that moment, and gives the bytes of the reply. Where memory runs out for

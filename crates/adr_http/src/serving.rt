@@ -12,14 +12,14 @@ ghost use Rattle.adr_http.specs.declared.fault.ServeFault.TheVariants.{Read, Wri
 use crate::answering::answer_by;
 use crate::fault::ServeFault;
 use crate::outgoing::Outgoing;
-use crate::replying::problem_bytes;
+use crate::replying::problem_seen;
 use crate::roles::Roles;
 use crate::taker::Taker;
 use crate::witness::Witness;
 use adr_reply::Problem;
 use adr_request::{HttpRequest, read_request};
 use adr_routes::Routes;
-use adr_text::{Sink, Source};
+use adr_text::{Refusal, Sink, Source};
 use adr_wire::{MessageFault, ReadEnd, write_all};
 use std::alloc::Global;
 
@@ -35,53 +35,59 @@ fn fault_problem(fault: MessageFault) -> Problem
 }
 
 /// What is replied to a request.
-fn reply_to_request<T: Taker>(
+fn reply_to_request<T: Taker, V: Witness>(
     alloc: Global,
     roles: &Roles,
     routes: &Routes,
     taker: &mut T,
     request: &HttpRequest,
+    witness: &mut V,
 ) -> Outgoing
     ensures replied { IsReplied T.takes (T.client taker.old) taker.old (plan_of roles.now (request_parts request.now)) (outgoing_bytes result) taker.new }
     ensures once { TakesOnce T.takes taker.old taker.new }
 {
-    match answer_by(alloc, roles, routes, taker, request) {
+    match answer_by(alloc, roles, routes, taker, request, witness) {
         Ok(bytes) => Outgoing::Bytes(bytes),
         Err(_) => Outgoing::Memory,
     }
 }
 
 /// What is replied to bytes that are no request.
-fn reply_to_fault(alloc: Global, fault: MessageFault) -> Outgoing
+fn reply_to_fault<V: Witness>(alloc: Global, fault: MessageFault, witness: &mut V) -> Outgoing
     ensures { IsTold (outgoing_bytes result) fault }
 {
-    match problem_bytes(alloc, fault_problem(fault)) {
+    match problem_seen(alloc, fault_problem(fault), witness) {
         Ok(bytes) => Outgoing::Bytes(bytes),
         Err(_) => Outgoing::Memory,
     }
 }
 
 /// What is replied where no request was read; nothing, where a read failed.
-pub fn reply_to_end(alloc: Global, end: ReadEnd) -> Result<Outgoing, ServeFault>
+pub(crate) fn reply_to_end<V: Witness>(
+    alloc: Global,
+    end: ReadEnd,
+    witness: &mut V,
+) -> Result<Outgoing, ServeFault>
     ensures told { IfOk result (λ out. IsToldAtEnd (outgoing_bytes out) end) }
     ensures read_fault { result ≡ Err Read → end ≡ read_end.Reader }
     ensures no_write_fault { result ≢ Err Write }
     ensures no_read_fault { result ≢ Err Read → end ≢ read_end.Reader }
 {
     match end {
-        ReadEnd::Bytes(fault) => Ok(reply_to_fault(alloc, fault)),
+        ReadEnd::Bytes(fault) => Ok(reply_to_fault(alloc, fault, witness)),
         ReadEnd::OutOfMemory => Ok(Outgoing::Memory),
         ReadEnd::Reader => Err(ServeFault::Read),
     }
 }
 
 /// What is replied to what was read; nothing, where a read failed.
-fn reply_to_reading<T: Taker>(
+fn reply_to_reading<T: Taker, V: Witness>(
     alloc: Global,
     roles: &Roles,
     routes: &Routes,
     taker: &mut T,
     reading: &Result<HttpRequest, ReadEnd>,
+    witness: &mut V,
 ) -> Result<Outgoing, ServeFault>
     ensures served { IfOk result (λ out. (bytes : List ℕ) → IsReading request_parts reading.now (λ read. IsRequest bytes read) → IsServedBy T.takes (T.client taker.old) roles.now taker.old bytes (outgoing_bytes out) taker.new) }
     ensures read_fault { result ≡ Err Read → (reading.now ≡ Err read_end.Reader) × (taker.new ≡ taker.old) }
@@ -90,8 +96,16 @@ fn reply_to_reading<T: Taker>(
     ensures once { TakesOnce T.takes taker.old taker.new }
 {
     match reading {
-        Ok(request) => Ok(reply_to_request(alloc, roles, routes, taker, request)),
-        Err(end) => reply_to_end(alloc, *end),
+        Ok(request) => Ok(reply_to_request(alloc, roles, routes, taker, request, witness)),
+        Err(end) => reply_to_end(alloc, *end, witness),
+    }
+}
+
+// Tells of the reply for want of memory, which stands in place of the one that was told of.
+fn see_memory<V: Witness>(witness: &mut V, out: &Outgoing) {
+    match out {
+        Outgoing::Bytes(_) => (),
+        Outgoing::Memory => witness.replies(Refusal::OutOfMemory.status()),
     }
 }
 
@@ -123,8 +137,8 @@ pub fn serve<T: Taker, S: Source, W: Sink, V: Witness>(
 {
     let reading = read_request(alloc, source);
     witness.reads(&reading);
-    let out = reply_to_reading(alloc, roles, routes, taker, &reading)?;
-    witness.replies(&out);
+    let out = reply_to_reading(alloc, roles, routes, taker, &reading, witness)?;
+    see_memory(witness, &out);
     match write_all(sink, out.bytes()) {
         Ok(()) => Ok(()),
         Err(_) => Err(ServeFault::Write),

@@ -1,3 +1,4 @@
+pub mod OrderLemmas
 pub mod PickLemmas
 pub mod WriteLemmas
 pub mod FoundLemmas

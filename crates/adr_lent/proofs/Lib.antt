@@ -4,3 +4,4 @@ pub mod Cuts
 pub mod Queries
 pub mod Pages
 pub mod Picks
+pub mod WholeTables

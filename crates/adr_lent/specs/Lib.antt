@@ -3,3 +3,4 @@ pub mod Lent
 pub mod Selections
 pub mod Pages
 pub mod Picks
+pub mod Whole

@@ -7,7 +7,9 @@ mod page;
 mod picked;
 mod shown;
 mod stream;
+mod whole;
 
 pub use cut::{Wanting, lent_page, offer};
 pub use page::shown_page;
 pub use stream::{lend, next_of};
+pub use whole::{lend_reports, lend_subs, lend_vens};

@@ -1,40 +1,26 @@
 -- What the queries of the tables are, and what they select.
-use Rattle.std.proofs.Common.{◌≡◌, ℕ, List, [], ◌∷◌, codes, map, refl, ◌∙◌}
+use Rattle.std.proofs.Common.{◌≡◌, List, [], ◌∷◌, codes, map, refl, ◌∙◌}
 use Rattle.adr_db.proofs.Common.{Row, end, Ghosts, Held, State, Shown, understood, everything, IsSelectText, first_columns, whole_rows, read_runs, filter_all, all_of, map-map, MirrorKey}
 use Rattle.adr_sql.specs.Keys.{has_key}
-use Rattle.adr_sql.proofs.KeyedMaps.{read_all_runs}
 use Rattle.adr_db.specs.Kept.{Kept, Keeps, contents_of}
 use Rattle.adr_db.specs.Rows.{key_row}
 use Rattle.adr_db.specs.Tables.{schema}
-use Rattle.adr_db.proofs.KeptMaps.{KeptMap, StoredMap}
-use Rattle.adr_db.proofs.Maps.{mirror_map, polled_map, ven_map, resource_map, share_map, frozen_map, frozen_share_map, stamp_map, report_rows, sub_map, remote_map, outbox_map}
+use Rattle.adr_db.proofs.Maps.{mirror_map, polled_map, resource_map, share_map, frozen_map, frozen_share_map, stamp_map, remote_map, outbox_map}
 use Rattle.adr_db.proofs.MetaStatements.{reads as meta_reads, meta_read}
-use Rattle.adr_db.proofs.Tables.{meta, mirror, polled, ven, resource, share, frozen, frozen_share, stamp, report, report_value, report_value_keyed, sub, remote, outbox}
+use Rattle.adr_db.proofs.Tables.{meta, mirror, polled, ven, resource, share, frozen, frozen_share, stamp, report, report_value, report_value_keyed, remote, outbox}
 use Rattle.adr_lent.specs.Selections.{Selects}
 use Rattle.adr_lent.specs.Texts.{IsQueryText}
 use Rattle.adr_lent.proofs.Queries.{selects}
+use Rattle.adr_lent.proofs.WholeTables.{all_selected, stored}
+use Rattle.adr_sql.proofs.KeyedMaps.{read_all_runs}
 use Rattle.adr_lent_image.specs.declared.numbers.TheConstants.{READ_META}
 use Rattle.adr_lent_image.specs.declared.marks.TheConstants.{READ_MARKS, READ_POLLED}
-use Rattle.adr_lent_image.specs.declared.sites.TheConstants.{READ_VENS, READ_RESOURCES, READ_SHARES}
+use Rattle.adr_lent_image.specs.declared.sites.TheConstants.{READ_RESOURCES, READ_SHARES}
 use Rattle.adr_lent_image.specs.declared.frozen.TheConstants.{READ_FROZEN, READ_FROZEN_SHARES}
 use Rattle.adr_lent_image.specs.declared.stamps.TheConstants.{READ_STAMPS}
-use Rattle.adr_lent_image.specs.declared.reports.TheConstants.{READ_REPORTS}
 use Rattle.adr_lent_image.specs.declared.intervals.TheConstants.{READ_INTERVALS}
-use Rattle.adr_lent_image.specs.declared.subs.TheConstants.{READ_SUBS}
 use Rattle.adr_lent_image.specs.declared.waits.TheConstants.{READ_ENTRIES, READ_REMOTES}
-use Rattle.adr_lent_image.specs.Selected.{rows_of_meta, rows_of_marks, rows_of_polled, rows_of_vens, rows_of_resources, rows_of_shares, rows_of_frozen, rows_of_frozen_shares, rows_of_stamps, rows_of_reports, rows_of_intervals, rows_of_subs, rows_of_remotes, rows_of_entries}
-
--- a query of all rows of a table that is a map selects those of its entries
-module _ {K V : Type 0} (m : StoredMap K V) (sql : List ℕ) (text : IsSelectText schema m.rows.table (whole_rows 0 m.rows.table) end sql) where
-  all_shown : (old new : State) (rows : List Row) (kept : Kept) → Shown sql [] old new rows → Keeps kept old → rows ≡ map m.rows.row_of (m.entries kept)
-  all_shown old new rows kept all was = read_all_runs m.rows (contents_of kept) (m.entries kept) (m.stored kept) sql [] old new text rows all was.rows
-
-  all_selected : {S : Type 0} (g : Ghosts S) (before : Held S) → Selects g sql [] (λ kept. map m.rows.row_of (m.entries kept)) before
-  all_selected g before = selects g sql [] (whole_rows 0 m.rows.table) (λ kept. map m.rows.row_of (m.entries kept)) text all_shown before
-
--- so of a table on which no other follows
-abbrev stored : {K V : Type 0} → KeptMap K V → StoredMap K V
-stored m = record { rows = m.rows; entries = m.entries; stored = m.stored }
+use Rattle.adr_lent_image.specs.Selected.{rows_of_meta, rows_of_marks, rows_of_polled, rows_of_resources, rows_of_shares, rows_of_frozen, rows_of_frozen_shares, rows_of_stamps, rows_of_intervals, rows_of_remotes, rows_of_entries}
 
 -- ---- marks
 
@@ -48,19 +34,6 @@ marks_text = record { names = codes "kind" ∷ codes "id" ∷ codes "state" ∷ 
 
 pub marks_selected : {S : Type 0} (g : Ghosts S) (before : Held S) → Selects g READ_MARKS.now [] rows_of_marks before
 marks_selected = all_selected (stored mirror_map) READ_MARKS.now marks_text
-
--- ---- vens
-
-pub vens_query : IsQueryText READ_VENS.now
-unfolding everything
-vens_query = record { read = record { unreturned = λ schema base. refl; untimed = λ schema. refl } }
-
-vens_text : IsSelectText schema ven (whole_rows 0 ven) end READ_VENS.now
-unfolding understood everything
-vens_text = record { names = codes "id" ∷ codes "name" ∷ codes "created" ∷ codes "modified" ∷ []; command = refl; alone = (refl, refl); unlisted = refl; from = refl; order = refl; ungrouped = refl; undistinct = refl; joins = refl; sorts = refl; shows = refl }
-
-pub vens_selected : {S : Type 0} (g : Ghosts S) (before : Held S) → Selects g READ_VENS.now [] rows_of_vens before
-vens_selected = all_selected (stored ven_map) READ_VENS.now vens_text
 
 -- ---- resources
 
@@ -127,19 +100,6 @@ stamps_text = record { names = codes "kind" ∷ codes "a" ∷ codes "b" ∷ code
 pub stamps_selected : {S : Type 0} (g : Ghosts S) (before : Held S) → Selects g READ_STAMPS.now [] rows_of_stamps before
 stamps_selected = all_selected (stored stamp_map) READ_STAMPS.now stamps_text
 
--- ---- subs
-
-pub subs_query : IsQueryText READ_SUBS.now
-unfolding everything
-subs_query = record { read = record { unreturned = λ schema base. refl; untimed = λ schema. refl } }
-
-subs_text : IsSelectText schema sub (whole_rows 0 sub) end READ_SUBS.now
-unfolding understood everything
-subs_text = record { names = codes "id" ∷ codes "ven" ∷ codes "body" ∷ codes "created" ∷ codes "modified" ∷ []; command = refl; alone = (refl, refl); unlisted = refl; from = refl; order = refl; ungrouped = refl; undistinct = refl; joins = refl; sorts = refl; shows = refl }
-
-pub subs_selected : {S : Type 0} (g : Ghosts S) (before : Held S) → Selects g READ_SUBS.now [] rows_of_subs before
-subs_selected = all_selected (stored sub_map) READ_SUBS.now subs_text
-
 -- ---- remotes
 
 pub remotes_query : IsQueryText READ_REMOTES.now
@@ -166,19 +126,6 @@ entries_text = record { names = codes "id" ∷ codes "dest" ∷ codes "event" �
 pub entries_selected : {S : Type 0} (g : Ghosts S) (before : Held S) → Selects g READ_ENTRIES.now [] rows_of_entries before
 entries_selected = all_selected outbox_map READ_ENTRIES.now entries_text
 
--- ---- reports, whose intervals stand in another table
-
-pub reports_query : IsQueryText READ_REPORTS.now
-unfolding everything
-reports_query = record { read = record { unreturned = λ schema base. refl; untimed = λ schema. refl } }
-
-reports_text : IsSelectText schema report (whole_rows 0 report) end READ_REPORTS.now
-unfolding understood everything
-reports_text = record { names = codes "id" ∷ codes "event" ∷ codes "resource" ∷ codes "program" ∷ codes "client" ∷ codes "name" ∷ codes "resource_name" ∷ codes "revision" ∷ []; command = refl; alone = (refl, refl); unlisted = refl; from = refl; order = refl; ungrouped = refl; undistinct = refl; joins = refl; sorts = refl; shows = refl }
-
-pub reports_selected : {S : Type 0} (g : Ghosts S) (before : Held S) → Selects g READ_REPORTS.now [] rows_of_reports before
-reports_selected = all_selected (record { rows = report_rows; entries = λ kept. kept.portfolio.reports; stored = λ kept. refl }) READ_REPORTS.now reports_text
-
 -- ---- the keys that were polled, which are a set
 
 pub polled_query : IsQueryText READ_POLLED.now
@@ -190,7 +137,7 @@ unfolding understood everything
 polled_text = record { names = codes "kind" ∷ codes "id" ∷ []; command = refl; alone = (refl, refl); unlisted = refl; from = refl; order = refl; ungrouped = refl; undistinct = refl; joins = refl; sorts = refl; shows = refl }
 
 polled_shown : (old new : State) (rows : List Row) (kept : Kept) → Shown READ_POLLED.now [] old new rows → Keeps kept old → rows ≡ rows_of_polled kept
-polled_shown old new rows kept all was = all_shown (stored polled_map) READ_POLLED.now polled_text old new rows kept all was ∙ map-map (λ (e : MirrorKey × Unit {0}). key_row e.0) (λ k. (k, tt)) kept.polled
+polled_shown old new rows kept all was = read_all_runs polled_map.rows (contents_of kept) (polled_map.entries kept) (polled_map.stored kept) READ_POLLED.now [] old new polled_text rows all was.rows ∙ map-map (λ (e : MirrorKey × Unit {0}). key_row e.0) (λ k. (k, tt)) kept.polled
 
 pub polled_selected : {S : Type 0} (g : Ghosts S) (before : Held S) → Selects g READ_POLLED.now [] rows_of_polled before
 polled_selected g before = selects g READ_POLLED.now [] (whole_rows 0 polled) rows_of_polled polled_text polled_shown before

@@ -3,7 +3,8 @@ use Rattle.std.specs.Prelude.{List, [], ◌∷◌, map}
 use Rattle.std.specs.List.{flat_map}
 use Rattle.sqlite.specs.Order.{Row}
 use Rattle.adr_db.specs.Kept.{Kept}
-use Rattle.adr_db.specs.Rows.{meta_row, mark_row, key_row, ven_row, resource_row, share_row, event_key_row, frozen_share_row, stamp_row, report_row, value_rows, sub_row, remote_row, entry_row}
+use Rattle.adr_db.specs.Rows.{meta_row, mark_row, key_row, resource_row, share_row, event_key_row, frozen_share_row, stamp_row, value_rows, remote_row, entry_row}
+pub use Rattle.adr_lent.specs.Whole.{rows_of_vens, rows_of_subs, rows_of_reports}
 
 -- the one row of the numbers of the node
 abbrev pub rows_of_meta : Kept → List Row
@@ -16,10 +17,6 @@ rows_of_marks kept = map mark_row kept.mirror
 -- those of the keys that were polled
 abbrev pub rows_of_polled : Kept → List Row
 rows_of_polled kept = map key_row kept.polled
-
--- those of the vens
-abbrev pub rows_of_vens : Kept → List Row
-rows_of_vens kept = map ven_row kept.portfolio.vens
 
 -- those of the resources
 abbrev pub rows_of_resources : Kept → List Row
@@ -41,17 +38,9 @@ rows_of_frozen_shares kept = map frozen_share_row kept.portfolio.frozen_shares
 abbrev pub rows_of_stamps : Kept → List Row
 rows_of_stamps kept = map stamp_row kept.stamps
 
--- those of the reports, without their intervals
-abbrev pub rows_of_reports : Kept → List Row
-rows_of_reports kept = map report_row kept.portfolio.reports
-
 -- those of the intervals of all reports, by the numbers of the reports and then by their places
 abbrev pub rows_of_intervals : Kept → List Row
 rows_of_intervals kept = flat_map value_rows kept.portfolio.reports
-
--- those of the subscriptions
-abbrev pub rows_of_subs : Kept → List Row
-rows_of_subs kept = map sub_row kept.portfolio.subs
 
 -- those of the utility's ids of reports
 abbrev pub rows_of_remotes : Kept → List Row

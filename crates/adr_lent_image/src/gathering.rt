@@ -1,5 +1,5 @@
 //! All rows of a query, gathered as they are lent.
-ghost use Rattle.std.specs.Prelude.{◌≡◌, fold, IfOk, OnOk, IfErr};
+ghost use Rattle.std.specs.Prelude.{◌≡◌, ⊤, fold, IfOk, OnOk, IfErr};
 ghost use Rattle.std.specs.BTreeMap.{insert_entry};
 ghost use Rattle.sqlite.specs.Held.{state};
 ghost use Rattle.sqlite.specs.State.{HasCleanDisk};
@@ -52,6 +52,33 @@ pub fn gather_all<T: FromRow, G: Gathering<T>, S: Alter>(
         found.gather(alloc, value)?;
     }
     Err(Refusal::Store)
+}
+
+/// Where rows are read and let go.
+#[derive(Clone, Copy, Drop)]
+pub struct Passed;
+
+impl<T: Drop> Gathering<T> for Passed {
+    ghost after = { λ passed value. passed };
+
+    fn gather(&mut self, _: Global, value: T) -> Result<(), Refusal> {
+        drop(value);
+        Ok(())
+    }
+}
+
+/// All rows of a query at its start, read one after another. Each is let go before the next one is lent, and nothing is kept.
+pub fn read_each<T: FromRow, S: Alter>(
+    alloc: Global,
+    rows: &mut LentRows<'_, S>,
+) -> Result<(), Refusal>
+    ensures same_reference { rows.new.conn.ghost_name ≡ rows.old.conn.ghost_name }
+    ensures lends { HasCleanDisk (state S.Store rows.new.conn.now) → OnOk result (LendsAll S.Store T.reads rows.old.conn.now rows.new.conn.now (λ seen. ⊤)) }
+    ensures stands { Stands S.Store rows.old.conn.now rows.new.conn.now }
+    ensures refused { IfErr result IsOfStore }
+{
+    gather_all::<T, Passed, S>(alloc, rows, Passed)?;
+    Ok(())
 }
 
 /// All rows of a query at its start, as the map that they make.

@@ -1,30 +1,23 @@
 //! All reports, whose columns take the intervals that were lent before them.
-ghost use Rattle.std.specs.Prelude.{IsTrue, ◌≡◌, [], IfOk, OnOk, IfErr};
-ghost use Rattle.std.specs.Borrow.{sem, RestsIfErr};
-ghost use Rattle.sqlite.specs.contracts.connection.Connection.{the_row};
+ghost use Rattle.std.specs.Prelude.{IsTrue, ◌≡◌, OnOk, IfErr};
 ghost use Rattle.sqlite.specs.Held.{state};
 ghost use Rattle.sqlite.specs.State.{HasCleanDisk};
 ghost use Rattle.adr_db.specs.Calls.{Finds, IsOfStore};
-ghost use Rattle.adr_lent.specs.Lent.{Begins, Stands};
-ghost use Rattle.adr_lent.specs.Selections.{Selects};
+ghost use Rattle.adr_lent.specs.Lent.{Stands};
 ghost use Rattle.adr_db.specs.Kept.{whole_report};
 ghost use Rattle.adr_lent_image.specs.Merged.{groups_of, with_columns};
-ghost use Rattle.adr_lent_image.specs.Selected.{rows_of_reports};
 
 use crate::gathering::{Gathering, gather_all};
 use crate::groups::Waiting;
 use crate::intervals::lent_intervals;
 use adr_db::ReportColumns;
 use adr_db::statement::refusal_of;
-use adr_lent::lend;
+use adr_lent::lend_reports;
 use adr_objects::{Number, ReportBody, UsageInterval};
 use adr_state::Report;
 use adr_text::{Refusal, Rows, Table};
-use sqlite::{Alter, Connection, Error, Rows as LentRows};
+use sqlite::{Alter, Connection, Error};
 use std::alloc::Global;
-
-const READ_REPORTS: &str =
-    "SELECT id, event, resource, program, client, name, resource_name, revision FROM report ORDER BY id";
 
 /// The reports whose columns were lent, and the intervals that wait for the others.
 #[derive(Drop)]
@@ -55,18 +48,6 @@ impl Gathering<(Number, ReportColumns)> for Merging {
         let intervals = self.waiting.taken_first(alloc, number)?;
         Ok(self.reports.put(number, whole_report(columns, intervals))?)
     }
-}
-
-/// The reports, by number. Their intervals are not read.
-pub fn lend_reports<'conn, S: Alter>(
-    conn: &'conn mut Connection<S>,
-) -> Result<LentRows<'conn, S>, Error>
-    ensures* refused { sem 𝓛 (RestsIfErr (the_row S.row S.Store) conn.entry (λ rows. rows.conn.ghost_name) result (Stands S.Store conn.old)) }
-    ensures same_reference { IfOk result (λ rows. rows.conn.ghost_name ≡ conn.entry.ghost_name) }
-    ensures begun { IfOk result (λ rows. Begins S.Store READ_REPORTS.now [] conn.old rows.conn.now) }
-    ensures selects { Selects S.Store READ_REPORTS.now [] rows_of_reports conn.old }
-{
-    lend(conn, READ_REPORTS, &[])
 }
 
 // The reports, by their numbers, each with the intervals that wait for it.

@@ -9,18 +9,16 @@ ghost use Rattle.adr_lent.specs.Lent.{Begins, Stands};
 ghost use Rattle.adr_lent.specs.Selections.{Selects};
 ghost use Rattle.std.specs.BTreeMap.{insert_entry};
 ghost use Rattle.std.specs.Ordering.{nat_cmp};
-ghost use Rattle.adr_lent_image.specs.Selected.{rows_of_vens, rows_of_resources, rows_of_shares};
+ghost use Rattle.adr_lent_image.specs.Selected.{rows_of_resources, rows_of_shares};
 
 use crate::gathering::{Gathering, gather_all, lent_table};
 use adr_db::statement::refusal_of;
-use adr_lent::lend;
+use adr_lent::{lend, lend_vens};
 use adr_objects::Number;
 use adr_state::{Resource, Resources, ShareKey, Ven, Weight};
 use adr_text::{Refusal, Table};
 use sqlite::{Alter, Connection, Error, Rows as LentRows};
 use std::alloc::Global;
-
-const READ_VENS: &str = "SELECT id, name, created, modified FROM ven ORDER BY id";
 
 const READ_RESOURCES: &str = "SELECT id, ven, name, created, modified FROM resource ORDER BY id";
 
@@ -36,18 +34,6 @@ impl Gathering<(Number, Resource)> for Resources {
         }
         Ok(self.put(value.0, value.1)?)
     }
-}
-
-/// The vens, by number.
-pub fn lend_vens<'conn, S: Alter>(
-    conn: &'conn mut Connection<S>,
-) -> Result<LentRows<'conn, S>, Error>
-    ensures* refused { sem 𝓛 (RestsIfErr (the_row S.row S.Store) conn.entry (λ rows. rows.conn.ghost_name) result (Stands S.Store conn.old)) }
-    ensures same_reference { IfOk result (λ rows. rows.conn.ghost_name ≡ conn.entry.ghost_name) }
-    ensures begun { IfOk result (λ rows. Begins S.Store READ_VENS.now [] conn.old rows.conn.now) }
-    ensures selects { Selects S.Store READ_VENS.now [] rows_of_vens conn.old }
-{
-    lend(conn, READ_VENS, &[])
 }
 
 /// The vens, by their numbers.

@@ -1,36 +1,18 @@
 //! Subscriptions, as their rows are lent.
-ghost use Rattle.std.specs.Prelude.{IsTrue, ◌≡◌, [], IfOk, OnOk, IfErr};
-ghost use Rattle.std.specs.Borrow.{sem, RestsIfErr};
-ghost use Rattle.sqlite.specs.contracts.connection.Connection.{the_row};
+ghost use Rattle.std.specs.Prelude.{IsTrue, ◌≡◌, OnOk, IfErr};
 ghost use Rattle.sqlite.specs.Held.{state};
 ghost use Rattle.sqlite.specs.State.{HasCleanDisk};
 ghost use Rattle.adr_db.specs.Calls.{Finds, IsOfStore};
-ghost use Rattle.adr_lent.specs.Lent.{Begins, Stands};
-ghost use Rattle.adr_lent.specs.Selections.{Selects};
-ghost use Rattle.adr_lent_image.specs.Selected.{rows_of_subs};
+ghost use Rattle.adr_lent.specs.Lent.{Stands};
 
 use crate::gathering::lent_table;
 use adr_db::statement::refusal_of;
-use adr_lent::lend;
+use adr_lent::lend_subs;
 use adr_objects::Number;
 use adr_subscription::Sub;
 use adr_text::{Refusal, Table};
-use sqlite::{Alter, Connection, Error, Rows as LentRows};
+use sqlite::{Alter, Connection, Error};
 use std::alloc::Global;
-
-const READ_SUBS: &str = "SELECT id, ven, body, created, modified FROM sub ORDER BY id";
-
-/// The subscriptions, by number.
-pub fn lend_subs<'conn, S: Alter>(
-    conn: &'conn mut Connection<S>,
-) -> Result<LentRows<'conn, S>, Error>
-    ensures* refused { sem 𝓛 (RestsIfErr (the_row S.row S.Store) conn.entry (λ rows. rows.conn.ghost_name) result (Stands S.Store conn.old)) }
-    ensures same_reference { IfOk result (λ rows. rows.conn.ghost_name ≡ conn.entry.ghost_name) }
-    ensures begun { IfOk result (λ rows. Begins S.Store READ_SUBS.now [] conn.old rows.conn.now) }
-    ensures selects { Selects S.Store READ_SUBS.now [] rows_of_subs conn.old }
-{
-    lend(conn, READ_SUBS, &[])
-}
 
 /// The subscriptions, by their numbers.
 pub fn lent_subs<S: Alter>(

@@ -1,4 +1,3 @@
-pub mod Rooms
 pub mod Outcomes
 pub mod Steps
 pub mod Halting

@@ -9,17 +9,17 @@ use Rattle.adr_machine.specs.declared.desk.Desk.{Ghosts}
 use Rattle.adr_book.specs.declared.kept.Book.{Book}
 use Rattle.adr_book.specs.declared.kept.Pass.{Pass}
 use Rattle.adr_book.specs.declared.office.Office.{Office}
+use Rattle.adr_book.specs.declared.trail.Trail as trail
 use Rattle.adr_book.specs.Entry.{step_in, reply_in}
 use Rattle.adr_book.specs.Refused.{MayRefuse, MayRefuseQuery}
 use Rattle.adr_book.specs.Same.{IsSame}
 use Rattle.adr_book.specs.Words.{base_of, trail_of, turn_of, state_of, IsSound, seen_by, taken_by}
 use Rattle.adr_lock.specs.declared.call.Call.{Call}
 use Rattle.adr_lock.specs.declared.call.Call.TheVariants as call
-use Rattle.adr_lock.specs.Rooms.{MakesRoom}
 
-module _ {D L : Type 0} {g : Ghosts D} where
+module _ {D T L : Type 0} {g : Ghosts D} {h : trail.Ghosts T D} where
   -- a book took the step at this moment: the command stands in its trail, it is one turn more of the book and of the pass, and the answer is the machine's, where the desk is sound
-  pub record IsTaken (before after : Pass L) (now : ℕ) (command : Command) (answer : Answer) (old new : Book D L g) : Type 0 where
+  pub record IsTaken (before after : Pass L) (now : ℕ) (command : Command) (answer : Answer) (old new : Book D T L g h) : Type 0 where
     pub trail : trail_of new ≡ trail_of old ++ (now, command) ∷ []
     pub base : base_of new ≡ base_of old
     pub turn : turn_of new ≡ turn_of old + 1
@@ -28,57 +28,53 @@ module _ {D L : Type 0} {g : Ghosts D} where
     pub answers : IsSound new → step_in old before now command ≡ Ok (answer, state_of new)
 
   -- a book answered the query: the pass has no turn more, and the answer is the machine's, where the desk is sound
-  pub record IsAnswered (before after : Pass L) (query : Query) (answer : Answer) (old new : Book D L g) : Type 0 where
+  pub record IsAnswered (before after : Pass L) (query : Query) (answer : Answer) (old new : Book D T L g h) : Type 0 where
     pub same : IsSame old new
     pub share : taken_by after ≡ taken_by before
     pub seen : seen_by after ≡ turn_of old
     pub answers : IsSound new → reply_in old before query ≡ Ok answer
 
   -- a book refused the step so: for want of memory, by its store, or as is listed and, where the desk is sound, as the machine does at this moment
-  pub record RefusesStep (before after : Pass L) (now : ℕ) (command : Command) (refusal : Refusal) (old new : Book D L g) : Type 0 where
+  pub record RefusesStep (before after : Pass L) (now : ℕ) (command : Command) (refusal : Refusal) (old new : Book D T L g h) : Type 0 where
     pub same : IsSame old new
     pub unchanged : after ≡ before
     pub listed : MayRefuse g.may_refuse (seen_by before) command refusal
     pub refuses : IsSound new → IsRefusalOf refusal (step_in old before now command)
 
   -- a book refused the query so: for want of memory, by its store, or as is listed and, where the desk is sound, as the machine does
-  pub record RefusesQuery (before after : Pass L) (query : Query) (refusal : Refusal) (old new : Book D L g) : Type 0 where
+  pub record RefusesQuery (before after : Pass L) (query : Query) (refusal : Refusal) (old new : Book D T L g h) : Type 0 where
     pub same : IsSame old new
     pub unchanged : after ≡ before
     pub listed : MayRefuseQuery g.may_refuse (seen_by before) query refusal
     pub refuses : IsSound new → IsRefusalOf refusal (reply_in old before query)
 
   -- what comes of a command at a moment
-  abbrev pub IsStep : Book D L g → Pass L → ℕ → Command → Result Answer Refusal → Book D L g → Pass L → Type 0
+  abbrev pub IsStep : Book D T L g h → Pass L → ℕ → Command → Result Answer Refusal → Book D T L g h → Pass L → Type 0
   IsStep old before now command (Ok answer) new after = IsTaken before after now command answer old new
   IsStep old before now command (Err refusal) new after = RefusesStep before after now command refusal old new
 
   -- what comes of a query
-  abbrev pub IsLook : Book D L g → Pass L → Query → Result Answer Refusal → Book D L g → Pass L → Type 0
+  abbrev pub IsLook : Book D T L g h → Pass L → Query → Result Answer Refusal → Book D T L g h → Pass L → Type 0
   IsLook old before query (Ok answer) new after = IsAnswered before after query answer old new
   IsLook old before query (Err refusal) new after = RefusesQuery before after query refusal old new
 
-  -- the same of a command that finds room in the trail, or for which it is made
-  abbrev pub StepsIn : ℕ → Book D L g → Pass L → ℕ → Command → Result Answer Refusal → Book D L g → Pass L → Type 0
-  StepsIn most old before now command outcome new after = (roomy : Book D L g) × MakesRoom most old roomy × IsStep roomy before now command outcome new after
-
   -- what comes of a call of a book at a moment, with a pass before and after it
-  abbrev pub InBook : ℕ → Book D L g → Pass L → ℕ → Call → Result Answer Refusal → Book D L g → Pass L → Type 0
-  InBook most old before now (call.Step command) outcome new after = StepsIn most old before now command.now outcome new after
-  InBook most old before now (call.Look query) outcome new after = IsLook old before query.now outcome new after
+  abbrev pub InBook : Book D T L g h → Pass L → ℕ → Call → Result Answer Refusal → Book D T L g h → Pass L → Type 0
+  InBook old before now (call.Step command) outcome new after = IsStep old before now command.now outcome new after
+  InBook old before now (call.Look query) outcome new after = IsLook old before query.now outcome new after
 
-  -- of a command, at some moment of those that a clock tells, by some book over a desk like the office's: the office says no more here than which desk and which ledger
-  abbrev pub StepsInOffice : Office D L g → (ℕ → Type 0) → ℕ → Pass L → Command → Result Answer Refusal → Pass L → Type 0
-  StepsInOffice office tells most before command outcome after = (old : Book D L g) × (new : Book D L g) × (now : ℕ) × tells now × StepsIn most old before now command outcome new after
+  -- what comes of a command, at some moment of those that a clock tells, by some book over a desk like the office's: the office says no more here than which desk and which ledger
+  abbrev pub StepsInOffice : Office D T L g h → (ℕ → Type 0) → Pass L → Command → Result Answer Refusal → Pass L → Type 0
+  StepsInOffice office tells before command outcome after = (old : Book D T L g h) × (new : Book D T L g h) × (now : ℕ) × tells now × IsStep old before now command outcome new after
 
   -- of a query, by some book over a desk like the office's
-  abbrev pub LooksInOffice : Office D L g → Pass L → Query → Result Answer Refusal → Pass L → Type 0
-  LooksInOffice office before query outcome after = (old : Book D L g) × (new : Book D L g) × IsLook old before query outcome new after
+  abbrev pub LooksInOffice : Office D T L g h → Pass L → Query → Result Answer Refusal → Pass L → Type 0
+  LooksInOffice office before query outcome after = (old : Book D T L g h) × (new : Book D T L g h) × IsLook old before query outcome new after
 
   -- of a call, be it a command or a query
-  abbrev pub InOffice : Office D L g → (ℕ → Type 0) → ℕ → Pass L → Call → Result Answer Refusal → Pass L → Type 0
-  InOffice office tells most before (call.Step command) outcome after = StepsInOffice office tells most before command.now outcome after
-  InOffice office tells most before (call.Look query) outcome after = LooksInOffice office before query.now outcome after
+  abbrev pub InOffice : Office D T L g h → (ℕ → Type 0) → Pass L → Call → Result Answer Refusal → Pass L → Type 0
+  InOffice office tells before (call.Step command) outcome after = StepsInOffice office tells before command.now outcome after
+  InOffice office tells before (call.Look query) outcome after = LooksInOffice office before query.now outcome after
 
 -- how a call may be refused, with a pass that was told of this turn
 abbrev pub MayRefuseCall : Type 0 → ℕ → Call → Refusal → Type 0

@@ -1,17 +1,16 @@
-//! What is asked of a book, for which room is made first.
+//! What is asked of a book.
 ghost use Rattle.std.specs.Prelude.{◌≡◌, IfErr, OnErr};
 ghost use Rattle.adr_book.specs.Words.{seen_by};
 ghost use Rattle.adr_lock.specs.Outcomes.{IsStep, IsLook, InBook, MayRefuseCall, TakesOneAtMost};
 
 use crate::call::Call;
-use crate::room::make_room;
-use adr_book::{Book, Pass};
+use adr_book::{Book, Pass, Trail};
 use adr_machine::{Answer, Command, Desk, Query};
 use adr_text::{Moment, Refusal};
 use std::sync::ledger::Ledger;
 
-fn step_in<D: Desk, L: Ledger>(
-    book: &mut Book<D, L>,
+fn step_in<D: Desk, T: Trail<D>, L: Ledger>(
+    book: &mut Book<D, T, L>,
     pass: &mut Pass<L>,
     now: Moment,
     command: &Command,
@@ -22,8 +21,8 @@ fn step_in<D: Desk, L: Ledger>(
     book.take(pass, now, command)
 }
 
-fn look_in<D: Desk, L: Ledger>(
-    book: &mut Book<D, L>,
+fn look_in<D: Desk, T: Trail<D>, L: Ledger>(
+    book: &mut Book<D, T, L>,
     pass: &mut Pass<L>,
     query: &Query,
 ) -> Result<Answer, Refusal>
@@ -33,25 +32,20 @@ fn look_in<D: Desk, L: Ledger>(
     book.ask(pass, query)
 }
 
-/// Takes a step of a book at that moment, or looks. A step finds room in the trail: where that is full, or takes more
-/// memory than so much and than the base, the book starts anew from its present state first.
-pub fn take_in_book<D: Desk, L: Ledger>(
-    book: &mut Book<D, L>,
+/// Takes a step of a book at that moment, or looks.
+pub fn take_in_book<D: Desk, T: Trail<D>, L: Ledger>(
+    book: &mut Book<D, T, L>,
     pass: &mut Pass<L>,
     now: Moment,
-    most: u64,
     call: Call<'_>,
 ) -> Result<Answer, Refusal>
-    ensures outcome { InBook most book.old pass.old now call.entry result book.new pass.new }
+    ensures outcome { InBook book.old pass.old now call.entry result book.new pass.new }
     ensures one { TakesOneAtMost pass.old pass.new }
     ensures listed { IfErr result (MayRefuseCall D.may_refuse (seen_by pass.old) call.entry) }
     ensures unchanged { OnErr result (pass.new ≡ pass.old) }
 {
     match call {
-        Call::Step(command) => {
-            make_room(book, most);
-            step_in(book, pass, now, command)
-        }
+        Call::Step(command) => step_in(book, pass, now, command),
         Call::Look(query) => look_in(book, pass, query),
     }
 }

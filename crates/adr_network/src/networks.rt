@@ -1,5 +1,5 @@
 //! The networks in which addresses may be called.
-ghost use Rattle.std.specs.Prelude.{◌≡◌, Some, None, IfOk};
+ghost use Rattle.std.specs.Prelude.{◌≡◌, Some, None, IfOk, length, option_map};
 ghost use Rattle.adr_network.specs.Networks.{has_one, allows};
 
 use crate::network::Network;
@@ -66,6 +66,16 @@ impl Networks {
         match &self.only {
             Some(networks) => has_one(networks.as_slice(), address),
             None => true,
+        }
+    }
+
+    /// How many networks there are; none where any address may be called.
+    pub fn count(&self) -> Option<usize>
+        ensures { result ≡ option_map length self.now }
+    {
+        match &self.only {
+            Some(networks) => Some(networks.as_slice().len()),
+            None => None,
         }
     }
 }

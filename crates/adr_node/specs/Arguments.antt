@@ -1,5 +1,5 @@
 -- The program's arguments: `script`, and then limits as `NAME=NUMBER`; `init`, and the name of a file; or `serve`, and that of a configuration.
-use Rattle.std.specs.Prelude.{ℕ, nat_le, List, [], ◌∷◌, length, codes, bytes_eq, Option, Some, None, option_and_then, if◌then◌else◌}
+use Rattle.std.specs.Prelude.{ℕ, nat_le, nat_eq, Bool, false, List, [], ◌∷◌, length, codes, bytes_eq, Option, Some, None, option_and_then, if◌then◌else◌}
 use Rattle.adr_state.specs.Digits.{most_number, number_within}
 use Rattle.adr_state.specs.Limits.{largest, limits_set}
 use Rattle.adr_state.specs.declared.limits.Limits.{Limits}
@@ -28,7 +28,12 @@ abbrev pub limits_of : List (List ℕ) → Option Limits
 limits_of [] = None
 limits_of (word ∷ arguments) = if bytes_eq word (codes "script") then limits_after largest arguments else None
 
--- the name of the file behind a word, where the words behind the program's name are these two
+-- a word that begins with `-` is an option
+abbrev pub is_option : List ℕ → Bool
+is_option [] = false
+is_option (first ∷ word) = nat_eq first 45
+
+-- the name of the file behind a word, where the words behind the program's name are these two, and it is no option
 abbrev pub named_after : List ℕ → List (List ℕ) → Option (List ℕ)
-named_after word (first ∷ name ∷ []) = if bytes_eq first word then Some name else None
+named_after word (first ∷ name ∷ []) = if bytes_eq first word then (if is_option name then None else Some name) else None
 named_after word _ = None

@@ -1,6 +1,6 @@
 //! The program's arguments.
 ghost use Rattle.std.specs.Prelude.{◌≡◌, map, option_map, string_bytes};
-ghost use Rattle.adr_node.specs.Arguments.{number_at, limit_set, limits_after, limits_of, named_after};
+ghost use Rattle.adr_node.specs.Arguments.{number_at, limit_set, limits_after, limits_of, is_option, named_after};
 
 use adr_machine::{MOST_NUMBER, number_within};
 use adr_state::Limits;
@@ -52,13 +52,24 @@ pub fn limits_of(words: &[String]) -> Option<Limits>
     limits_after(Limits::largest(), arguments)
 }
 
-/// The name of the file behind a word, where the words behind the program's name are these two: `init` makes a file for a
-/// node, `serve` serves by a configuration.
+/// Whether a word is an option, as `--help`: there is none that the program knows.
+fn is_option(word: &str) -> bool
+    ensures { result ≡ is_option word.now }
+{
+    match word.as_bytes() {
+        [first, ..] => *first == b'-',
+        [] => false,
+    }
+}
+
+/// The name of the file behind a word, where the words behind the program's name are these two, and it is no option:
+/// `init` makes a file for a node, `serve` serves by a configuration. A file whose name begins so goes by `./` before
+/// it.
 pub fn named_after<'a>(word: &str, words: &'a [String]) -> Option<&'a str>
     ensures { option_map (λ name. name.now) result ≡ named_after word.now (map string_bytes words.now) }
 {
     match words {
-        [first, name] if first.as_str() == word => Some(name.as_str()),
+        [first, name] if first.as_str() == word && !is_option(name.as_str()) => Some(name.as_str()),
         _ => None,
     }
 }

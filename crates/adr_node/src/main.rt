@@ -3,10 +3,13 @@
 #![tactic(auto)]
 
 mod arguments;
+mod beginning;
 mod ending;
 mod file;
 mod script;
 mod serve;
+mod version;
+mod why;
 
 use adr_script::ScriptFault;
 use ending::Ran;
@@ -18,6 +21,7 @@ use std::rt::{Env, Files};
 use std::sync::Wait;
 use std::thread::Threads;
 use std::time::Clock;
+use why::Why;
 
 /// The words behind the program's name, if they can be read.
 fn words<R: Env + AllocGlobal>(rt: &R) -> Result<Option<Vec<String>>, ScriptFault> {
@@ -37,8 +41,8 @@ fn words<R: Env + AllocGlobal>(rt: &R) -> Result<Option<Vec<String>>, ScriptFaul
     Ok(Some(behind))
 }
 
-/// Does what the words ask for, if they are of one of the program's forms.
-fn ran<R>(host: &HostRuntime, rt: R) -> Ran
+/// Does what the words ask for, if they are of one of the program's forms. Where a file can't be used it says why.
+fn ran<R>(host: &HostRuntime, rt: R, why: &mut Why) -> Ran
 where
     R: Env
         + Files
@@ -60,11 +64,11 @@ where
         return Ok(None);
     };
     if let Some(name) = arguments::named_after("init", &words) {
-        file::init(host, name)?;
+        file::init(host, name, why)?;
         return Ok(Some(0));
     }
     if let Some(name) = arguments::named_after("serve", &words) {
-        serve::run(host, rt, name)?;
+        serve::run(host, rt, name, why)?;
         return Ok(Some(0));
     }
     match arguments::limits_of(&words) {
@@ -74,7 +78,9 @@ where
 }
 
 fn main(rt: HostRuntime) -> ExitCode {
-    let ran = ran(&rt, rt);
+    let mut why = Why::none();
+    let ran = ran(&rt, rt, &mut why);
+    why.tell(&rt);
     if let Some(line) = ending::line_of(&ran) {
         let _ = eprintln!(rt; "{line}");
     }

@@ -3,8 +3,10 @@ ghost use Rattle.std.specs.Prelude.{IfOk, IfErr};
 ghost use Rattle.adr_config.specs.Configs.{IsConfig};
 ghost use Rattle.adr_node.specs.Endings.{IsOfReading};
 
+use crate::beginning::tell_beginning;
 use crate::ending::NodeFault;
 use crate::file;
+use crate::why::{Cause, Unheard, Why, line_on};
 use adr_config::{Config, ConfigFault, log_of, oddities};
 use adr_log::{Console, Writer};
 use adr_script::ScriptFault;
@@ -20,8 +22,8 @@ use std::sync::Wait;
 use std::thread::Threads;
 use std::time::Clock;
 
-/// The bytes of a file. One that can't be read is no configuration.
-fn bytes<R: Files + AllocGlobal>(rt: &R, name: &str) -> Result<Vec<u8>, NodeFault>
+/// The bytes of a file. One that can't be read is no configuration, and it says why.
+fn bytes<R: Files + AllocGlobal>(rt: &R, name: &str, why: &mut Why) -> Result<Vec<u8>, NodeFault>
     ensures { IfErr result IsOfReading }
 {
     match fs::read(rt, name) {
@@ -29,7 +31,10 @@ fn bytes<R: Files + AllocGlobal>(rt: &R, name: &str) -> Result<Vec<u8>, NodeFaul
         Err(error) if error.kind() == ErrorKind::OutOfMemory => {
             Err(NodeFault::Script(ScriptFault::OutOfMemory))
         }
-        Err(_) => Err(NodeFault::BadConfig),
+        Err(error) => {
+            why.say(name, &Cause::of(&error));
+            Err(NodeFault::BadConfig)
+        }
     }
 }
 
@@ -43,8 +48,14 @@ fn level<R: AllocGlobal>(rt: &R, bytes: &[u8]) -> Result<LevelFilter, NodeFault>
     }
 }
 
-/// The configuration that the bytes are; the log is told what is wrong in them.
-fn config<R: AllocGlobal + Log>(rt: &R, bytes: &[u8]) -> Result<Config, NodeFault>
+/// The configuration that the bytes of a file are; the log is told what is wrong in them, and so is whoever reads the
+/// last lines.
+fn config<R: AllocGlobal + Log>(
+    rt: &R,
+    name: &str,
+    bytes: &[u8],
+    why: &mut Why,
+) -> Result<Config, NodeFault>
     ensures said { IfOk result (IsConfig bytes.now) }
     ensures fault { IfErr result IsOfReading }
 {
@@ -53,21 +64,25 @@ fn config<R: AllocGlobal + Log>(rt: &R, bytes: &[u8]) -> Result<Config, NodeFaul
         Err(ConfigFault::OutOfMemory) => Err(NodeFault::Script(ScriptFault::OutOfMemory)),
         Err(fault) => {
             error!(rt; target: "node", "bad configuration: {fault}");
+            why.say(name, &fault);
             Err(NodeFault::BadConfig)
         }
     }
 }
 
-/// Tells the log what in the bytes of a configuration has no effect.
-fn tell_oddities<R: AllocGlobal + Log>(rt: &R, bytes: &[u8]) {
-    if !log_enabled!(rt; target: "node", Level::Warn) {
-        return;
-    }
+/// Tells what in the bytes of a configuration has no effect: the log, or where it isn't told of such, standard error
+/// without it, since it is hardly meant.
+fn tell_oddities<R: AllocGlobal + Log>(host: &HostRuntime, rt: &R, name: &str, bytes: &[u8]) {
     let Ok(oddities) = oddities(rt.alloc(), bytes) else {
         return;
     };
+    let is_logged = log_enabled!(rt; target: "node", Level::Warn);
     for oddity in &oddities {
-        warn!(rt; target: "node", "configuration: {oddity}");
+        if is_logged {
+            warn!(rt; target: "node", "configuration: {oddity}");
+        } else {
+            let _ = host.eprintln(line_on(name, oddity).as_str());
+        }
     }
 }
 
@@ -87,6 +102,7 @@ fn serve_file<R, N>(
     net: N,
     config: &Config,
     path: &str,
+    why: &mut Why,
 ) -> Result<(), NodeFault>
 where
     R: AllocGlobal + Threads + Wait + Clock + Log + Copy + Drop + Send + Sync + 'static,
@@ -95,44 +111,65 @@ where
     let Ok(settings) = config.settings.copy() else {
         return Err(NodeFault::Script(ScriptFault::OutOfMemory));
     };
-    let desk = file::desk(host, &rt, rt.alloc(), settings, path)?;
+    let desk = file::desk(host, &rt, rt.alloc(), settings, path, why)?;
+    tell_beginning(&rt, config);
     let clock = HostClock(rt);
     told(
         &rt,
+        config,
         serve_over(rt, net, rt.alloc(), config, clock, desk, true),
+        why,
     )
 }
 
 /// The same where all is kept in memory.
-fn serve_memory<R, N>(rt: R, net: N, config: &Config) -> Result<(), NodeFault>
+fn serve_memory<R, N>(rt: R, net: N, config: &Config, why: &mut Why) -> Result<(), NodeFault>
 where
     R: AllocGlobal + Threads + Wait + Clock + Log + Copy + Drop + Send + Sync + 'static,
     N: Net<Listener = TcpListener, Stream = TcpStream> + Clock + Copy + Drop + Send + 'static,
 {
     let clock = HostClock(rt);
-    told(&rt, serve_with(rt, net, rt.alloc(), config, clock))
+    tell_beginning(&rt, config);
+    let served = serve_with(rt, net, rt.alloc(), config, clock);
+    told(&rt, config, served, why)
 }
 
-/// How serving ended; the log is told why, where that was early.
-fn told<R: Log>(rt: &R, served: Result<(), server::NodeFault>) -> Result<(), NodeFault> {
+/// How serving ended; the log is told why, where that was early, and where it didn't begin also whoever reads the last
+/// lines.
+fn told<R: Log>(
+    rt: &R,
+    config: &Config,
+    served: Result<(), server::NodeFault>,
+    why: &mut Why,
+) -> Result<(), NodeFault> {
     if let Err(fault) = &served {
         tell_end(rt, *fault);
+    }
+    if let Err(server::NodeFault::Bind) = &served {
+        why.say("listen", &Unheard(config.listen));
     }
     Ok(served?)
 }
 
 /// Serves by the configuration that the bytes are, over the file that it names, or else in memory. The log is told what
 /// stands in it.
-fn serve<R, N>(host: &HostRuntime, rt: R, net: N, bytes: &[u8]) -> Result<(), NodeFault>
+fn serve<R, N>(
+    host: &HostRuntime,
+    rt: R,
+    net: N,
+    name: &str,
+    bytes: &[u8],
+    why: &mut Why,
+) -> Result<(), NodeFault>
 where
     R: AllocGlobal + Threads + Wait + Clock + Log + Copy + Drop + Send + Sync + 'static,
     N: Net<Listener = TcpListener, Stream = TcpStream> + Clock + Copy + Drop + Send + 'static,
 {
-    let config = config(&rt, bytes)?;
-    tell_oddities(&rt, bytes);
+    let config = config(&rt, name, bytes, why)?;
+    tell_oddities(host, &rt, name, bytes);
     match &config.store {
-        Some(path) => serve_file(host, rt, net, &config, path.as_str()),
-        None => serve_memory(rt, net, &config),
+        Some(path) => serve_file(host, rt, net, &config, path.as_str(), why),
+        None => serve_memory(rt, net, &config, why),
     }
 }
 
@@ -156,8 +193,9 @@ fn hold_number<R: Files>(rt: &R) -> Option<R::File> {
     File::open(rt, "/dev/null").ok()
 }
 
-/// Serves by the configuration in a file and the system's clock, until it is to stop.
-pub fn run<R>(host: &HostRuntime, rt: R, name: &str) -> Result<(), NodeFault>
+/// Serves by the configuration in a file and the system's clock, until it is to stop. Where a file can't be used it
+/// says why.
+pub fn run<R>(host: &HostRuntime, rt: R, name: &str, why: &mut Why) -> Result<(), NodeFault>
 where
     R: Files
         + Eprint
@@ -176,7 +214,7 @@ where
     let _input = hold_number(&rt);
     let _output = hold_number(&rt);
     let _error = hold_number(&rt);
-    let bytes = bytes(&rt, name)?;
+    let bytes = bytes(&rt, name, why)?;
     let level = level(&rt, &bytes)?;
     let writer = writer(rt, level)?;
     let console = match &writer {
@@ -184,7 +222,7 @@ where
         None => Console::quiet(rt),
     };
     // The handle that logs passes on no connecting within a time, so the plain one goes where the net is used.
-    let served = serve(host, Logged::new(rt, level, console), rt, &bytes);
+    let served = serve(host, Logged::new(rt, level, console), rt, name, &bytes, why);
     if let Some(writer) = writer {
         writer.end();
     }

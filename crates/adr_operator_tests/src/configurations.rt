@@ -1,6 +1,6 @@
 //! What no clause says: that an example is read, that each wrong member is refused and told, by which words the members go,
 //! and what has no effect.
-use adr_config::{Config, log_of, oddities};
+use adr_config::{Config, MassDeletion, log_of, oddities};
 use adr_http::Roles;
 use adr_machine::Role;
 use adr_network::Networks;
@@ -12,7 +12,7 @@ use std::net::{IpAddr, SocketAddr};
 use std::test::Fail;
 
 /// The members of an example, each with its value.
-const MEMBERS: [(&str, &str); 12] = [
+const MEMBERS: [(&str, &str); 13] = [
     ("listen", "\"127.0.0.1:8080\""),
     ("upstream", "\"http://127.0.0.1:8081/openadr3\""),
     ("upstreamToken", "\"up\""),
@@ -25,8 +25,9 @@ const MEMBERS: [(&str, &str); 12] = [
         "tokens",
         "[{\"token\":\"t0\",\"role\":\"operator\"},{\"token\":\"u0\",\"role\":\"utility\"},{\"token\":\"v0\",\"role\":\"ven\",\"venID\":\"v1\"}]",
     ),
-    ("limits", "{\"vens\":7,\"trail\":1000000}"),
+    ("limits", "{\"vens\":7,\"pending\":100000}"),
     ("stopAfter", "4294967295"),
+    ("massDeletion", "\"at once\""),
     ("log", "\"info\""),
 ];
 
@@ -41,7 +42,7 @@ const NEEDED: [&str; 6] = [
 ];
 
 /// Members, what is told of them, and the values with which they are refused so.
-const WRONG: [(&str, &str, &[&str]); 34] = [
+const WRONG: [(&str, &str, &[&str]); 35] = [
     ("listen", "listen: not a text", &["8080"]),
     ("listen", "listen: missing", &["null"]),
     (
@@ -191,10 +192,15 @@ const WRONG: [(&str, &str, &[&str]); 34] = [
         "log: not off, error, warn, info or debug",
         &["\"trace\"", "\"OFF\"", "\"\"", "1", "{}"],
     ),
+    (
+        "massDeletion",
+        "massDeletion: not confirm or at once",
+        &["\"atOnce\"", "\"Confirm\"", "\"\"", "true"],
+    ),
 ];
 
 /// Values with which the example is taken, and what is told to have no effect.
-const MORE: [(&str, &str, &str); 14] = [
+const MORE: [(&str, &str, &str); 15] = [
     ("mode", "1", "mode: not a known member"),
     ("stopafter", "\"1\"", "stopafter: not a known member"),
     ("$schema", "\"config.schema.json\"", ""),
@@ -203,6 +209,11 @@ const MORE: [(&str, &str, &str); 14] = [
         "limits",
         "{\"keys\":7,\"kyes\":0}",
         "limits.kyes: not a known member",
+    ),
+    (
+        "limits",
+        "{\"trail\":7}",
+        "limits.trail: has no effect in a node that serves",
     ),
     (
         "tokens",
@@ -274,7 +285,16 @@ const CALLS: [(&str, &str, bool); 5] = [
 ];
 
 /// Texts that are no object.
-const NO_OBJECTS: [&str; 7] = ["", "{", "[]", "7", "null", "\"listen\"", "{\"poll\":1}}"];
+const NO_OBJECTS: [&str; 4] = ["[]", "7", "null", "\"listen\""];
+
+/// Texts that are no JSON, each with where it stops to be some.
+const NO_JSON: [(&str, &str); 5] = [
+    ("", "line 1, column 0"),
+    ("{", "line 1, column 1"),
+    ("{\"poll\":1}}", "line 1, column 11"),
+    ("{\n \"poll\": 1,\n}", "line 3, column 1"),
+    ("{\"poll\":\u{e9}}", "line 1, column 9"),
+];
 
 /// The limits by their names, each with its largest.
 const LARGEST: [(&str, u64); 10] = [
@@ -402,6 +422,7 @@ fn is_example(config: &Config) -> bool {
         && is_example_of_counts(config)
         && is_example_of_roles(&config.roles)
         && config.log == LevelFilter::Info
+        && config.mass_deletion == MassDeletion::AtOnce
         && is_example_of_store(config)
 }
 
@@ -440,6 +461,10 @@ fn what_need_not_be_said(rt: HostRuntime) -> Result<(), Fail> {
     assert!(rt; read(alloc, "stopAfter", None)?.stop_after.is_none());
     assert!(rt; read(alloc, "store", None)?.store.is_none());
     assert!(rt; read(alloc, "log", None)?.log == LevelFilter::Off);
+    assert!(rt; read(alloc, "massDeletion", None)?.mass_deletion == MassDeletion::Confirm);
+    assert!(rt;
+        read(alloc, "massDeletion", Some("\"confirm\""))?.mass_deletion == MassDeletion::Confirm
+    );
     assert!(rt; read(alloc, "limits", None)?.settings.limits == Limits::largest());
     assert!(rt;
         read(alloc, "tokens", Some("[]"))?
@@ -481,6 +506,10 @@ fn what_is_refused(rt: HostRuntime) -> Result<(), Fail> {
     }
     for text in NO_OBJECTS {
         assert_eq!(rt; told(alloc, text)?.as_str(), "not a JSON object", "{text}");
+    }
+    for (text, place) in NO_JSON {
+        let words = format!(in alloc; "{place}: not JSON")?;
+        assert_eq!(rt; told(alloc, text)?, words, "{text}");
     }
     let first = "{\"listen\":\"127.0.0.1:8080\",\"log\":7,\"poll\":0}";
     assert_eq!(rt; told(alloc, first)?.as_str(), "upstream: missing");

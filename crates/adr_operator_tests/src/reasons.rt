@@ -1,7 +1,9 @@
 //! What no clause says: the words of each reason, and that each public call succeeds. A line of a table has
 //! JSON, ` => ` and what is wanted.
-use adr_reasons::{Fate, Kind, faults_on_page, object_fault, targets_passed_over};
-use adr_text::read_value;
+use adr_schema::{
+    Body, Defect, Element, Kind, read_element, read_page, shown_id, targets_passed_over,
+};
+use adr_text::{list, read_value};
 use std::alloc::Global;
 use std::test::Fail;
 
@@ -86,15 +88,10 @@ const TARGETS: &str = r#"null => : false
 /// What becomes of an element, and the words for it; nothing where it is read.
 fn words(alloc: Global, kind: Kind, text: &str) -> Result<String, Fail> {
     let value = read_value(alloc, text.as_bytes())?;
-    match object_fault(alloc, kind, &value)? {
-        Some(fault) => {
-            let fate = match fault.fate {
-                Fate::Skipped => "skipped",
-                Fate::Unread(_) => "unread",
-            };
-            Ok(format!(in alloc; "{fate}: {}", fault.defect)?)
-        }
-        None => Ok(String::new(alloc)),
+    match read_element(alloc, kind, &value)? {
+        Element::Read(_) => Ok(String::new(alloc)),
+        Element::Unread(_, defect) => Ok(format!(in alloc; "unread: {defect}")?),
+        Element::Skipped(defect) => Ok(format!(in alloc; "skipped: {defect}")?),
     }
 }
 
@@ -170,31 +167,42 @@ fn words_of_what_is_too_long(rt: HostRuntime) -> Result<(), Fail> {
     Ok(())
 }
 
+/// Its first fault, with the number of the reason that is kept.
+fn fault_of(element: &Element) -> Option<(u8, Defect)> {
+    match element {
+        Element::Read(_) => None,
+        Element::Unread(found, defect) => match &found.body {
+            Body::Opaque(reason) => Some((reason.number(), *defect)),
+            Body::Program(_) | Body::Event(_) => None,
+        },
+        Element::Skipped(defect) => Some((0, *defect)),
+    }
+}
+
 #[test]
 fn a_page(rt: HostRuntime) -> Result<(), Fail> {
     let alloc = rt.alloc();
     let page = format!(in alloc;
         "[{PROGRAM}\"programName\":\"a\"}},{PROGRAM}\"a\":1}},{{\"id\":\"p 2\"}},7]"
     )?;
-    let faults = faults_on_page(alloc, Kind::Program, page.as_bytes())?;
+    let value = read_value(alloc, page.as_bytes())?;
     let mut lines = String::new(alloc);
-    for fault in &faults {
-        let id = match &fault.id {
+    for value in list(&value)? {
+        let id = shown_id(alloc, value)?;
+        let id = match &id {
             Some(id) => id.as_str(),
             None => "?",
         };
-        let reason = match fault.fate {
-            Fate::Skipped => 0,
-            Fate::Unread(reason) => reason.number(),
-        };
-        lines.push_str(format!(in alloc; "{reason} {id}: {}\n", fault.defect)?.as_str())?;
+        if let Some((reason, defect)) = fault_of(&read_element(alloc, Kind::Program, value)?) {
+            lines.push_str(format!(in alloc; "{reason} {id}: {defect}\n")?.as_str())?;
+        }
     }
     assert_eq!(rt;
         lines.as_str(),
         "5 p1: programName is missing\n0 p 2: id has other characters than letters, digits, - and _\n0 ?: id is missing\n"
     );
-    assert!(rt; faults_on_page(alloc, Kind::Program, b"{}")?.is_empty());
-    assert!(rt; faults_on_page(alloc, Kind::Program, b"[")?.is_empty());
+    let (found, skipped) = read_page(alloc, Kind::Program, page.as_bytes())?;
+    assert_eq!(rt; (found.len(), skipped), (2, 2));
     Ok(())
 }
 

@@ -5,7 +5,7 @@ ghost use Rattle.adr_sql.specs.Calls.{LeavesLent};
 ghost use Rattle.adr_db.specs.Calls.{Finds, IsOfStore};
 ghost use Rattle.adr_portfolio.specs.Parts.{parts_of};
 
-use adr_db_portfolio::named_participants;
+use adr_db_portfolio::Sharers;
 use adr_objects::{EventBody, Number};
 use adr_state::{Participant, Weight};
 use adr_text::{ObjectId, Refusal, Rows};
@@ -24,7 +24,7 @@ fn parts_of(alloc: Global, ps: &[Participant]) -> Result<Rows<(Number, Weight)>,
 }
 
 /// Who takes part in the event of an id, in the order of their numbers, each by its number with its weight. It costs
-/// what `named_participants` does.
+/// what `Sharers::participants` does, of which none are known.
 pub fn participants<S: Alter>(
     alloc: Global,
     tx: &mut Transaction<'_, S>,
@@ -35,6 +35,6 @@ pub fn participants<S: Alter>(
     ensures finds { Finds S.Store tx.old.conn.now tx.new.conn.now (λ kept parts. parts ≡ parts_of (participants kept.portfolio id.now event.now)) result }
     ensures refused { IfErr result IsOfStore }
 {
-    let those = named_participants(alloc, tx, id, event)?;
+    let those = Sharers::none(alloc).participants(alloc, tx, id, event)?;
     Ok(parts_of(alloc, those.as_slice())?)
 }

@@ -4,11 +4,10 @@ use Rattle.std.specs.Prelude.{◌==◌}
 use Rattle.std.proofs.lemmas.List.{take-map}
 use Rattle.sqlite.specs.declared.types.Value.TheVariants.{Int}
 use Rattle.sqlite_sql.specs.Query.{Query, page}
-use Rattle.adr_db.proofs.Common.{AllZip, Null, Report, Row, cells, col, end, Ghosts, Held, state, State, Shown, understood, everything, IsSelectText, first_columns, filter-map, is_text, passes, select_runs, whole_rows, all_of, filter_all, map-map}
+use Rattle.adr_db.proofs.Common.{AllZip, Null, Report, Row, cells, col, end, Ghosts, Held, state, State, Shown, understood, everything, IsSelectText, first_columns, filter-map, is_text, passes, select_runs, all_of, filter_all, map-map}
 use Rattle.adr_sql.proofs.Joins.{shown_cells}
 use Rattle.adr_view.specs.declared.sight.Sight.TheVariants.{All}
 use Rattle.adr_queries.specs.Reported.{sees_report}
-use Rattle.adr_sql.proofs.KeyedMaps.{read_all_runs}
 use Rattle.adr_db.specs.declared.report_columns.ReportColumns.{ReportColumns}
 use Rattle.adr_state.specs.Portfolios.{reported_on}
 use Rattle.adr_db.specs.Admitted.{ReadsNumber, ReadsReportEntry}
@@ -23,28 +22,10 @@ use Rattle.adr_db.proofs.Rows.{number_kept, report_columns_kept}
 use Rattle.adr_db.proofs.Tables.{report}
 use Rattle.adr_db_portfolio.proofs.Numbers.{number_passes, numbers_read}
 use Rattle.adr_lent.specs.Selections.{Selects}
-use Rattle.adr_lent.specs.Texts.{IsQueryText}
 use Rattle.adr_lent.proofs.Queries.{selects}
 use Rattle.adr_report_pages.specs.declared.by_key.TheConstants.{READ_ON}
-use Rattle.adr_report_pages.specs.declared.every.TheConstants.{READ_ALL}
-use Rattle.adr_report_pages.specs.Columns.{Entry, columns_in_sight, columns_of, rows_of_reports}
-
-abbrev columns : List (List ℕ)
-columns = codes "id" ∷ codes "event" ∷ codes "resource" ∷ codes "program" ∷ codes "client" ∷ codes "name" ∷ codes "resource_name" ∷ codes "revision" ∷ []
-
-pub all_query : IsQueryText READ_ALL.now
-unfolding everything
-all_query = record { read = record { unreturned = λ schema base. refl; untimed = λ schema. refl } }
-
-reads_all : IsSelectText schema report (whole_rows 0 report) end READ_ALL.now
-unfolding understood everything
-reads_all = record { names = columns; command = refl; alone = (refl, refl); unlisted = refl; from = refl; order = refl; ungrouped = refl; undistinct = refl; joins = refl; sorts = refl; shows = refl }
-
-all_shown : (old new : State) (rows : List Row) (kept : Kept) → Shown READ_ALL.now [] old new rows → Keeps kept old → rows ≡ rows_of_reports kept
-all_shown old new rows kept all was = read_all_runs report_rows (contents_of kept) kept.portfolio.reports refl READ_ALL.now [] old new reads_all rows all was.rows
-
-pub all_selected : {S : Type 0} (g : Ghosts S) (before : Held S) → Selects g READ_ALL.now [] rows_of_reports before
-all_selected g before = selects g READ_ALL.now [] (whole_rows 0 report) rows_of_reports reads_all all_shown before
+use Rattle.adr_lent.specs.Whole.{rows_of_reports}
+use Rattle.adr_report_pages.specs.Columns.{Entry, columns_in_sight, columns_of}
 
 -- ---- the columns in them
 

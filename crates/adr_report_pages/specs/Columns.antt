@@ -1,10 +1,7 @@
 -- What is kept of reports without their intervals: the columns of each, behind its number.
 use Rattle.std.specs.Prelude.{ℕ, Bool, ◌==◌, ◌&&◌, List, map, filter, Option, option_map}
 use Rattle.std.specs.List.{list_any}
-use Rattle.std.specs.Ordering.{nat_cmp}
-use Rattle.sqlite.specs.Order.{Row}
 use Rattle.adr_state.specs.declared.portfolio.Report.{Report}
-use Rattle.adr_state.specs.Keys.{at}
 use Rattle.adr_state.specs.Portfolios.{reported_on}
 use Rattle.adr_view.specs.declared.sight.Sight.{Sight}
 use Rattle.adr_queries.specs.declared.filter.ReportFilter.{ReportFilter}
@@ -13,7 +10,7 @@ use Rattle.adr_queries.specs.Reported.{sees_report}
 use Rattle.adr_db.specs.declared.report_columns.ReportColumns.{ReportColumns}
 use Rattle.adr_db.specs.Images.{image_kept}
 use Rattle.adr_db.specs.Kept.{Kept}
-use Rattle.adr_db.specs.Rows.{report_row}
+use Rattle.adr_db_portfolio.specs.Columns.{columns_at}
 
 -- the columns of a report, behind its number
 abbrev pub Entry : Type 0
@@ -22,10 +19,6 @@ Entry = ℕ × ReportColumns
 -- those of a report
 abbrev pub columns_of : ℕ × Report → Entry
 columns_of r = (r.0, record { head = r.1.body.head; revision = r.1.revision })
-
--- the rows of all reports, by number
-abbrev pub rows_of_reports : Kept → List Row
-rows_of_reports kept = map report_row kept.portfolio.reports
 
 -- the columns of the reports in sight, by number
 abbrev pub columns_in_sight : Kept → Sight → List Entry
@@ -43,11 +36,7 @@ wanted_among f entries = filter (λ e. wants_columns f e.1) entries
 
 -- ---- by number
 
--- the columns of the report of a number, where there is one
-abbrev pub columns_at : ℕ → Kept → Option ReportColumns
-columns_at n kept = option_map (λ r. (columns_of (n, r)).1) (at nat_cmp n kept.portfolio.reports)
-
--- those behind the number
+-- the columns of the report of a number, where there is one, behind it
 abbrev pub entry_at : ℕ → Kept → Option Entry
 entry_at n kept = option_map (λ columns. (n, columns)) (columns_at n kept)
 

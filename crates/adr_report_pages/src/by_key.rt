@@ -1,52 +1,18 @@
-//! A report by its number: its columns, and its intervals; and the numbers of those on a resource.
+//! The numbers of the reports on a resource.
 ghost use Rattle.std.specs.Prelude.{◌≡◌, ◌==◌, filter, map, IfErr};
 ghost use Rattle.adr_state.specs.Portfolios.{reported_on};
 ghost use Rattle.adr_sql.specs.Calls.{LeavesLent};
 ghost use Rattle.adr_db.specs.Calls.{Finds, IsOfStore};
-ghost use Rattle.adr_db.specs.Kept.{at_most, intervals_of};
-ghost use Rattle.adr_report_pages.specs.Columns.{columns_at};
+ghost use Rattle.adr_db.specs.Kept.{at_most};
 
-use adr_db::ReportColumns;
 use adr_db::cells::{number, row_limit};
-use adr_db::reading::{all_of, first_of};
-use adr_objects::{Number, UsageInterval};
+use adr_db::reading::all_of;
+use adr_objects::Number;
 use adr_text::{Refusal, Rows};
 use sqlite::{Alter, Transaction};
 use std::alloc::Global;
 
-const READ_COLUMNS: &str =
-    "SELECT id, event, resource, program, client, name, resource_name, revision FROM report WHERE id = ?1 ORDER BY id";
-
-const READ_INTERVALS: &str =
-    "SELECT report, pos, interval, value FROM report_value WHERE report = ?1 ORDER BY report, pos";
-
 const READ_ON: &str = "SELECT id FROM report WHERE resource = ?1 ORDER BY id LIMIT ?2";
-
-/// The columns of the report of a number, where there is one. Its intervals are not read.
-pub(crate) fn read_columns<S: Alter>(
-    alloc: Global,
-    tx: &mut Transaction<'_, S>,
-    id: Number,
-) -> Result<Option<ReportColumns>, Refusal>
-    ensures lent { LeavesLent S.Store tx.old.conn tx.new.conn result }
-    ensures finds { Finds S.Store tx.old.conn.now tx.new.conn.now (λ kept found. found ≡ columns_at id kept) result }
-    ensures refused { IfErr result IsOfStore }
-{
-    first_of(alloc, tx, READ_COLUMNS, &[number(id.get())?])
-}
-
-/// The intervals of the report of a number, in their order; none where there is no such report.
-pub(crate) fn read_intervals<S: Alter>(
-    alloc: Global,
-    tx: &mut Transaction<'_, S>,
-    id: Number,
-) -> Result<Rows<UsageInterval>, Refusal>
-    ensures lent { LeavesLent S.Store tx.old.conn tx.new.conn result }
-    ensures finds { Finds S.Store tx.old.conn.now tx.new.conn.now (λ kept intervals. intervals ≡ intervals_of id kept) result }
-    ensures refused { IfErr result IsOfStore }
-{
-    all_of(alloc, tx, READ_INTERVALS, &[number(id.get())?])
-}
 
 /// The numbers of the reports on a resource, in their order: of the first ones, where there is a limit. Nothing else of them
 /// is read, and no row behind the last of them.

@@ -1,40 +1,22 @@
 //! All reports, whose rows are lent one after another.
-ghost use Rattle.std.specs.Prelude.{IsTrue, ◌≡◌, [], take, drop, IfOk, OnOk, IfErr};
-ghost use Rattle.std.specs.Borrow.{sem, RestsIfErr};
-ghost use Rattle.sqlite.specs.contracts.connection.Connection.{the_row};
+ghost use Rattle.std.specs.Prelude.{IsTrue, ◌≡◌, take, drop, IfOk, OnOk, IfErr};
 ghost use Rattle.sqlite.specs.Held.{state};
 ghost use Rattle.sqlite.specs.State.{HasCleanDisk};
 ghost use Rattle.adr_view.specs.declared.sight.Sight.TheVariants.{All};
 ghost use Rattle.adr_db.specs.Calls.{IsOfStore};
 ghost use Rattle.adr_db.specs.Kept.{Kept, Keeps};
-ghost use Rattle.adr_lent.specs.Lent.{Begins, Stands};
-ghost use Rattle.adr_lent.specs.Selections.{Selects};
-ghost use Rattle.adr_report_pages.specs.Columns.{rows_of_reports, columns_in_sight, wanted_among};
+ghost use Rattle.adr_lent.specs.Lent.{Stands};
+ghost use Rattle.adr_report_pages.specs.Columns.{columns_in_sight, wanted_among};
 
 use crate::wanted::ByColumns;
 use adr_db::ReportColumns;
 use adr_db::statement::refusal_of;
-use adr_lent::{lend, lent_page};
+use adr_lent::{lend_reports, lent_page};
 use adr_objects::Number;
 use adr_queries::{Page, ReportFilter};
 use adr_text::{Refusal, Rows};
-use sqlite::{Alter, Connection, Error, Rows as LentRows};
+use sqlite::{Alter, Connection, Error};
 use std::alloc::Global;
-
-const READ_ALL: &str =
-    "SELECT id, event, resource, program, client, name, resource_name, revision FROM report ORDER BY id";
-
-/// The reports, by number. Their intervals are not read.
-pub fn lend_reports<'conn, S: Alter>(
-    conn: &'conn mut Connection<S>,
-) -> Result<LentRows<'conn, S>, Error>
-    ensures* refused { sem 𝓛 (RestsIfErr (the_row S.row S.Store) conn.entry (λ rows. rows.conn.ghost_name) result (Stands S.Store conn.old)) }
-    ensures same_reference { IfOk result (λ rows. rows.conn.ghost_name ≡ conn.entry.ghost_name) }
-    ensures begun { IfOk result (λ rows. Begins S.Store READ_ALL.now [] conn.old rows.conn.now) }
-    ensures selects { Selects S.Store READ_ALL.now [] rows_of_reports conn.old }
-{
-    lend(conn, READ_ALL, &[])
-}
 
 /// The columns of the reports that are wanted, by number: after the first ones, at most so many. No row is read past the last
 /// one that is needed, and no interval.

@@ -10,6 +10,6 @@ mod objects;
 mod own;
 mod wanted;
 
-pub use every::{every_page, lend_reports};
+pub use every::every_page;
 pub use objects::objects_of;
 pub use own::own_page;

@@ -4,8 +4,8 @@ ghost use Rattle.adr_sql.specs.Calls.{LeavesLent};
 ghost use Rattle.adr_db.specs.Calls.{Finds, IsOfStore};
 ghost use Rattle.adr_report_pages.specs.Objects.{object_with, object_kept};
 
-use crate::by_key::read_intervals;
 use adr_db::ReportColumns;
+use adr_db_portfolio::read_values;
 use adr_db_state::read_stamps_of;
 use adr_objects::{Number, ReportBody, ReportObject, Stamps, UsageInterval};
 use adr_queries::Object;
@@ -49,7 +49,7 @@ fn told<S: Alter>(
     ensures finds { Finds S.Store tx.old.conn.now tx.new.conn.now (λ kept object. object_kept kept (number, columns) ≡ Some object) result }
     ensures refused { IfErr result IsOfStore }
 {
-    let intervals = read_intervals(alloc, tx, number)?;
+    let intervals = read_values(alloc, tx, number)?;
     let stamps = read_stamps_of(tx, &ViewKey::Report(number))?;
     object_of(number, columns, intervals, stamps)
 }

@@ -12,10 +12,10 @@ ghost use Rattle.adr_report_pages.specs.Cuts.{CutsOn};
 ghost use Rattle.adr_report_pages.specs.Firsts.{HaveFirst};
 ghost use Rattle.adr_report_pages.specs.Columns.{with_resource, on_any, entry_at, columns_in_sight, wanted_among};
 
-use crate::by_key::{read_columns, read_numbers_on};
+use crate::by_key::read_numbers_on;
 use crate::wanted::ByColumns;
 use adr_db::ReportColumns;
-use adr_db_portfolio::read_resources_of;
+use adr_db_portfolio::{read_columns, read_resources_of};
 use adr_lent::offer;
 use adr_objects::Number;
 use adr_queries::{Page, ReportFilter};

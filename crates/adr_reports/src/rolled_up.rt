@@ -6,7 +6,7 @@ ghost use Rattle.adr_sql.specs.Calls.{LeavesLent};
 ghost use Rattle.adr_db.specs.Calls.{Finds, IsOfStore};
 
 use adr_db_mirror::read_known;
-use adr_db_portfolio::{named_participants, read_reports_of};
+use adr_db_portfolio::{Sharers, read_reports_of};
 use adr_objects::{EventBody, Number, Rollup};
 use adr_state::{Participant, Report};
 use adr_text::{ObjectId, Refusal, Rows};
@@ -50,7 +50,7 @@ fn event_rollup<S: Alter>(
     ensures finds { Finds S.Store tx.old.conn.now tx.new.conn.now (λ kept rollup. rollup ≡ rollup_of kept.portfolio id.now event.now) result }
     ensures refused { IfErr result IsOfStore }
 {
-    let ps = named_participants(alloc, tx, id, event)?;
+    let ps = Sharers::none(alloc).participants(alloc, tx, id, event)?;
     let rows = read_reports_of(alloc, tx, id)?;
     let reports = without_numbers(alloc, rows)?;
     Ok(rolled_up(alloc, event, ps.as_slice(), reports.as_slice())?)

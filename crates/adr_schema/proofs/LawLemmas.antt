@@ -1,6 +1,6 @@
 -- What a reading that went well says of what it read.
-use Rattle.std.proofs.Common.{◌≡◌, ℕ, suc, ◌+◌, Bool, true, false, cond, ℤ, List, [], ◌∷◌, ◌++◌, map, length, codes, Option, Some, None, Result, Ok, Err, refl, sym, ap, ◌∙◌, true≢false, arith}
-use Rattle.std.specs.Prelude.{All, IfSome, option_and_then, unwrap_or, count_by, is_err, nat_le}
+use Rattle.std.proofs.Common.{◌≡◌, ℕ, suc, ◌+◌, Bool, true, false, cond, ℤ, List, [], ◌∷◌, ◌++◌, map, length, codes, Option, Some, None, Result, Ok, Err, refl, sym, ap, subst, ◌∙◌, true≢false, arith}
+use Rattle.std.specs.Prelude.{All, IfSome, option_and_then, unwrap_or, count_by, is_err}
 use Rattle.std.specs.List.{AllByRecursion, filter_map, cons_option}
 use Rattle.std.specs.Result.{result_ok}
 use Rattle.std.specs.Ordering.{int_eq}
@@ -24,7 +24,7 @@ use Rattle.adr_objects.specs.declared.body.EventBody.{EventBody}
 use Rattle.adr_objects.specs.declared.body.Found.{Found}
 use Rattle.adr_objects.specs.declared.report.UsageInterval.{UsageInterval}
 use Rattle.adr_objects.specs.declared.site.ReportIn.{ReportIn}
-use Rattle.adr_objects.specs.Limits.{is_setpoint, setpoint_at, most_intervals}
+use Rattle.adr_objects.specs.Limits.{is_setpoint, setpoint_at}
 use Rattle.adr_objects.specs.Intervals.{has_id, differ_after, differ, apart}
 use Rattle.adr_objects.specs.Fields.{text_in, priority_in, period_in, setpoint_in}
 use Rattle.adr_objects.specs.ReadBack.{as_bad_shape}
@@ -39,24 +39,18 @@ use Rattle.adr_schema.specs.Laws.{IsSmall, HaveOwnIds}
 
 -- ---- a chain that went well: each of its parts did
 
-pub record Followed {A B E : Type 0} (r : Result A E) (f : A → Result B E) (y : B) : Type 0 where
-  pub first : A
-  pub was : r ≡ Ok first
-  pub then : f first ≡ Ok y
+behind : {A B E P : Type 0} (r : Result A E) (f : A → Result B E) (y : B) → ((x : A) → r ≡ Ok x → f x ≡ Ok y → P) → (r >>= f) ≡ Ok y → P
+behind (Ok x) f y then h = then x refl h
+behind (Err e) f y then h = absurd (cc)
 
-followed : {A B E : Type 0} (r : Result A E) (f : A → Result B E) (y : B) → (r >>= f) ≡ Ok y → Followed r f y
-followed (Ok x) f y h = record { first = x; was = refl; then = h }
-followed (Err e) f y h = absurd (cc)
+-- what holds of the one value holds of the other
+holds_of : {A : Type 0} (P : A → Type 0) {x y : A} → ◌≡◌ {A = Result A Fault} (Ok x) (Ok y) → P x → P y
+holds_of P {x = x} {y = y} same h = subst P (same_Some x y (ap result_ok same)) h
 
 -- what holds of each value that is read holds of one that may be absent
 optional_holds : {A : Type 0} (P : A → Type 0) (o : Option Data) (f : Data → Result A Fault) (r : Option A) → ((d : Data) (x : A) → f d ≡ Ok x → P x) → optional o f ≡ Ok r → IfSome r P
-optional_holds P None f None h e = tt
-optional_holds P None f (Some x) h e = absurd (cc)
-optional_holds P (Some d) f None h e = let there = followed (f d) (λ x. Ok (Some x)) None e in absurd (cc)
-optional_holds P (Some d) f (Some y) h e =
-    let there = followed (f d) (λ x. Ok (Some x)) (Some y) e in
-    let same : there.first ≡ y = cc in
-    h d y (there.was ∙ ap (λ x. Ok x) same)
+optional_holds P None f r h e = holds_of (λ o. IfSome o P) e tt
+optional_holds P (Some d) f r h e = behind (f d) _ r (λ x was same. holds_of (λ o. IfSome o P) same (h d x was)) e
 
 required_holds : {A : Type 0} (P : A → Type 0) (o : Option Data) (f : Data → Result A Fault) (x : A) → ((d : Data) (x : A) → f d ≡ Ok x → P x) → required o f ≡ Ok x → P x
 required_holds P None f x h e = absurd (cc)
@@ -69,26 +63,20 @@ small_at z s true is h = let same : z ≡ s = cc in rw same at is
 small_at z s false is h = absurd (cc)
 
 whole_small : (w : Whole) (s : ℤ) → (whole_from w >>= setpoint_at) ≡ Ok s → is_setpoint s ≡ true
-whole_small w s h = let whole = followed (whole_from w) setpoint_at s h in small_at whole.first s _ refl whole.then
+whole_small w s h = behind (whole_from w) setpoint_at s (λ z _. small_at z s _ refl) h
 
 setpoint_small : (d : Data) (s : ℤ) → setpoint_in d ≡ Ok s → is_setpoint s ≡ true
 unfolding setpoint_in
 setpoint_small d s h = whole_small (whole_of d) s h
 
 usage_small : (o : Option Whole) (u : Option ℤ) → usage_at o ≡ Ok u → IsSmall u
-usage_small None None h = tt
-usage_small None (Some s) h = absurd (cc)
-usage_small (Some w) None h = let said = followed (whole_from w >>= setpoint_at) (λ usage. Ok (Some usage)) None h in absurd (cc)
-usage_small (Some w) (Some s) h =
-    let said = followed (whole_from w >>= setpoint_at) (λ usage. Ok (Some usage)) (Some s) h in
-    let same : said.first ≡ s = cc in
-    rw same at (whole_small w said.first said.was)
+usage_small None u h = holds_of IsSmall h tt
+usage_small (Some w) u h = behind (whole_from w >>= setpoint_at) _ u (λ s was same. holds_of IsSmall same (whole_small w s was)) h
 
 payloads_small : (d : Data) (o : Option ℤ) → payloads_in d ≡ Ok o → IsSmall o
 unfolding payloads_in
 payloads_small d o h =
-    let value = followed (only_value (codes "DISPATCH_SETPOINT") d) (λ value. optional value setpoint_in) o h in
-    optional_holds (λ s. is_setpoint s ≡ true) value.first setpoint_in o setpoint_small value.then
+    behind (only_value (codes "DISPATCH_SETPOINT") d) _ o (λ value _. optional_holds (λ s. is_setpoint s ≡ true) value setpoint_in o setpoint_small) h
 
 -- ---- an interval
 
@@ -104,27 +92,18 @@ pub record IsNext (before : List Interval) (i : Interval) : Type 0 where
   pub small : IsSmall i.setpoint
   pub fresh : has_id (λ i. i.id) i.id before ≡ false
 
-abbrev interval_last : Data → ℤ → Option Period → Result Interval Fault
-interval_last d id period =
-    optional (member_of (codes "payloads") d) payloads_in >>= λ payloads. Ok (record { id = id; period = period; setpoint = option_and_then (λ s. s) payloads })
-
-abbrev interval_rest : Data → ℤ → Result Interval Fault
-interval_rest d id = optional (member_of (codes "intervalPeriod") d) period_in >>= interval_last d id
+next : {before : List Interval} (id : ℤ) (period : Option Period) (setpoint : Option ℤ) → IsSmall setpoint → has_id (λ (i : Interval). i.id) id before ≡ false → IsNext before (record { id = id; period = period; setpoint = setpoint })
+next id period setpoint small fresh = record { small = small; fresh = fresh }
 
 interval_next : (before : List Interval) (d : Data) (i : Interval) → interval_in before d ≡ Ok i → IsNext before i
 unfolding interval_in
-interval_next before d i h =
-    let id = followed (fresh_id before d) (interval_rest d) i h in
-    let period = followed (optional (member_of (codes "intervalPeriod") d) period_in) (interval_last d id.first) i id.then in
-    let payloads = followed (optional (member_of (codes "payloads") d) payloads_in) (λ payloads. Ok (record { id = id.first; period = period.first; setpoint = option_and_then (λ s. s) payloads })) i period.then in
-    let same = same_Some _ i (ap result_ok payloads.then) in
-    let asked = followed (required (member_of (codes "id") d) i32_in) (λ n. cond (has_id (λ (i : Interval). i.id) n before) (Err Repeated) (Ok n)) id.first id.was in
-    let fresh = fresh_at asked.first before _ id.first refl asked.then in
-    let small = carried_small payloads.first (optional_holds IsSmall (member_of (codes "payloads") d) payloads_in payloads.first payloads_small payloads.was) in
-    rw same at (next id.first period.first (option_and_then (λ s. s) payloads.first) small fresh)
-  where
-    next : {before : List Interval} (id : ℤ) (period : Option Period) (setpoint : Option ℤ) → IsSmall setpoint → has_id (λ (i : Interval). i.id) id before ≡ false → IsNext before (record { id = id; period = period; setpoint = setpoint })
-    next id period setpoint small fresh = record { small = small; fresh = fresh }
+interval_next before d i =
+    behind (fresh_id before d) _ i
+    (λ id was. behind (optional (member_of (codes "intervalPeriod") d) period_in) _ i
+    (λ period _. behind (optional (member_of (codes "payloads") d) payloads_in) _ i
+    (λ payloads said same. holds_of (IsNext before) same
+    (next id period (option_and_then (λ s. s) payloads) (carried_small payloads (optional_holds IsSmall (member_of (codes "payloads") d) payloads_in payloads payloads_small said))
+    (behind (required (member_of (codes "id") d) i32_in) _ id (λ n _. fresh_at n before _ id refl) was)))))
 
 -- ---- the intervals
 
@@ -132,25 +111,18 @@ pub record AreRead (before is : List Interval) : Type 0 where
   pub small : AllByRecursion (λ i. IsSmall i.setpoint) is
   pub apart : differ_after (λ i. i.id) before is ≡ true
 
-abbrev intervals_rest : List Interval → List Data → Interval → Result (List Interval) Fault
-intervals_rest before ds i = intervals_from (before ++ i ∷ []) ds >>= λ is. Ok (i ∷ is)
+one_before : (before : List Interval) (i : Interval) (is : List Interval) → IsNext before i → AreRead (before ++ i ∷ []) is → AreRead before (i ∷ is)
+one_before before i is next later = record { small = (next.small, later.small); apart = rw (next.fresh, later.apart) refl }
 
-one_before : (before : List Interval) (i x : Interval) (is xs : List Interval) → i ≡ x → is ≡ xs → IsNext before i → AreRead (before ++ i ∷ []) is → AreRead before (x ∷ xs)
-one_before before i x is xs head tail next later = rw (← head, ← tail) (record { small = (next.small, later.small); apart = rw (next.fresh, later.apart) refl })
+none_read : (before : List Interval) → AreRead before []
+none_read before = record { small = tt; apart = refl }
 
 from_read : (before : List Interval) (ds : List Data) (is : List Interval) → intervals_from before ds ≡ Ok is → AreRead before is
-from_read before [] [] h = record { small = tt; apart = refl }
-from_read before [] (x ∷ xs) h = absurd (cc)
-from_read before (d ∷ ds) [] h =
-    let first = followed (interval_in before d) (intervals_rest before ds) [] h in
-    let rest = followed (intervals_from (before ++ first.first ∷ []) ds) (λ is. Ok (first.first ∷ is)) [] first.then in
-    absurd (cc)
-from_read before (d ∷ ds) (x ∷ xs) h =
-    let first = followed (interval_in before d) (intervals_rest before ds) (x ∷ xs) h in
-    let rest = followed (intervals_from (before ++ first.first ∷ []) ds) (λ is. Ok (first.first ∷ is)) (x ∷ xs) first.then in
-    let head : first.first ≡ x = cc in
-    let tail : rest.first ≡ xs = cc in
-    one_before before first.first x rest.first xs head tail (interval_next before d first.first first.was) (from_read (before ++ first.first ∷ []) ds rest.first rest.was)
+from_read before [] is h = holds_of (AreRead before) h (none_read before)
+from_read before (d ∷ ds) is h =
+    behind (interval_in before d) _ is
+    (λ i was. behind (intervals_from (before ++ i ∷ []) ds) _ is
+    (λ more read same. holds_of (AreRead before) same (one_before before i more (interval_next before d i was) (from_read (before ++ i ∷ []) ds more read)))) h
 
 all_at : (ds : List Data) (b : Bool) (is : List Interval) → cond b (intervals_from [] ds) (Err BadShape) ≡ Ok is → AreRead [] is
 all_at ds true is h = from_read [] ds is h
@@ -158,46 +130,24 @@ all_at ds false is h = absurd (cc)
 
 intervals_read : (d : Data) (is : List Interval) → intervals_in d ≡ Ok is → AreRead [] is
 unfolding intervals_in
-intervals_read d is h =
-    let objects = followed (objects_in d) (λ ds. cond (nat_le (length ds) most_intervals) (intervals_from [] ds) (Err BadShape)) is h in
-    all_at objects.first _ is objects.then
+intervals_read d is h = behind (objects_in d) _ is (λ ds _. all_at ds _ is) h
 
 or_none : (o : Option (List Interval)) → IfSome o (AreRead []) → AreRead [] (unwrap_or o [])
-or_none None h = record { small = tt; apart = refl }
+or_none None h = none_read []
 or_none (Some is) h = h
 
 -- ---- an event
 
-abbrev event_5 : Data → List ℕ → Option (List ℕ) → Option ℕ → Option Period → Option (Option (List (List ℕ))) → Result EventBody Fault
-event_5 d program name priority period targets =
-    optional (member_of (codes "intervals") d) intervals_in >>= λ intervals. Ok (record { program = program; name = name; priority = priority; period = period; resource_names = option_and_then (λ t. t) targets; intervals = unwrap_or intervals [] })
-
-abbrev event_4 : Data → List ℕ → Option (List ℕ) → Option ℕ → Option Period → Result EventBody Fault
-event_4 d program name priority period = optional (member_of (codes "targets") d) targets_in >>= event_5 d program name priority period
-
-abbrev event_3 : Data → List ℕ → Option (List ℕ) → Option ℕ → Result EventBody Fault
-event_3 d program name priority = optional (member_of (codes "intervalPeriod") d) period_in >>= event_4 d program name priority
-
-abbrev event_2 : Data → List ℕ → Option (List ℕ) → Result EventBody Fault
-event_2 d program name = optional (member_of (codes "priority") d) priority_in >>= event_3 d program name
-
-abbrev event_1 : Data → List ℕ → Result EventBody Fault
-event_1 d program = optional (member_of (codes "eventName") d) (text_in 256) >>= event_2 d program
-
 event_read : (d : Data) (e : EventBody) → event_in d ≡ Ok e → AreRead [] e.intervals
 unfolding event_in
-event_read d e h =
-    let program = followed (required (member_of (codes "programID") d) id_in) (event_1 d) e h in
-    let name = followed (optional (member_of (codes "eventName") d) (text_in 256)) (event_2 d program.first) e program.then in
-    let priority = followed (optional (member_of (codes "priority") d) priority_in) (event_3 d program.first name.first) e name.then in
-    let period = followed (optional (member_of (codes "intervalPeriod") d) period_in) (event_4 d program.first name.first priority.first) e priority.then in
-    let targets = followed (optional (member_of (codes "targets") d) targets_in) (event_5 d program.first name.first priority.first period.first) e period.then in
-    let intervals = followed (optional (member_of (codes "intervals") d) intervals_in)
-    (λ intervals. Ok (record { program = program.first; name = name.first; priority = priority.first; period = period.first; resource_names = option_and_then (λ t. t) targets.first; intervals = unwrap_or intervals [] })) e targets.then in
-    with_intervals _ e (same_Some _ e (ap result_ok intervals.then)) (or_none intervals.first (optional_holds (AreRead []) (member_of (codes "intervals") d) intervals_in intervals.first intervals_read intervals.was))
-  where
-    with_intervals : (a b : EventBody) → a ≡ b → AreRead [] a.intervals → AreRead [] b.intervals
-    with_intervals a b same h = rw (← same) h
+event_read d e =
+    behind (required (member_of (codes "programID") d) id_in) _ e
+    (λ program _. behind (optional (member_of (codes "eventName") d) (text_in 256)) _ e
+    (λ name _. behind (optional (member_of (codes "priority") d) priority_in) _ e
+    (λ priority _. behind (optional (member_of (codes "intervalPeriod") d) period_in) _ e
+    (λ period _. behind (optional (member_of (codes "targets") d) targets_in) _ e
+    (λ targets _. behind (optional (member_of (codes "intervals") d) intervals_in) _ e
+    (λ intervals was same. holds_of (λ (e : EventBody). AreRead [] e.intervals) same (or_none intervals (optional_holds (AreRead []) (member_of (codes "intervals") d) intervals_in intervals intervals_read was))))))))
 
 pub setpoints_small : (d : Data) (e : EventBody) → event_in d ≡ Ok e → All (λ i. IsSmall i.setpoint) e.intervals
 setpoints_small d e h = All-from_recursion (λ i. IsSmall i.setpoint) e.intervals (event_read d e h).small
@@ -235,94 +185,54 @@ pub record IsStated (p : PostedInterval) (i : UsageInterval) : Type 0 where
   pub small : IsSmall i.usage
   pub id : i.id ≡ p.id
 
-stated_as : (p : PostedInterval) (usage : Option ℤ) → IsSmall usage → IsStated p (record { id = p.id; usage = usage })
-stated_as p usage small = record { small = small; id = refl }
-
 interval_stated : (p : PostedInterval) (i : UsageInterval) → usage_interval p ≡ Ok i → IsStated p i
-interval_stated p i h =
-    let usage = followed (usage_at p.usage) (λ usage. Ok (record { id = p.id; usage = usage })) i h in
-    let same = same_Some _ i (ap result_ok usage.then) in
-    rw same at (stated_as p usage.first (usage_small p.usage usage.first usage.was))
+interval_stated p i h = behind (usage_at p.usage) _ i (λ usage was same. holds_of (IsStated p) same (stated usage (usage_small p.usage usage was))) h
+  where
+    stated : (usage : Option ℤ) → IsSmall usage → IsStated p (record { id = p.id; usage = usage })
+    stated usage small = record { small = small; id = refl }
 
 pub record AreStated (ps : List PostedInterval) (is : List UsageInterval) : Type 0 where
   pub small : AllByRecursion (λ i. IsSmall i.usage) is
   pub ids : map (λ (i : UsageInterval). i.id) is ≡ map (λ (p : PostedInterval). p.id) ps
 
-abbrev usages_rest : List PostedInterval → UsageInterval → Result (List UsageInterval) Fault
-usages_rest ps i = usage_intervals ps >>= λ is. Ok (i ∷ is)
+one_stated : (p : PostedInterval) (ps : List PostedInterval) (i : UsageInterval) (is : List UsageInterval) → IsStated p i → AreStated ps is → AreStated (p ∷ ps) (i ∷ is)
+one_stated p ps i is one more = record { small = (one.small, more.small); ids = rw (one.id, more.ids) refl }
 
-one_stated : (p : PostedInterval) (ps : List PostedInterval) (x : UsageInterval) (xs : List UsageInterval) → IsStated p x → AreStated ps xs → AreStated (p ∷ ps) (x ∷ xs)
-one_stated p ps x xs one more = record { small = (one.small, more.small); ids = rw (one.id, more.ids) refl }
+none_stated : AreStated [] []
+none_stated = record { small = tt; ids = refl }
 
 all_stated : (ps : List PostedInterval) (is : List UsageInterval) → usage_intervals ps ≡ Ok is → AreStated ps is
-all_stated [] [] h = record { small = tt; ids = refl }
-all_stated [] (x ∷ xs) h = absurd (cc)
-all_stated (p ∷ ps) [] h =
-    let first = followed (usage_interval p) (usages_rest ps) [] h in
-    let rest = followed (usage_intervals ps) (λ is. Ok (first.first ∷ is)) [] first.then in
-    absurd (cc)
-all_stated (p ∷ ps) (x ∷ xs) h =
-    let first = followed (usage_interval p) (usages_rest ps) (x ∷ xs) h in
-    let rest = followed (usage_intervals ps) (λ is. Ok (first.first ∷ is)) (x ∷ xs) first.then in
-    let head : first.first ≡ x = cc in
-    let tail : rest.first ≡ xs = cc in
-    one_stated p ps x xs (rw head at (interval_stated p first.first first.was)) (rw tail at (all_stated ps rest.first rest.was))
+all_stated [] is h = holds_of (AreStated []) h none_stated
+all_stated (p ∷ ps) is h =
+    behind (usage_interval p) _ is
+    (λ i was. behind (usage_intervals ps) _ is
+    (λ more stated same. holds_of (AreStated (p ∷ ps)) same (one_stated p ps i more (interval_stated p i was) (all_stated ps more stated)))) h
 
 apart_at : (ps qs : List PostedInterval) (b : Bool) → differ (λ i. i.id) ps ≡ b → cond b (Ok ps) (Err Repeated) ≡ Ok qs → differ (λ i. i.id) qs ≡ true
 apart_at ps qs true is h = let same : ps ≡ qs = cc in rw same at is
 apart_at ps qs false is h = absurd (cc)
 
 few_apart : (ds : List Data) (b : Bool) (ps : List PostedInterval) → cond b (each posted_interval_in ds >>= apart (λ i. i.id)) (Err BadShape) ≡ Ok ps → differ (λ i. i.id) ps ≡ true
-few_apart ds true ps h = let read = followed (each posted_interval_in ds) (apart (λ i. i.id)) ps h in apart_at read.first ps _ refl read.then
+few_apart ds true ps h = behind (each posted_interval_in ds) _ ps (λ read _. apart_at read ps _ refl) h
 few_apart ds false ps h = absurd (cc)
 
 posted_apart : (d : Data) (ps : List PostedInterval) → posted_intervals_in d ≡ Ok ps → differ (λ i. i.id) ps ≡ true
 unfolding posted_intervals_in
-posted_apart d ps h =
-    let objects = followed (objects_in d) (λ ds. cond (nat_le (length ds) most_intervals) (each posted_interval_in ds >>= apart (λ i. i.id)) (Err BadShape)) ps h in
-    few_apart objects.first _ ps objects.then
+posted_apart d ps h = behind (objects_in d) _ ps (λ ds _. few_apart ds _ ps) h
 
 -- ---- a report
 
-abbrev report_7 : List ℕ → List ℕ → List ℕ → Option (List ℕ) → List ℕ → List PostedInterval → PostedReport
-report_7 program event client name resource_name intervals =
-    record { program = program; event = event; client = client; name = name; resource_name = resource_name; intervals = intervals }
-
-abbrev report_6 : List ℕ → List ℕ → List ℕ → Option (List ℕ) → Data → List ℕ → Result PostedReport Fault
-report_6 program event client name resource resource_name =
-    required (member_of (codes "intervals") resource) posted_intervals_in >>= λ intervals. Ok (report_7 program event client name resource_name intervals)
-
-abbrev report_5 : List ℕ → List ℕ → List ℕ → Option (List ℕ) → Data → Result PostedReport Fault
-report_5 program event client name resource = required (member_of (codes "resourceName") resource) name_in >>= report_6 program event client name resource
-
-abbrev report_4 : Data → List ℕ → List ℕ → List ℕ → Option (List ℕ) → Result PostedReport Fault
-report_4 d program event client name = resource_of_report d >>= report_5 program event client name
-
-abbrev report_3 : Data → List ℕ → List ℕ → List ℕ → Result PostedReport Fault
-report_3 d program event client = optional (member_of (codes "reportName") d) (text_in 256) >>= report_4 d program event client
-
-abbrev report_2 : Data → List ℕ → List ℕ → Result PostedReport Fault
-report_2 d program event = required (member_of (codes "clientName") d) name_in >>= report_3 d program event
-
-abbrev report_1 : Data → List ℕ → Result PostedReport Fault
-report_1 d program = required (member_of (codes "eventID") d) id_in >>= report_2 d program
-
 posted_report_apart : (d : Data) (p : PostedReport) → posted_report_in d ≡ Ok p → differ (λ i. i.id) p.intervals ≡ true
 unfolding posted_report_in
-posted_report_apart d p h =
-    let program = followed (required (member_of (codes "programID") d) id_in) (report_1 d) p h in
-    let event = followed (required (member_of (codes "eventID") d) id_in) (report_2 d program.first) p program.then in
-    let client = followed (required (member_of (codes "clientName") d) name_in) (report_3 d program.first event.first) p event.then in
-    let name = followed (optional (member_of (codes "reportName") d) (text_in 256)) (report_4 d program.first event.first client.first) p client.then in
-    let resource = followed (resource_of_report d) (report_5 program.first event.first client.first name.first) p name.then in
-    let resource_name = followed (required (member_of (codes "resourceName") resource.first) name_in) (report_6 program.first event.first client.first name.first resource.first) p resource.then in
-    let intervals = followed (required (member_of (codes "intervals") resource.first) posted_intervals_in)
-    (λ intervals. Ok (report_7 program.first event.first client.first name.first resource_name.first intervals)) p resource_name.then in
-    let read = report_7 program.first event.first client.first name.first resource_name.first intervals.first in
-    with_intervals read p (same_Some read p (ap result_ok intervals.then)) (required_holds (λ ps. differ (λ i. i.id) ps ≡ true) (member_of (codes "intervals") resource.first) posted_intervals_in intervals.first posted_apart intervals.was)
-  where
-    with_intervals : (a b : PostedReport) → a ≡ b → differ (λ i. i.id) a.intervals ≡ true → differ (λ i. i.id) b.intervals ≡ true
-    with_intervals a b same h = rw (← same) h
+posted_report_apart d p =
+    behind (required (member_of (codes "programID") d) id_in) _ p
+    (λ program _. behind (required (member_of (codes "eventID") d) id_in) _ p
+    (λ event _. behind (required (member_of (codes "clientName") d) name_in) _ p
+    (λ client _. behind (optional (member_of (codes "reportName") d) (text_in 256)) _ p
+    (λ name _. behind (resource_of_report d) _ p
+    (λ resource _. behind (required (member_of (codes "resourceName") resource) name_in) _ p
+    (λ resource_name _. behind (required (member_of (codes "intervals") resource) posted_intervals_in) _ p
+    (λ intervals was same. holds_of (λ (p : PostedReport). differ (λ i. i.id) p.intervals ≡ true) same (required_holds (λ ps. differ (λ i. i.id) ps ≡ true) (member_of (codes "intervals") resource) posted_intervals_in intervals posted_apart was))))))))
 
 shape_read : {A : Type 0} (r : Result A Fault) (x : A) → as_bad_shape r ≡ Ok x → r ≡ Ok x
 shape_read (Ok y) x h = let same : y ≡ x = cc in rw same refl
@@ -341,9 +251,7 @@ with_numbers p is = record { program = p.program; event = p.event; client = p.cl
 
 numbers_reported : (p : PostedReport) (r : ReportIn) → differ (λ i. i.id) p.intervals ≡ true → report_from p ≡ Ok r → IsReported r
 numbers_reported p r apart h =
-    let intervals = followed (usage_intervals p.intervals) (λ is. Ok (with_numbers p is)) r h in
-    let same = same_Some _ r (ap result_ok intervals.then) in
-    rw same at (reported p intervals.first apart (all_stated p.intervals intervals.first intervals.was))
+    behind (usage_intervals p.intervals) _ r (λ is was same. holds_of IsReported same (reported p is apart (all_stated p.intervals is was))) h
   where
     reported : (p : PostedReport) (is : List UsageInterval) → differ (λ i. i.id) p.intervals ≡ true → AreStated p.intervals is → IsReported (with_numbers p is)
     reported p is apart all = record { small = all.small; apart = differ-same_ids (λ i. i.id) (λ i. i.id) is p.intervals all.ids apart }
@@ -351,9 +259,10 @@ numbers_reported p r apart h =
 report_read : (bytes : List ℕ) (r : ReportIn) → report_of bytes ≡ Ok r → IsReported r
 unfolding report_of
 report_read bytes r h =
-    let posted = followed (as_bad_shape (bytes_as posted_report_in bytes)) (λ p. as_refusal (report_from p)) r h in
-    let shape = followed (value_in bytes) posted_report_in posted.first (shape_read (bytes_as posted_report_in bytes) posted.first posted.was) in
-    numbers_reported posted.first r (posted_report_apart shape.first posted.first shape.then) (numbers_read (report_from posted.first) r posted.then)
+    behind (as_bad_shape (bytes_as posted_report_in bytes)) _ r
+    (λ posted was numbers. behind (value_in bytes) posted_report_in posted
+    (λ d _ shape. numbers_reported posted r (posted_report_apart d posted shape) (numbers_read (report_from posted) r numbers))
+    (shape_read (bytes_as posted_report_in bytes) posted was)) h
 
 pub usage_is_small : (bytes : List ℕ) (r : ReportIn) → report_of bytes ≡ Ok r → All (λ i. IsSmall i.usage) r.intervals
 usage_is_small bytes r h = All-from_recursion (λ i. IsSmall i.usage) r.intervals (report_read bytes r h).small

@@ -1,6 +1,12 @@
 pub mod Bytes
 pub mod Events
 pub mod Pages
+pub mod Places
+pub mod Flaws
+pub mod Stops
+pub mod FirstFaults
+pub mod Elements
+pub mod PassedOver
 pub mod Notices
 pub mod Sites
 pub mod Reports

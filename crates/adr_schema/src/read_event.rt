@@ -1,32 +1,41 @@
 //! The body of an event, read from JSON. The first fault wins.
 ghost use Rattle.serde_json.specs.View.{view};
-ghost use Rattle.adr_text.specs.Faults.{Finds};
 ghost use Rattle.adr_schema.specs.Events.{event_in};
+ghost use Rattle.adr_schema.specs.Stops.{FindsAt};
+ghost use Rattle.adr_schema.specs.FirstFaults.{event_place};
 
+use crate::place::{Part, Within};
 use crate::read_intervals::intervals_of;
-use crate::read_targets::Targets;
+use crate::read_member::{maybe_at, needed_at};
+use crate::read_targets::targets_of;
+use crate::stopped::Stopped;
 use adr_objects::{EventBody, Intervals};
-use adr_text::{Fault, maybe, needed};
 use serde_json::Value;
 use std::alloc::Global;
 
 /// The event that the value is.
-#[tactic(auto, unfolding(crate::specs::Events::event_in))]
-pub(crate) fn event(alloc: Global, value: &Value) -> Result<EventBody, Fault>
-    ensures { Finds (λ e. e) result (event_in (view value.now)) }
+#[tactic(auto, unfolding(crate::specs::Events::event_in, crate::specs::FirstFaults::event_place))]
+pub(crate) fn event(alloc: Global, value: &Value) -> Result<EventBody, Stopped>
+    ensures { FindsAt (event_place (view value.now)) (λ e. e) result (event_in (view value.now)) }
 {
-    let program = needed(alloc, value, "programID")?;
-    let name = maybe(alloc, value, "eventName")?;
-    let priority = maybe(alloc, value, "priority")?;
-    let period = maybe(alloc, value, "intervalPeriod")?;
-    let targets: Option<Targets> = maybe(alloc, value, "targets")?;
+    let object = Within::Object;
+    let program = needed_at(alloc, value, "programID", object.at(Part::ProgramId))?;
+    let name = maybe_at(alloc, value, "eventName", object.at(Part::EventName))?;
+    let priority = maybe_at(alloc, value, "priority", object.at(Part::Priority))?;
+    let period = maybe_at(
+        alloc,
+        value,
+        "intervalPeriod",
+        object.at(Part::IntervalPeriod),
+    )?;
+    let targets = targets_of(alloc, value)?;
     let intervals = intervals_of(alloc, value)?;
     Ok(EventBody {
         program,
         name,
         priority,
         period,
-        resource_names: targets.and_then(|t| t.names),
+        resource_names: targets.and_then(|names| names),
         intervals: intervals.unwrap_or(Intervals::new(alloc)),
     })
 }

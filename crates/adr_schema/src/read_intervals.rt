@@ -1,76 +1,61 @@
 //! The intervals of an event, read from JSON.
 ghost use Rattle.std.specs.Prelude.{◌≡◌, [], map, codes, length, IsTrue, IfOk, false};
 ghost use Rattle.serde_json.specs.View.{view};
-ghost use Rattle.adr_text.specs.Faults.{Finds};
 ghost use Rattle.adr_text.specs.Fields.{member_of, optional};
 ghost use Rattle.adr_objects.specs.Intervals.{has_id, differ};
-ghost use Rattle.adr_schema.specs.Events.{payloads_in, fresh_id, interval_in, intervals_from, intervals_in};
+ghost use Rattle.adr_schema.specs.Events.{fresh_id, interval_in, intervals_from, intervals_in};
+ghost use Rattle.adr_schema.specs.Places.{in_interval};
+ghost use Rattle.adr_schema.specs.Stops.{FindsAt};
+ghost use Rattle.adr_schema.specs.FirstFaults.{place_in, interval_place, each_place, intervals_place};
+ghost use Rattle.adr_schema.specs.declared.place.Part.TheVariants.{Id};
 
-use crate::read_typed::only_value;
-use adr_objects::{Interval, Intervals, Setpoint, has_id};
-use adr_text::{Fault, FromJson, maybe, member, needed, objects};
+use crate::flaw::{Flaw, Shape};
+use crate::place::{Part, Within};
+use crate::read_member::{maybe_at, needed_at, objects_at};
+use crate::read_payloads::payloads_of;
+use crate::stopped::Stopped;
+use adr_objects::{Interval, Intervals, has_id};
+use adr_text::member;
 use serde_json::Value;
 use std::alloc::Global;
-use std::marker::Model;
-
-// The payloads of an interval, of which the setpoint is kept.
-#[derive(Drop)]
-struct Payloads {
-    setpoint: Option<Setpoint>,
-}
-
-impl Model for Payloads {
-    ghost use Rattle.std.specs.Prelude.{Option, ℤ};
-
-    ghost Value = { Option ℤ };
-
-    ghost view = { λ a. a.setpoint };
-}
-
-impl FromJson for Payloads {
-    ghost of = { payloads_in };
-
-    #[tactic(auto, unfolding(crate::specs::Events::payloads_in))]
-    fn from_json(alloc: Global, value: &Value) -> Result<Payloads, Fault> {
-        let setpoint = match only_value(value, "DISPATCH_SETPOINT")? {
-            Some(found) => Some(Setpoint::from_json(alloc, found)?),
-            None => None,
-        };
-        Ok(Payloads { setpoint })
-    }
-}
 
 // An id that is not used before.
-fn fresh_id(alloc: Global, before: &[Interval], value: &Value) -> Result<i32, Fault>
-    ensures id { Finds (λ id. id) result (fresh_id before.now (view value.now)) }
+fn fresh_id(alloc: Global, before: &[Interval], value: &Value) -> Result<i32, Stopped>
+    ensures id { FindsAt (in_interval (length before.now) Id) (λ id. id) result
+        (fresh_id before.now (view value.now)) }
     ensures fresh { IfOk result (λ id. has_id (λ i. i.id) id before.now ≡ false) }
 {
-    let id = needed(alloc, value, "id")?;
+    let place = Within::Interval(before.len()).at(Part::Id);
+    let id = needed_at(alloc, value, "id", place)?;
     if has_id(before, id) {
-        return Err(Fault::Repeated);
+        return Err(Stopped::at(place, Flaw::Twice));
     }
     Ok(id)
 }
 
 // One interval, where those before it are known.
-#[tactic(auto, unfolding(crate::specs::Events::interval_in))]
-fn interval(alloc: Global, before: &[Interval], value: &Value) -> Result<Interval, Fault>
-    ensures interval { Finds (λ i. i) result (interval_in before.now (view value.now)) }
+#[tactic(auto, unfolding(crate::specs::Events::interval_in, crate::specs::FirstFaults::interval_place))]
+fn interval(alloc: Global, before: &[Interval], value: &Value) -> Result<Interval, Stopped>
+    ensures interval { FindsAt (interval_place before.now (view value.now)) (λ i. i) result
+        (interval_in before.now (view value.now)) }
     ensures fresh { IfOk result (λ i. has_id (λ i. i.id) i.id before.now ≡ false) }
 {
+    let number = before.len();
     let id = fresh_id(alloc, before, value)?;
-    let period = maybe(alloc, value, "intervalPeriod")?;
-    let payloads: Option<Payloads> = maybe(alloc, value, "payloads")?;
+    let place = Within::Interval(number).at(Part::IntervalPeriod);
+    let period = maybe_at(alloc, value, "intervalPeriod", place)?;
+    let payloads = payloads_of(alloc, number, value)?;
     Ok(Interval {
         id,
         period,
-        setpoint: payloads.and_then(|p| p.setpoint),
+        setpoint: payloads.and_then(|setpoint| setpoint),
     })
 }
 
 // Each interval in turn.
-fn each_interval(alloc: Global, values: &[Value]) -> Result<Vec<Interval>, Fault>
-    ensures items { Finds (λ v. v.items) result (intervals_from [] (map view values.now)) }
+fn each_interval(alloc: Global, values: &[Value]) -> Result<Vec<Interval>, Stopped>
+    ensures items { FindsAt (each_place [] (map view values.now)) (λ v. v.items) result
+        (intervals_from [] (map view values.now)) }
     ensures len { IfOk result (λ v. length v.items ≡ length values.now) }
     ensures apart { IfOk result (λ v. IsTrue (differ (λ i. i.id) v.items)) }
 {
@@ -83,21 +68,23 @@ fn each_interval(alloc: Global, values: &[Value]) -> Result<Vec<Interval>, Fault
 }
 
 // At most 1,000 intervals.
-#[tactic(auto, unfolding(crate::specs::Events::intervals_in))]
-fn intervals(alloc: Global, value: &Value) -> Result<Intervals, Fault>
-    ensures { Finds (λ is. is) result (intervals_in (view value.now)) }
+#[tactic(auto, unfolding(crate::specs::Events::intervals_in, crate::specs::FirstFaults::intervals_place))]
+fn intervals(alloc: Global, value: &Value) -> Result<Intervals, Stopped>
+    ensures { FindsAt (intervals_place (view value.now)) (λ is. is) result
+        (intervals_in (view value.now)) }
 {
-    let values = objects(value)?;
+    let place = Within::Object.at(Part::Intervals);
+    let values = objects_at(value, place)?;
     if values.len() > 1000 {
-        return Err(Fault::BadShape);
+        return Err(Stopped::at(place, Flaw::Shape(Shape::TooMany)));
     }
     Ok(Intervals::of(each_interval(alloc, values)?))
 }
 
-// The intervals of an event, where it lists any.
-pub(crate) fn intervals_of(alloc: Global, event: &Value) -> Result<Option<Intervals>, Fault>
-    ensures { Finds (λ is. is) result
-        (optional (member_of (codes "intervals") (view event.now)) intervals_in) }
+/// The intervals of an event, where it lists any.
+pub(crate) fn intervals_of(alloc: Global, event: &Value) -> Result<Option<Intervals>, Stopped>
+    ensures { FindsAt (place_in (member_of (codes "intervals") (view event.now)) intervals_place)
+        (λ is. is) result (optional (member_of (codes "intervals") (view event.now)) intervals_in) }
 {
     match member(event, "intervals") {
         Some(found) => Ok(Some(intervals(alloc, found)?)),

@@ -6,9 +6,9 @@ ghost use Rattle.adr_text.specs.Refusals.{Gives};
 ghost use Rattle.adr_schema.specs.Notices.{is_operation, operation_in, object_in, kind_named, gone_in, version_in, told_of, notice_in, notice_of};
 
 use crate::notice::NoticeIn;
-use crate::read_found::{found, upstream_id};
 use crate::read_site::told;
 use crate::read_typed::text_at;
+use crate::read_version::{found, upstream_id};
 use adr_objects::Kind;
 use adr_text::{Fault, Refusal, member, read_value};
 use serde_json::Value;

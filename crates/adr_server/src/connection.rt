@@ -9,7 +9,7 @@ use crate::paced::{Paced, Term};
 use crate::request_log::{RequestLog, tell_request};
 use crate::shared::Shared;
 use crate::traffic::{Metered, Traffic};
-use adr_book::{Office, Pass};
+use adr_book::{Office, Pass, Trail};
 use adr_http::{Routes, ServeFault};
 use adr_lock::Clock;
 use adr_log::Stopwatch;
@@ -70,9 +70,9 @@ fn let_go<T: time::Clock>(time: &T, stream: &TcpStream) {
     });
 }
 
-fn serve_over<D, L, C, R, K, M>(
+fn serve_over<D, T, L, C, R, K, M>(
     rt: &R,
-    office: &Office<D, L>,
+    office: &Office<D, T, L>,
     shared: &Shared,
     routes: &Routes,
     clock: &C,
@@ -80,12 +80,13 @@ fn serve_over<D, L, C, R, K, M>(
     stream: &TcpStream,
     reads: Blank,
     writes: Blank,
-    seen: &mut RequestLog<'_>,
+    seen: &mut RequestLog,
     read: &mut Traffic,
     written: &mut Traffic,
 ) -> Result<(), ServeFault>
 where
     D: Desk + Drop,
+    T: Trail<D>,
     L: Ledger,
     C: Clock,
     R: Wait + time::Clock + Log,
@@ -121,9 +122,15 @@ where
 
 /// Serves a connection: one request, for which one turn is taken at most, and one reply. Reading and writing are outside
 /// the lock; the log is told before the connection is let go.
-pub fn serve_connection<D: Desk + Drop, L: Ledger, C: Clock, R: Wait + time::Clock + Log>(
+pub fn serve_connection<
+    D: Desk + Drop,
+    T: Trail<D>,
+    L: Ledger,
+    C: Clock,
+    R: Wait + time::Clock + Log,
+>(
     rt: &R,
-    office: &Office<D, L>,
+    office: &Office<D, T, L>,
     shared: &Shared,
     routes: &Routes,
     clock: &C,
@@ -134,9 +141,9 @@ pub fn serve_connection<D: Desk + Drop, L: Ledger, C: Clock, R: Wait + time::Clo
     ensures one { TakesOneAtMost pass.old pass.new }
 {
     let begun = Stopwatch::start(rt);
-    let mut seen = RequestLog::new(rt, &shared.roles);
+    let mut seen = RequestLog::new(rt);
     let (mut read, mut written) = (Traffic::none(), Traffic::none());
-    let served = serve_over::<D, L, C, R, Brand, Brand>(
+    let served = serve_over::<D, T, L, C, R, Brand, Brand>(
         rt,
         office,
         shared,

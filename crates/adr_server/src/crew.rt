@@ -7,7 +7,7 @@ ghost use Rattle.adr_server.specs.Outcomes.{AsksOffice};
 
 use crate::connection::serve_connection;
 use crate::shared::Shared;
-use adr_book::{Office, Pass};
+use adr_book::{Office, Pass, Trail};
 use adr_http::Routes;
 use adr_lock::Clock;
 use adr_machine::Desk;
@@ -25,15 +25,15 @@ const ROOM: usize = 1;
 
 /// What a connection is served with: the office, what all threads know, and the clock.
 #[derive(Drop)]
-pub struct Served<D: Desk + Drop, L: Ledger, C: Clock + Drop> {
-    pub office: Arc<Office<D, L>, Global>,
+pub struct Served<D: Desk + Drop, T: Trail<D>, L: Ledger, C: Clock + Drop> {
+    pub office: Arc<Office<D, T, L>, Global>,
     pub shared: Arc<Shared, Global>,
     pub clock: Arc<C, Global>,
 }
 
-impl<D: Desk + Drop, L: Ledger, C: Clock + Drop> Served<D, L, C> {
+impl<D: Desk + Drop, T: Trail<D>, L: Ledger, C: Clock + Drop> Served<D, T, L, C> {
     // The same for one thread more.
-    fn again(&self) -> Result<Served<D, L, C>, AllocError> {
+    fn again(&self) -> Result<Served<D, T, L, C>, AllocError> {
         Ok(Served {
             office: Arc::try_clone(&self.office)?,
             shared: Arc::try_clone(&self.shared)?,
@@ -44,9 +44,9 @@ impl<D: Desk + Drop, L: Ledger, C: Clock + Drop> Served<D, L, C> {
 
 // Serves a connection by the paths that the thread has made at its first one. Where memory is wanting for these, the
 // connection is dropped, and the next one has them made.
-fn serve_next<D: Desk + Drop, L: Ledger, C: Clock, R: Wait + time::Clock + Log>(
+fn serve_next<D: Desk + Drop, T: Trail<D>, L: Ledger, C: Clock, R: Wait + time::Clock + Log>(
     rt: &R,
-    office: &Office<D, L>,
+    office: &Office<D, T, L>,
     shared: &Shared,
     clock: &C,
     routes: &mut Option<Routes>,
@@ -65,9 +65,9 @@ fn serve_next<D: Desk + Drop, L: Ledger, C: Clock, R: Wait + time::Clock + Log>(
 }
 
 // Serves connections as they come, until no more can, or the store's refusal ends the node.
-fn work<D: Desk + Drop, L: Ledger, C: Clock, R: Wait + time::Clock + Log>(
+fn work<D: Desk + Drop, T: Trail<D>, L: Ledger, C: Clock, R: Wait + time::Clock + Log>(
     rt: &R,
-    office: &Office<D, L>,
+    office: &Office<D, T, L>,
     shared: &Shared,
     clock: &C,
     streams: &Receiver<TcpStream, Global>,
@@ -85,14 +85,15 @@ fn work<D: Desk + Drop, L: Ledger, C: Clock, R: Wait + time::Clock + Log>(
 }
 
 // A thread that does.
-fn worker<D, L, C, R>(
+fn worker<D, T, L, C, R>(
     rt: R,
-    served: &Served<D, L, C>,
+    served: &Served<D, T, L, C>,
     streams: &Receiver<TcpStream, Global>,
     pass: Pass<L>,
 ) -> Result<JoinHandle<Pass<L>>, AllocError>
 where
     D: Desk + Drop + Send + 'static,
+    T: Trail<D> + Send + 'static,
     L: Ledger + Send + Sync + 'static,
     C: Clock + Drop + Send + Sync + 'static,
     R: Threads + Wait + time::Clock + Log + Copy + Send + 'static,
@@ -122,15 +123,16 @@ fn join_all<L: Ledger, R: Threads>(rt: &R, threads: Vec<JoinHandle<Pass<L>>>) {
 }
 
 // A thread for each pass, or those that were made before one could not be.
-fn threads<D, L, C, R>(
+fn threads<D, T, L, C, R>(
     rt: R,
     alloc: Global,
-    served: &Served<D, L, C>,
+    served: &Served<D, T, L, C>,
     streams: &Receiver<TcpStream, Global>,
     passes: Vec<Pass<L>>,
 ) -> Result<Vec<JoinHandle<Pass<L>>>, Vec<JoinHandle<Pass<L>>>>
 where
     D: Desk + Drop + Send + 'static,
+    T: Trail<D> + Send + 'static,
     L: Ledger + Send + Sync + 'static,
     C: Clock + Drop + Send + Sync + 'static,
     R: Threads + Wait + time::Clock + Log + Copy + Send + 'static,
@@ -153,14 +155,15 @@ where
 
 impl<L: Ledger> Crew<L> {
     /// Starts a thread for each pass. Where one can't be made, those that were made are joined.
-    pub fn start<D, C, R>(
+    pub fn start<D, T, C, R>(
         rt: R,
         alloc: Global,
-        served: &Served<D, L, C>,
+        served: &Served<D, T, L, C>,
         passes: Vec<Pass<L>>,
     ) -> Result<Crew<L>, AllocError>
     where
         D: Desk + Drop + Send + 'static,
+        T: Trail<D> + Send + 'static,
         L: Send + Sync + 'static,
         C: Clock + Drop + Send + Sync + 'static,
         R: Threads + Wait + time::Clock + Log + Copy + Send + 'static,

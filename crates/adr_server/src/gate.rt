@@ -159,8 +159,8 @@ pub struct StoppedGate<G: Gate + Drop> {
     log: Log<Request, Result<HttpReply, LinkFault>>,
 }
 
-// Sends a request through a gate, unless the node is to stop: then no reply comes.
-fn ask_unless<G: Gate>(
+// Sends a request through a gate, unless that is stopped: then no reply comes.
+pub(crate) fn ask_unless<G: Gate>(
     stopped: bool,
     gate: &mut G,
     request: &Request,

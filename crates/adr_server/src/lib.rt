@@ -2,6 +2,7 @@
 //! its outbox.
 #![tactic(auto)]
 
+mod caution;
 mod clock;
 mod connection;
 mod crew;
@@ -16,6 +17,7 @@ mod server;
 mod shared;
 mod traffic;
 
+pub use caution::CautiousGate;
 pub use clock::HostClock;
 pub use gate::{SocketGate, StoppedGate};
 pub use paced::{Paced, Term};

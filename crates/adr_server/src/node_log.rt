@@ -15,8 +15,7 @@ fn tell_limits<R: Log>(rt: &R, config: &Config) {
         rt; target: "node",
         keys = limits.keys.get(), vens = limits.vens.get(), subs = limits.subs.get(),
         resources = limits.resources.get(), shares = limits.shares.get(), reports = limits.reports.get(),
-        frozen = limits.frozen.get(), pending = limits.pending.get(), serial = limits.serial.get(),
-        trail = limits.trail.get();
+        frozen = limits.frozen.get(), pending = limits.pending.get(), serial = limits.serial.get();
         "limits"
     );
 }

@@ -1,6 +1,5 @@
 //! An office that takes what is asked, under its lock.
 ghost use Rattle.std.specs.Prelude.{◌≡◌, ◌≢◌, ◌⊎◌, Ok, Err, IfSome, OnOk};
-ghost use Rattle.adr_lock.specs.Rooms.{most_weight};
 ghost use Rattle.adr_lock.specs.Outcomes.{StepsInOffice, LooksInOffice, TakesOneAtMost};
 ghost use Rattle.adr_http.specs.Takers.{TakesOnce, ServesBy, ServesPartBy};
 ghost use Rattle.adr_http.specs.declared.fault.ServeFault.TheVariants.{Read, Write};
@@ -8,7 +7,7 @@ ghost use Rattle.adr_server.specs.Outcomes.{AsksOffice};
 
 use crate::notice_log::tell_asked;
 use crate::shared::Shared;
-use adr_book::{Office, Pass};
+use adr_book::{Office, Pass, Trail};
 use adr_http::{Asked, Routes, ServeFault, Taker, Witness, serve};
 use adr_lock::{Call, Clock, Steps, halts, take_under_lock};
 use adr_machine::{Answer, Command, Desk, Query};
@@ -20,22 +19,22 @@ use std::sync::ledger::Ledger;
 /// An office, what all threads know, the clock by which it answers, and the pass of who comes to it. Where the store refuses
 /// what is asked, and that ends the node, it sets the flag.
 #[derive(Drop)]
-pub struct OfficeTaker<'a, D: Desk + Drop, L: Ledger, C: Clock, R: Wait + Log> {
+pub struct OfficeTaker<'a, D: Desk + Drop, T: Trail<D>, L: Ledger, C: Clock, R: Wait + Log> {
     pub rt: &'a R,
-    pub office: &'a Office<D, L>,
+    pub office: &'a Office<D, T, L>,
     pub shared: &'a Shared,
     pub clock: &'a C,
     pub pass: &'a mut Pass<L>,
 }
 
-fn take_step<D: Desk + Drop, L: Ledger, C: Clock, R: Wait + Log>(
+fn take_step<D: Desk + Drop, T: Trail<D>, L: Ledger, C: Clock, R: Wait + Log>(
     rt: &R,
-    office: &Office<D, L>,
+    office: &Office<D, T, L>,
     clock: &C,
     pass: &mut Pass<L>,
     command: &Command,
 ) -> Result<Answer, Refusal>
-    ensures outcome { StepsInOffice office.now (C.tells clock.now) most_weight pass.old command.now result pass.new }
+    ensures outcome { StepsInOffice office.now (C.tells clock.now) pass.old command.now result pass.new }
     ensures one { TakesOneAtMost pass.old pass.new }
 {
     take_under_lock(
@@ -48,9 +47,9 @@ fn take_step<D: Desk + Drop, L: Ledger, C: Clock, R: Wait + Log>(
     )
 }
 
-fn look<D: Desk + Drop, L: Ledger, C: Clock, R: Wait + Log>(
+fn look<D: Desk + Drop, T: Trail<D>, L: Ledger, C: Clock, R: Wait + Log>(
     rt: &R,
-    office: &Office<D, L>,
+    office: &Office<D, T, L>,
     clock: &C,
     pass: &mut Pass<L>,
     query: &Query,
@@ -69,9 +68,9 @@ fn look<D: Desk + Drop, L: Ledger, C: Clock, R: Wait + Log>(
 }
 
 /// Takes what is asked, under the lock. Nothing is asked without it.
-fn take_asked<D: Desk + Drop, L: Ledger, C: Clock, R: Wait + Log>(
+fn take_asked<D: Desk + Drop, T: Trail<D>, L: Ledger, C: Clock, R: Wait + Log>(
     rt: &R,
-    office: &Office<D, L>,
+    office: &Office<D, T, L>,
     clock: &C,
     pass: &mut Pass<L>,
     asked: &Asked,
@@ -87,7 +86,8 @@ fn take_asked<D: Desk + Drop, L: Ledger, C: Clock, R: Wait + Log>(
     }
 }
 
-impl<'a, D: Desk + Drop, L: Ledger, C: Clock, R: Wait + Log> Taker for OfficeTaker<'a, D, L, C, R> {
+impl<'a, D: Desk + Drop, T: Trail<D>, L: Ledger, C: Clock, R: Wait + Log> Taker
+    for OfficeTaker<'a, D, T, L, C, R> {
     ghost takes = { λ before asked outcome after.
         (after.pass.ghost_name ≡ before.pass.ghost_name)
         × (after.office ≡ before.office)
@@ -110,10 +110,19 @@ impl<'a, D: Desk + Drop, L: Ledger, C: Clock, R: Wait + Log> Taker for OfficeTak
 }
 
 /// Serves one request at the office, with the pass that is lent there.
-fn serve_lent<D: Desk + Drop, L: Ledger, C: Clock, R: Wait + Log, S: Source, W: Sink, V: Witness>(
+fn serve_lent<
+    D: Desk + Drop,
+    T: Trail<D>,
+    L: Ledger,
+    C: Clock,
+    R: Wait + Log,
+    S: Source,
+    W: Sink,
+    V: Witness,
+>(
     shared: &Shared,
     routes: &Routes,
-    taker: &mut OfficeTaker<'_, D, L, C, R>,
+    taker: &mut OfficeTaker<'_, D, T, L, C, R>,
     source: &mut S,
     sink: &mut W,
     witness: &mut V,
@@ -140,6 +149,7 @@ fn serve_lent<D: Desk + Drop, L: Ledger, C: Clock, R: Wait + Log, S: Source, W: 
 /// to what was read, and to an outcome that the book behind the lock may give.
 pub fn serve_shared<
     D: Desk + Drop,
+    T: Trail<D>,
     L: Ledger,
     C: Clock,
     R: Wait + Log,
@@ -148,7 +158,7 @@ pub fn serve_shared<
     V: Witness,
 >(
     rt: &R,
-    office: &Office<D, L>,
+    office: &Office<D, T, L>,
     shared: &Shared,
     routes: &Routes,
     clock: &C,

@@ -1,8 +1,9 @@
 //! What the log is told of requests. No contract says anything of it.
 use crate::traffic::Traffic;
-use adr_http::{HttpRequest, Outgoing, Roles, ServeFault, Witness};
+use adr_http::{Asked, HttpRequest, ServeFault, Witness};
 use adr_log::Shown;
 use adr_machine::Role;
+use adr_reply::Problem;
 use adr_wire::ReadEnd;
 use log::{Level, Log, debug, info, log_enabled, warn};
 use std::fmt;
@@ -26,11 +27,11 @@ impl Display for Who<'_> {
 
 /// Sees a request: who asks, by which method and path, and the status of the reply.
 #[derive(Drop)]
-pub struct RequestLog<'a> {
+pub struct RequestLog {
     /// Whether the log is told of requests at all: else nothing is noted.
     is_told: bool,
-    roles: &'a Roles,
-    role: Option<&'a Role>,
+    /// Who asks, as far as the token tells.
+    who: Shown,
     /// The method and the path. A query isn't shown.
     line: Shown,
     status: u16,
@@ -54,53 +55,48 @@ fn path_of(target: &[u8]) -> &[u8] {
     }
 }
 
-// The status in the first line of a reply, `HTTP/1.1 200 OK`.
-fn status_in(reply: &[u8]) -> u16 {
-    let mut status = 0u16;
-    for byte in reply.iter().skip(9).take(3) {
-        status = status
-            .saturating_mul(10)
-            .saturating_add(byte.saturating_sub(b'0') as u16);
-    }
-    status
+// Who asks, as text.
+fn shown(who: Who<'_>) -> Shown {
+    let mut text = Shown::new();
+    let _ = write!(text, "{who}");
+    text
 }
 
-impl<'a> RequestLog<'a> {
+impl RequestLog {
     /// Nothing was read yet.
-    pub fn new<R: Log>(rt: &R, roles: &'a Roles) -> RequestLog<'a> {
+    pub fn new<R: Log>(rt: &R) -> RequestLog {
         RequestLog {
             is_told: log_enabled!(rt; target: "request", Level::Warn),
-            roles,
-            role: None,
+            who: shown(Who(None)),
             line: Shown::new(),
             status: 0,
         }
     }
-
-    fn note(&mut self, request: &HttpRequest) {
-        self.role = match &request.token {
-            Some(token) => self.roles.find(token),
-            None => None,
-        };
-        show(&mut self.line, &request.method);
-        show(&mut self.line, b" ");
-        show(&mut self.line, path_of(&request.target));
-    }
 }
 
-impl Witness for RequestLog<'_> {
+impl Witness for RequestLog {
     fn reads(&mut self, reading: &Result<HttpRequest, ReadEnd>) {
         if !self.is_told {
             return;
         }
         match reading {
-            Ok(request) => self.note(request),
+            Ok(request) => {
+                show(&mut self.line, &request.method);
+                show(&mut self.line, b" ");
+                show(&mut self.line, path_of(&request.target));
+            }
             Err(_) => show(&mut self.line, b"no request"),
         }
     }
 
-    fn replies(&mut self, out: &Outgoing) {
-        self.status = status_in(out.bytes());
+    fn plans(&mut self, role: Option<&Role>, _plan: &Result<Asked, Problem>) {
+        if self.is_told {
+            self.who = shown(Who(role));
+        }
+    }
+
+    fn replies(&mut self, status: u16) {
+        self.status = status;
     }
 }
 
@@ -125,13 +121,13 @@ impl Display for Why<'_> {
 /// Tells how a request was served that began then.
 pub fn tell_request<R: Log + Clock>(
     rt: &R,
-    seen: &RequestLog<'_>,
+    seen: &RequestLog,
     served: Result<(), ServeFault>,
     read: &Traffic,
     written: &Traffic,
     ms: u64,
 ) {
-    let (line, status, role) = (seen.line.as_str(), seen.status, Who(seen.role));
+    let (line, status, role) = (seen.line.as_str(), seen.status, seen.who.as_str());
     let (read_bytes, written_bytes) = (read.bytes, written.bytes);
     match served {
         Ok(()) if status == 500 => {

@@ -2,12 +2,13 @@
 ghost use Rattle.std.specs.Prelude.{◌≡◌, ◌+◌, ◌*◌, IfOk, length};
 ghost use Rattle.adr_desk.specs.Desks.{settings_of};
 
+use crate::caution::CautiousGate;
 use crate::crew::{Crew, Served};
 use crate::gate::{SocketGate, StoppedGate};
 use crate::node_log::{AcceptLog, tell_bind_fault, tell_start, tell_stop};
 use crate::shared::Shared;
-use adr_book::{Office, Pass};
-use adr_config::Config;
+use adr_book::{Office, Pass, Trail, UnrecordedTrail};
+use adr_config::{Config, MassDeletion};
 use adr_desk::MemoryDesk;
 use adr_link::Upstream;
 use adr_lock::{Clock, Steps};
@@ -96,16 +97,17 @@ fn accept_each<L: Ledger, R: Wait + time::Clock + Log>(
 }
 
 // The same, and then all that were accepted are served to their end.
-fn accept_all<D, L, C, R>(
+fn accept_all<D, T, L, C, R>(
     rt: R,
     alloc: Global,
-    served: &Served<D, L, C>,
+    served: &Served<D, T, L, C>,
     listener: &TcpListener,
     passes: Vec<Pass<L>>,
     most: Option<u64>,
 ) -> Result<(), AllocError>
 where
     D: Desk + Drop + Send + 'static,
+    T: Trail<D> + Send + 'static,
     L: Ledger + Send + Sync + 'static,
     C: Clock + Drop + Send + Sync + 'static,
     R: Threads + Wait + time::Clock + Log + Copy + Send + 'static,
@@ -143,19 +145,21 @@ fn wake<N: Net<Stream = TcpStream>>(net: &N, address: SocketAddr) {
 }
 
 // Starts the rounds of polling. Where the store's refusal ends the node, the listener there is woken as they end.
-fn poller<D, L, C, R, N>(
+fn poller<D, T, L, C, R, N>(
     rt: R,
     net: N,
     alloc: Global,
-    served: &Served<D, L, C>,
+    served: &Served<D, T, L, C>,
     peers: &Arc<Peers, Global>,
     stopped: &Arc<AtomicBool, Global>,
     listens: SocketAddr,
     seconds: u64,
+    deletion: MassDeletion,
     pass: Pass<L>,
 ) -> Result<JoinHandle<Polled<L>>, AllocError>
 where
     D: Desk + Drop + Send + 'static,
+    T: Trail<D> + Send + 'static,
     L: Ledger + Send + Sync + 'static,
     C: Clock + Drop + Send + Sync + 'static,
     R: Threads + Wait + time::Clock + Log + Copy + Drop + Send + 'static,
@@ -167,6 +171,7 @@ where
     let stopped = Arc::try_clone(stopped)?;
     let gate = SocketGate::new(net, alloc, &peers.upstream)?;
     let gate = StoppedGate::new(gate, Arc::try_clone(&stopped)?);
+    let gate = CautiousGate::new(gate, matches!(deletion, MassDeletion::Confirm));
     let peers = Arc::try_clone(peers)?;
     let work = move || -> Polled<L> {
         let mut gate = gate;
@@ -275,7 +280,12 @@ where
     requires count { blank.parts ≡ 2 * config.now.workers + 2 }
 {
     let count = config.workers.get();
-    let (office, mut passes) = Office::<D, L>::open(alloc, blank, desk, 2 * count as u32 + 2)?;
+    let (office, mut passes) = Office::<D, UnrecordedTrail<D>, L>::open(
+        alloc,
+        blank,
+        desk,
+        2 * count as u32 + 2,
+    )?;
     let listener = bind(&rt, &net, config)?;
     let stopped = Arc::new(alloc, AtomicBool::new(false))?;
     let shared = shared(alloc, config, halt_of(halts, &stopped)?)?;
@@ -308,7 +318,16 @@ where
     let seconds = config.poll.get();
     let most = config.stop_after.map(|most| most.get());
     let poller = poller(
-        rt, net, alloc, &served, &peers, &stopped, listens, seconds, pass,
+        rt,
+        net,
+        alloc,
+        &served,
+        &peers,
+        &stopped,
+        listens,
+        seconds,
+        config.mass_deletion,
+        pass,
     );
     let ended = match &poller {
         Ok(_) => accept_all(rt, alloc, &served, &listener, passes, most),

@@ -8,6 +8,8 @@ mod calling;
 #[cfg(test)]
 mod days;
 #[cfg(test)]
+mod deletions;
+#[cfg(test)]
 mod ending;
 #[cfg(test)]
 mod halting;

@@ -31,6 +31,23 @@ const BROKEN_FIRST: &[Answers] = &[
     },
 ];
 
+/// A utility that is out of order for three rounds.
+const BROKEN_THRICE: &[Answers] = &[
+    Answers {
+        target: PROGRAMS,
+        each: &[
+            Answer::Fault,
+            Answer::Fault,
+            Answer::Fault,
+            Answer::Page("[]"),
+        ],
+    },
+    Answers {
+        target: EVENTS,
+        each: EMPTY,
+    },
+];
+
 /// A utility that has two programs at first, and then one other.
 const TWO_FIRST: &[Answers] = &[
     Answers {
@@ -74,6 +91,25 @@ fn began(asked: &[Asked], least: Duration, most: Duration) -> (u32, bool) {
         count = count.saturating_add(1);
     }
     (count, in_time)
+}
+
+/// Whether each round began at least so long after the one before, from a second on and twice as long each time. The
+/// clock of a round that is looked at here begins a little later than its own.
+fn rest_twice_as_long(asked: &[Asked]) -> bool {
+    let mut least = Duration::from_millis(900);
+    let mut in_time = true;
+    let mut last: Option<Instant> = None;
+    for one in asked.iter().filter(|one| one.target() == PROGRAMS) {
+        if let Some(last) = last {
+            in_time &= match one.at.checked_duration_since(last) {
+                Some(after) => least <= after,
+                None => false,
+            };
+            least = least.saturating_add(least);
+        }
+        last = Some(one.at);
+    }
+    in_time
 }
 
 /// Whether what came first asked for these targets, in this order.
@@ -135,6 +171,43 @@ fn a_round_that_breaks_is_not_the_last(rt: HostRuntime) -> Result<(), Fail> {
     let asked = utility.stop(&rt)?;
     assert!(rt; came, "a round comes behind the broken one");
     assert!(rt; begins_with(asked.as_slice(), &[PROGRAMS, PROGRAMS, EVENTS]));
+    assert_eq!(rt; listed.as_str(), NONE);
+    Ok(())
+}
+
+/// Three rounds break off, one after another: the next ones come after 1, 2 and 4 seconds, long before the rest of a
+/// round that is whole.
+#[test]
+fn rounds_that_break_are_made_again_soon(rt: HostRuntime) -> Result<(), Fail> {
+    let alloc = rt.alloc();
+    let utility = StandIn::start(
+        rt,
+        alloc,
+        TcpListener::bind(&rt, "127.0.0.1:0")?,
+        BROKEN_THRICE,
+    )?;
+    let node = start_under(
+        rt,
+        alloc,
+        utility.at,
+        "\"poll\":60,\"workers\":1,\"stopAfter\":1",
+    )?;
+    // Three rounds of one request, and one of two, within ten seconds or a little more.
+    let came = utility.wait(&rt, 3) && utility.wait(&rt, 5);
+    let listed = ask(&rt, alloc, node.at, GET)?;
+    assert!(rt; node.handle.join(&rt).is_ok());
+    let asked = utility.stop(&rt)?;
+    assert!(rt; came, "a whole round comes behind the broken ones");
+    assert!(rt;
+        begins_with(
+            asked.as_slice(),
+            &[PROGRAMS, PROGRAMS, PROGRAMS, PROGRAMS, EVENTS]
+        )
+    );
+    assert!(rt;
+        rest_twice_as_long(asked.as_slice()),
+        "a round is too early"
+    );
     assert_eq!(rt; listed.as_str(), NONE);
     Ok(())
 }

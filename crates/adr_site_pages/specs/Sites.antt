@@ -1,7 +1,6 @@
 -- The vens, the resources of a ven and the subscriptions that are kept, each behind its number, and which subscriptions are wanted.
-use Rattle.std.specs.Prelude.{ℕ, Bool, ◌==◌, ◌&&◌, List, map, filter, Option, Result, Ok, Err, if◌then◌else◌}
+use Rattle.std.specs.Prelude.{ℕ, Bool, ◌==◌, ◌&&◌, List, filter, Option, Result, Ok, Err, if◌then◌else◌}
 use Rattle.std.specs.Ordering.{nat_cmp}
-use Rattle.sqlite.specs.Order.{Row}
 use Rattle.adr_text.specs.Refusals.{◌>>=◌, or_else}
 use Rattle.adr_text.specs.declared.refusal.Refusal.{Refusal}
 use Rattle.adr_text.specs.declared.refusal.Refusal.TheVariants.{NotFound, Forbidden}
@@ -14,19 +13,7 @@ use Rattle.adr_view.specs.declared.sight.Sight.{Sight}
 use Rattle.adr_view.specs.Sights.{sees_ven, sees_owner}
 use Rattle.adr_queries.specs.declared.filter.ReportFilter.{ReportFilter}
 use Rattle.adr_queries.specs.Filters.{is_about, is_among_all}
-use Rattle.adr_db.specs.Kept.{Kept}
-use Rattle.adr_db.specs.Rows.{ven_row, sub_row}
 use Rattle.adr_site_pages.specs.ByNumbers.{AtNumber}
-
--- ---- rows
-
--- the rows of all vens, by number
-abbrev pub rows_of_vens : Kept → List Row
-rows_of_vens kept = map ven_row kept.portfolio.vens
-
--- those of all subscriptions
-abbrev pub rows_of_subs : Kept → List Row
-rows_of_subs kept = map sub_row kept.portfolio.subs
 
 -- ---- by number
 

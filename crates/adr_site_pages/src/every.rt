@@ -1,53 +1,22 @@
 //! All vens and all subscriptions, whose rows are lent one after another.
-ghost use Rattle.std.specs.Prelude.{IsTrue, ◌≡◌, [], take, drop, IfOk, OnOk, IfErr};
-ghost use Rattle.std.specs.Borrow.{sem, RestsIfErr};
-ghost use Rattle.sqlite.specs.contracts.connection.Connection.{the_row};
+ghost use Rattle.std.specs.Prelude.{IsTrue, ◌≡◌, take, drop, IfOk, OnOk, IfErr};
 ghost use Rattle.sqlite.specs.Held.{state};
 ghost use Rattle.sqlite.specs.State.{HasCleanDisk};
 ghost use Rattle.adr_db.specs.Calls.{IsOfStore};
 ghost use Rattle.adr_db.specs.Kept.{Kept, Keeps};
-ghost use Rattle.adr_lent.specs.Lent.{Begins, Stands};
-ghost use Rattle.adr_lent.specs.Selections.{Selects};
-ghost use Rattle.adr_site_pages.specs.Sites.{rows_of_vens, rows_of_subs, wanted_among};
+ghost use Rattle.adr_lent.specs.Lent.{Stands};
+ghost use Rattle.adr_site_pages.specs.Sites.{wanted_among};
 
 use crate::wanted::{ByBody, Every};
 use adr_db::statement::refusal_of;
-use adr_lent::{lend, lent_page};
+use adr_lent::{lend_subs, lend_vens, lent_page};
 use adr_objects::Number;
 use adr_queries::{Page, ReportFilter};
 use adr_state::Ven;
 use adr_subscription::Sub;
 use adr_text::{Refusal, Rows};
-use sqlite::{Alter, Connection, Error, Rows as LentRows};
+use sqlite::{Alter, Connection, Error};
 use std::alloc::Global;
-
-const READ_VENS: &str = "SELECT id, name, created, modified FROM ven ORDER BY id";
-
-const READ_SUBS: &str = "SELECT id, ven, body, created, modified FROM sub ORDER BY id";
-
-/// The vens, by number.
-pub fn lend_vens<'conn, S: Alter>(
-    conn: &'conn mut Connection<S>,
-) -> Result<LentRows<'conn, S>, Error>
-    ensures* refused { sem 𝓛 (RestsIfErr (the_row S.row S.Store) conn.entry (λ rows. rows.conn.ghost_name) result (Stands S.Store conn.old)) }
-    ensures same_reference { IfOk result (λ rows. rows.conn.ghost_name ≡ conn.entry.ghost_name) }
-    ensures begun { IfOk result (λ rows. Begins S.Store READ_VENS.now [] conn.old rows.conn.now) }
-    ensures selects { Selects S.Store READ_VENS.now [] rows_of_vens conn.old }
-{
-    lend(conn, READ_VENS, &[])
-}
-
-/// The subscriptions, by number.
-pub fn lend_subs<'conn, S: Alter>(
-    conn: &'conn mut Connection<S>,
-) -> Result<LentRows<'conn, S>, Error>
-    ensures* refused { sem 𝓛 (RestsIfErr (the_row S.row S.Store) conn.entry (λ rows. rows.conn.ghost_name) result (Stands S.Store conn.old)) }
-    ensures same_reference { IfOk result (λ rows. rows.conn.ghost_name ≡ conn.entry.ghost_name) }
-    ensures begun { IfOk result (λ rows. Begins S.Store READ_SUBS.now [] conn.old rows.conn.now) }
-    ensures selects { Selects S.Store READ_SUBS.now [] rows_of_subs conn.old }
-{
-    lend(conn, READ_SUBS, &[])
-}
 
 /// The vens, by number: after the first ones, at most so many. No row is read past the last one that is needed.
 pub fn vens_page<S: Alter>(

@@ -11,6 +11,6 @@ mod own;
 mod wanted;
 
 pub use answers::{own_subs, own_vens, resources};
-pub use every::{lend_subs, lend_vens, subs_page, vens_page};
+pub use every::{subs_page, vens_page};
 pub use objects::{Told, objects_of};
 pub use own::{own_subs_page, own_vens_page, resources_page};

@@ -7,17 +7,11 @@ ghost use Rattle.adr_refresh.specs.Touched.{reports_by, event_reported};
 ghost use Rattle.adr_db.specs.Calls.{Finds, IsOfStore};
 ghost use Rattle.adr_touched.specs.Answers.{HasEach};
 
-use adr_db::ReportColumns;
-use adr_db::cells::number;
-use adr_db::reading::first_of;
-use adr_db_portfolio::{read_reports_on, read_resources_of};
+use adr_db_portfolio::{read_columns, read_reports_on, read_resources_of};
 use adr_objects::Number;
 use adr_text::{ObjectId, Refusal, Rows};
 use sqlite::{Alter, Transaction};
 use std::alloc::Global;
-
-const READ_ONE: &str =
-    "SELECT id, event, resource, program, client, name, resource_name, revision FROM report WHERE id = ?1 ORDER BY id";
 
 // The numbers of the reports on each of these resources.
 fn reports_of_resources<S: Alter>(
@@ -61,7 +55,7 @@ pub fn event_of_report<S: Alter>(
     ensures finds { Finds S.Store tx.old.conn.now tx.new.conn.now (λ kept found. option_to_list found ≡ event_reported kept.portfolio report) result }
     ensures refused { IfErr result IsOfStore }
 {
-    let found: Option<ReportColumns> = first_of(alloc, tx, READ_ONE, &[number(report.get())?])?;
+    let found = read_columns(alloc, tx, report)?;
     match found {
         Some(columns) => Ok(Some(columns.head.event.copy(alloc)?)),
         None => Ok(None),

@@ -16,8 +16,8 @@ use Rattle.adr_kept_view.specs.Changes.{found_of}
 use Rattle.adr_kept_view.specs.KeptViews.{KeepsView, Owns}
 use Rattle.adr_kept_view.specs.Objects.{StoodIn, as_object}
 use Rattle.adr_kept_view.specs.Refreshed.{Part, IsRefreshed, as_rolled_up}
-use Rattle.adr_upkeep.specs.declared.sharers.Sharers.{Sharers}
-use Rattle.adr_upkeep.specs.Sharing.{AreThoseOf}
+use Rattle.adr_db_portfolio.specs.declared.participant.Sharers.{Sharers}
+use Rattle.adr_db_portfolio.specs.KnownSharers.{AreThoseOf}
 
 module _ {S : Type 0} (g : Ghosts S) (old new : Held S) where
   -- after Ok, where those who share were right, it was found in what the tables held; they hold that still, and those are

@@ -3,3 +3,4 @@ pub mod Rolled
 pub mod Sharing
 pub mod Turns
 pub mod Calls
+pub mod Shown

@@ -13,8 +13,8 @@ ghost use Rattle.adr_upkeep.specs.Calls.{RefreshesAlone, RefreshesSharing};
 ghost use Rattle.adr_upkeep.specs.Turned.{kept_with_each};
 
 use crate::found::find;
-use crate::sharers::Sharers;
 use crate::turn::turn_one;
+use adr_db_portfolio::Sharers;
 use adr_kept_view::{Found, ShownChange};
 use adr_objects::Number;
 use adr_state::push_some;

@@ -7,10 +7,10 @@ ghost use Rattle.adr_db.specs.Calls.{IsOfStore};
 ghost use Rattle.adr_upkeep.specs.Calls.{FindsEvent};
 ghost use Rattle.adr_kept_view.specs.Changes.{kept_row, stamps_row, event_row};
 
-use crate::sharers::Sharers;
-use crate::shown::shown_by;
+use crate::shown_rows::shown_by;
 use adr_db::reading::table_of;
 use adr_db::{ShownColumns, ShownKey};
+use adr_db_portfolio::Sharers;
 use adr_db_shown::{read_event_stamps, read_shown_of};
 use adr_kept_view::Found;
 use adr_objects::{Number, ShownEvent, Stamps};

@@ -1,5 +1,5 @@
-//! The tables of what is shown, kept up: what they keep of one upstream event is compared with what is shown now, and the
-//! difference is written and answered, on a lent transaction.
+//! What is shown of an upstream event, from the tables; and the tables of it kept up: what they keep of one upstream event is
+//! compared with what is shown now, and the difference is written and answered, on a lent transaction.
 #![tactic(auto)]
 
 mod columns;
@@ -9,12 +9,11 @@ mod objects;
 mod owner;
 mod rolled_up;
 mod rollups;
-mod sharers;
-mod shown;
+mod shown_rows;
 mod stamps;
 mod turn;
 
 pub use events::{refresh, refresh_sharing};
 pub use objects::refresh_object;
 pub use rollups::{refresh_rollup, refresh_rollup_sharing};
-pub use sharers::Sharers;
+pub use shown_rows::shown;

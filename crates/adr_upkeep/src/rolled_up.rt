@@ -5,9 +5,8 @@ ghost use Rattle.adr_db.specs.Calls.{IsOfStore};
 ghost use Rattle.adr_view.specs.Rollups.{rollup_of, rollup_at};
 ghost use Rattle.adr_upkeep.specs.Sharing.{FindsSharing};
 
-use crate::sharers::Sharers;
 use adr_db_mirror::read_known;
-use adr_db_portfolio::read_reports_of;
+use adr_db_portfolio::{Sharers, read_reports_of};
 use adr_objects::{EventBody, Number, Rollup};
 use adr_state::Report;
 use adr_text::{ObjectId, Refusal, Rows};

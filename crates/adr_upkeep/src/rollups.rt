@@ -13,9 +13,9 @@ ghost use Rattle.adr_upkeep.specs.Rolled.{operation_of, told_of, ReadsRolled};
 
 use crate::columns::rollup_columns;
 use crate::rolled_up::rollup_by;
-use crate::sharers::Sharers;
 use crate::stamps::stamps_put;
 use adr_db::RollupColumns;
+use adr_db_portfolio::Sharers;
 use adr_db_shown::{put_rollup, read_rollup, remove_rollup};
 use adr_db_state::{put_stamps, read_stamps_of, remove_stamps};
 use adr_kept_view::RollupChange;

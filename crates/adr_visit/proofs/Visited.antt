@@ -15,8 +15,8 @@ use Rattle.adr_db.specs.Kept.{Keeps}
 use Rattle.adr_outbox.specs.Turned.{with_outbox}
 use Rattle.adr_kept_view.specs.KeptViews.{KeepsView, Owns}
 use Rattle.adr_kept_view.specs.Refreshed.{books_behind, with_books, Part, IsRefreshed}
-use Rattle.adr_upkeep.specs.declared.sharers.Sharers.{Sharers}
-use Rattle.adr_upkeep.specs.Sharing.{AreThoseOf}
+use Rattle.adr_db_portfolio.specs.declared.participant.Sharers.{Sharers}
+use Rattle.adr_db_portfolio.specs.KnownSharers.{AreThoseOf}
 use Rattle.adr_room.specs.Rooms.{AreAppended}
 use Rattle.adr_visit.specs.declared.visit.Visit.{Visit}
 use Rattle.adr_visit.specs.Visits.{IsAt}

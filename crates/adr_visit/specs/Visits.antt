@@ -15,7 +15,7 @@ use Rattle.adr_db.specs.Kept.{Kept}
 use Rattle.adr_db.specs.Bases.{Beside, kept_beside}
 use Rattle.adr_kept_view.specs.KeptViews.{KeepsView, Owns}
 use Rattle.adr_kept_view.specs.Refreshed.{books_behind, Part, IsRefreshed}
-use Rattle.adr_upkeep.specs.Sharing.{AreThoseOf}
+use Rattle.adr_db_portfolio.specs.KnownSharers.{AreThoseOf}
 use Rattle.adr_room.specs.Rooms.{AreDrawn, HaveCome, AreSoFar}
 use Rattle.adr_visit.specs.declared.visit.Visit.{Visit}
 use Rattle.adr_listeners.specs.Listeners.{AreThose}

@@ -7,10 +7,11 @@ ghost use Rattle.adr_kept_view.specs.Objects.{as_object};
 ghost use Rattle.adr_kept_view.specs.Refreshed.{Part, as_shown, as_rolled_up};
 ghost use Rattle.adr_upkeep.specs.Calls.{RefreshesSharing};
 
+use adr_db_portfolio::Sharers;
 use adr_kept_view::{ObjectChange, OldObject, RollupChange, ShownChange};
 use adr_state::push_some;
 use adr_text::{Moment, ObjectId, Refusal, Rows};
-use adr_upkeep::{Sharers, refresh_object, refresh_rollup_sharing, refresh_sharing};
+use adr_upkeep::{refresh_object, refresh_rollup_sharing, refresh_sharing};
 use sqlite::{Alter, Transaction};
 use std::alloc::{AllocError, Global};
 

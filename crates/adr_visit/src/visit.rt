@@ -7,11 +7,11 @@ ghost use Rattle.adr_room.specs.Rooms.{EndsWith, RefusesAll};
 ghost use Rattle.adr_visit.specs.Visits.{Begins};
 
 use adr_db::Meta;
+use adr_db_portfolio::Sharers;
 use adr_listeners::Listeners;
 use adr_room::Room;
 use adr_state::Limits;
 use adr_text::Refusal;
-use adr_upkeep::Sharers;
 use std::alloc::Global;
 
 /// How far a visit is: the room that is left for entries, what was read for the items so far and serves the next ones, and

@@ -1,18 +1,15 @@
 -- What is told in two parts, and refusals.
-use Rattle.std.proofs.Common.{Result, Ok, Err, IsErr, true≢false, ◌≡◌, List, [], ◌++◌, sym, ap, ap₂, ◌∙◌, append_assoc, append-nil}
-use Rattle.std.proofs.lemmas.List.{map-append}
+use Rattle.std.proofs.Common.{Result, Ok, Err, IsErr, true≢false, ◌≡◌, List, [], ◌++◌, sym, ap, ◌∙◌, append_assoc, append-nil}
 use Rattle.adr_text.specs.declared.refusal.Refusal.{Refusal}
-use Rattle.adr_work.specs.Tellings.{Memory, Told, commands_of, memory_of, with_told}
+use Rattle.adr_work.specs.Tellings.{Memory, Told, with_told}
 
 -- nothing more was told
 pub with_none : (m : Memory) → with_told m [] ≡ m
-with_none m = ap₂ memory_of (append-nil m.told) (append-nil m.trail)
+with_none m = append-nil m
 
 -- first these were told, and then those
 with_both : (m : Memory) (first next : List Told) → with_told (with_told m first) next ≡ with_told m (first ++ next)
-with_both m first next =
-    ap₂ memory_of (append_assoc m.told first next)
-    (append_assoc m.trail (commands_of first) (commands_of next) ∙ ap (λ cs. m.trail ++ cs) (sym (map-append (λ (t : Told). t.0) first next)))
+with_both m first next = append_assoc m first next
 
 pub heard : (was is is' : Memory) (told more : List Told) → is ≡ with_told was told → is' ≡ with_told is more → is' ≡ with_told was (told ++ more)
 heard was is is' told more first next = next ∙ ap (λ m. with_told m more) first ∙ with_both was told more

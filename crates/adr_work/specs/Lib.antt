@@ -12,5 +12,5 @@ pub mod Probes
 pub mod Tellings
 pub mod Refused
 pub mod Rounds
-pub mod BookRounds
 pub mod OfficeRounds
+pub mod Rests

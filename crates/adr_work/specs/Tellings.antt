@@ -23,15 +23,10 @@ accepted steps = filter_map (λ s. accepted_one s.0 s.1) steps
 abbrev pub commands_of : List Told → List Command
 commands_of told = map (λ t. t.0) told
 
--- what was told, with its answers, and the trail of whoever keeps one
-pub record Memory : Type 0 where
-  pub told : List Told
-  pub trail : List Command
-
--- what was told, beside the commands of a trail
-abbrev pub memory_of : List Told → List Command → Memory
-memory_of told trail = record { told = told; trail = trail }
+-- what those who are told keep: each command that they accepted, with its answer
+abbrev pub Memory : Type 0
+Memory = List Told
 
 -- after these further commands
 abbrev pub with_told : Memory → List Told → Memory
-with_told m told = memory_of (m.told ++ told) (m.trail ++ commands_of told)
+with_told m told = m ++ told

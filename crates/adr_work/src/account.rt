@@ -65,6 +65,8 @@ pub enum Account {
     Memory,
     /// The node is to stop, and asks nothing more.
     Stopped,
+    /// So many objects are on no page that they are asked for only by another such round.
+    Withheld,
 }
 
 impl Display for Account {
@@ -90,6 +92,7 @@ impl Display for Account {
             Account::TooLarge => f.write_str("reply of more than 8388608 bytes"),
             Account::Memory => f.write_str("out of memory"),
             Account::Stopped => f.write_str("the node stops"),
+            Account::Withheld => f.write_str("not asked for"),
         }
     }
 }

@@ -12,7 +12,7 @@ use crate::peers::Peers;
 use crate::request::{Callee, Request};
 use crate::send_fault::SendFault;
 use crate::settlement::settlement_of;
-use adr_book::{Office, Pass};
+use adr_book::{Office, Pass, Trail};
 use adr_delivery::Job;
 use adr_link::{Outcome, Upstream, is_for_utility, outcome_of};
 use adr_lock::{Call, Clock, Steps, take_under_lock};
@@ -89,10 +89,17 @@ fn outcome_in(sent: Result<Outcome, SendFault>) -> Outcome
 
 /// Sends a job outside the lock, and then settles it by one step under it; and hands back what came of that. Where the
 /// settlement is refused, the lease expires.
-pub(crate) fn deliver<D: Desk + Drop, L: Ledger, G: Gate, C: Clock, R: Wait + time::Clock + Log>(
+pub(crate) fn deliver<
+    D: Desk + Drop,
+    T: Trail<D>,
+    L: Ledger,
+    G: Gate,
+    C: Clock,
+    R: Wait + time::Clock + Log,
+>(
     rt: &R,
     alloc: Global,
-    office: &Office<D, L>,
+    office: &Office<D, T, L>,
     gate: &mut G,
     peers: &Peers,
     clock: &C,

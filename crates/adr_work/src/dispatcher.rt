@@ -12,7 +12,7 @@ ghost use Rattle.adr_work.specs.Waiting.{may_wait};
 use crate::crew::Ended;
 use crate::leased::job_in;
 use crate::queue::{JobQueue, Seat};
-use adr_book::{Office, Pass};
+use adr_book::{Office, Pass, Trail};
 use adr_delivery::Job;
 use adr_lock::{Call, Clock, Steps, halts, take_under_lock};
 use adr_machine::{Answer, Command, Desk, Query, Role};
@@ -25,9 +25,9 @@ use std::time;
 
 /// Leases the next entry, where one is due at the clock's moment, by one step under the lock.
 #[tactic(auto, using(crate::proofs::Refusing::may_refuse_same, crate::proofs::Leasing::leases_ok, crate::proofs::Leasing::leases_err))]
-pub(crate) fn lease<D: Desk + Drop, L: Ledger, C: Clock, R: Wait + Log>(
+pub(crate) fn lease<D: Desk + Drop, T: Trail<D>, L: Ledger, C: Clock, R: Wait + Log>(
     rt: &R,
-    office: &Office<D, L>,
+    office: &Office<D, T, L>,
     clock: &C,
     pass: &mut Pass<L>,
     steps: &mut Steps,
@@ -43,9 +43,9 @@ pub(crate) fn lease<D: Desk + Drop, L: Ledger, C: Clock, R: Wait + Log>(
 /// Leases jobs and puts each into the queue, outside the lock, while the queue is open and has room and a job is due. A
 /// refusal ends it and is handed back. A job that was leased and cannot be put is left: its lease expires.
 #[tactic(auto, using(crate::proofs::Leasing::leases_none, crate::proofs::Leasing::leases_more, crate::proofs::Halting::ends_none, crate::proofs::Halting::ends_both))]
-pub fn dispatch<D: Desk + Drop, L: Ledger, C: Clock, R: Wait + Log>(
+pub fn dispatch<D: Desk + Drop, T: Trail<D>, L: Ledger, C: Clock, R: Wait + Log>(
     rt: &R,
-    office: &Office<D, L>,
+    office: &Office<D, T, L>,
     queue: &JobQueue,
     clock: &C,
     pass: &mut Pass<L>,
@@ -81,9 +81,9 @@ fn may_wait(looked: &Result<Answer, Refusal>) -> bool
 }
 
 /// Looks at the outbox. It takes no turn, as a lease does that finds none.
-fn look<D: Desk + Drop, L: Ledger, C: Clock, R: Wait + Log>(
+fn look<D: Desk + Drop, T: Trail<D>, L: Ledger, C: Clock, R: Wait + Log>(
     rt: &R,
-    office: &Office<D, L>,
+    office: &Office<D, T, L>,
     clock: &C,
     pass: &mut Pass<L>,
     steps: &mut Steps,
@@ -99,9 +99,9 @@ fn look<D: Desk + Drop, L: Ledger, C: Clock, R: Wait + Log>(
 /// Dispatches where an entry may wait. Answers whether the dispatcher halts, by the look or by a lease that the store
 /// refused; any other refusal is passed over.
 #[tactic(auto, using(crate::proofs::Leasing::leases_none, crate::proofs::Halting::calls_none, crate::proofs::Halting::calls_looked, crate::proofs::Halting::calls_one))]
-fn dispatch_next<D: Desk + Drop, L: Ledger, C: Clock, R: Wait + Log>(
+fn dispatch_next<D: Desk + Drop, T: Trail<D>, L: Ledger, C: Clock, R: Wait + Log>(
     rt: &R,
-    office: &Office<D, L>,
+    office: &Office<D, T, L>,
     queue: &JobQueue,
     clock: &C,
     halt: Option<&AtomicBool>,
@@ -128,9 +128,9 @@ fn dispatch_next<D: Desk + Drop, L: Ledger, C: Clock, R: Wait + Log>(
 /// Dispatches again after each job that was taken or settled, and at least once a second, until the queue is closed, where
 /// an entry waits; or, with a flag to set, until the store refuses a look or a lease. Any other refusal is passed over.
 #[tactic(auto, using(crate::proofs::Leasing::leases_none, crate::proofs::Leasing::leases_both, crate::proofs::Halting::calls_none, crate::proofs::Halting::calls_then))]
-pub fn dispatch_loop<D: Desk + Drop, L: Ledger, C: Clock, R: Wait + time::Clock + Log>(
+pub fn dispatch_loop<D: Desk + Drop, T: Trail<D>, L: Ledger, C: Clock, R: Wait + time::Clock + Log>(
     rt: &R,
-    office: &Office<D, L>,
+    office: &Office<D, T, L>,
     queue: &JobQueue,
     clock: &C,
     halt: Option<&AtomicBool>,

@@ -15,6 +15,12 @@ pub trait Gate {
     fn ask(&mut self, request: &Request) -> Result<HttpReply, LinkFault>
         ensures { exchanges self.new ≡ exchanges self.old ++ (request.now, result) ∷ [] };
 
+    /// Is told before single objects are asked for how many these are, and how many versions stood on the pages of the
+    /// round. A gate may let none of these requests through, as it may any.
+    fn look_ahead(&mut self, _versions: u64, _missed: u64)
+        ensures { exchanges self.new ≡ exchanges self.old }
+    {}
+
     /// How the last exchange went, for the log: no contract says anything of it.
     fn account(&self) -> Account {
         Account::Untold

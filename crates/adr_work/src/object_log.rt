@@ -1,7 +1,7 @@
 //! What the log is told of the objects on a page: of each version once. No contract says anything of it.
 use crate::naming::kind_name;
 use adr_objects::{Body, Found, Kind};
-use adr_reasons::{Fate, ObjectFault, PassedOver, object_fault, targets_passed_over};
+use adr_schema::{Defect, Element, PassedOver, read_element, shown_id, targets_passed_over};
 use adr_text::{list, read_value};
 use log::{Level, Log, debug, log_enabled, warn};
 use serde_json::Value;
@@ -53,31 +53,20 @@ fn values_on(value: &Value) -> &[Value] {
     }
 }
 
-fn tell_skipped<R: Log>(rt: &R, kind: Kind, fault: &ObjectFault) {
+fn tell_skipped<R: Log>(rt: &R, kind: Kind, id: Option<&str>, defect: Defect) {
     let kind = kind_name(kind);
-    match &fault.id {
-        Some(id) => {
-            let id = id.as_str();
-            debug!(rt; target: "object", kind, id; "skipped: {}", fault.defect);
-        }
-        None => debug!(rt; target: "object", kind; "skipped: {}", fault.defect),
+    match id {
+        Some(id) => debug!(rt; target: "object", kind, id; "skipped: {defect}"),
+        None => debug!(rt; target: "object", kind; "skipped: {defect}"),
     }
 }
 
-// The id of an object, where it has one that can be shown.
-fn shown(fault: &ObjectFault) -> &str {
-    match &fault.id {
-        Some(id) => id.as_str(),
-        None => "",
-    }
-}
-
-fn tell_unread<R: Log>(rt: &R, found: &Found, fault: &ObjectFault, was_read: bool) {
+fn tell_unread<R: Log>(rt: &R, found: &Found, defect: Defect, was_read: bool) {
     let (kind, id) = (kind_name(found.kind), found.id.as_id().as_str());
     if was_read {
-        warn!(rt; target: "object", kind, id; "unread, where an earlier version was read: {}", fault.defect);
+        warn!(rt; target: "object", kind, id; "unread, where an earlier version was read: {defect}");
     } else {
-        debug!(rt; target: "object", kind, id; "unread: {}", fault.defect);
+        debug!(rt; target: "object", kind, id; "unread: {defect}");
     }
 }
 
@@ -119,20 +108,26 @@ impl ObjectLog {
         &mut self,
         rt: &R,
         kind: Kind,
-        fault: &ObjectFault,
+        value: &Value,
+        defect: Defect,
     ) -> Result<(), AllocError> {
-        let words = format!(in self.alloc; "{}", fault.defect)?;
-        let number = number_of(number_of_id(kind, shown(fault)), words.as_bytes());
+        let id = shown_id(self.alloc, value)?;
+        let id = id.as_ref().map(|id| id.as_str());
+        let words = format!(in self.alloc; "{defect}")?;
+        let number = number_of(number_of_id(kind, id.unwrap_or("")), words.as_bytes());
         if self.note(number)? {
-            tell_skipped(rt, kind, fault);
+            tell_skipped(rt, kind, id, defect);
         }
         Ok(())
     }
 
-    fn unread<R: Log>(&mut self, rt: &R, found: &Found, fault: &ObjectFault) {
-        let id = number_of_id(found.kind, found.id.as_id().as_str());
-        let was_read = self.read.remove(&id);
-        tell_unread(rt, found, fault, was_read);
+    fn unread<R: Log>(&mut self, rt: &R, found: &Found, defect: Defect) -> Result<(), AllocError> {
+        if self.note(number_of_version(found))? {
+            let id = number_of_id(found.kind, found.id.as_id().as_str());
+            let was_read = self.read.remove(&id);
+            tell_unread(rt, found, defect, was_read);
+        }
+        Ok(())
     }
 
     fn event_read<R: Log>(
@@ -150,58 +145,25 @@ impl ObjectLog {
         Ok(())
     }
 
-    // A version that stands on the page as this value, and may have this fault.
-    fn version<R: Log>(
-        &mut self,
-        rt: &R,
-        found: &Found,
-        value: &Value,
-        fault: &Option<ObjectFault>,
-    ) -> Result<(), AllocError> {
-        if !self.note(number_of_version(found))? {
-            return Ok(());
-        }
-        match (fault, found.kind) {
-            (Some(fault), _) => self.unread(rt, found, fault),
-            (None, Kind::Event) => self.event_read(rt, found, value)?,
-            (None, Kind::Program) => (),
+    // A version that is read, and stands on the page as this value.
+    fn version<R: Log>(&mut self, rt: &R, found: &Found, value: &Value) -> Result<(), AllocError> {
+        if self.note(number_of_version(found))? && found.kind == Kind::Event {
+            self.event_read(rt, found, value)?;
         }
         Ok(())
     }
 
-    // One element. Those that are not skipped are the versions, in their order: gives how many there were then.
-    fn element<R: Log>(
-        &mut self,
-        rt: &R,
-        kind: Kind,
-        value: &Value,
-        found: &[Found],
-        before: usize,
-    ) -> Result<usize, AllocError> {
-        let fault = object_fault(self.alloc, kind, value)?;
-        match &fault {
-            Some(skipped) if matches!(skipped.fate, Fate::Skipped) => {
-                self.skipped(rt, kind, skipped)?;
-                return Ok(before);
-            }
-            _ => (),
+    fn element<R: Log>(&mut self, rt: &R, kind: Kind, value: &Value) -> Result<(), AllocError> {
+        match &read_element(self.alloc, kind, value)? {
+            Element::Read(found) => self.version(rt, found, value),
+            Element::Unread(found, defect) => self.unread(rt, found, *defect),
+            Element::Skipped(defect) => self.skipped(rt, kind, value, *defect),
         }
-        if let Some(version) = found.get(before) {
-            self.version(rt, version, value, &fault)?;
-        }
-        Ok(before.saturating_add(1))
     }
 
-    fn elements<R: Log>(
-        &mut self,
-        rt: &R,
-        kind: Kind,
-        values: &[Value],
-        found: &[Found],
-    ) -> Result<(), AllocError> {
-        let mut before = 0;
+    fn elements<R: Log>(&mut self, rt: &R, kind: Kind, values: &[Value]) -> Result<(), AllocError> {
         for value in values {
-            before = self.element(rt, kind, value, found, before)?;
+            self.element(rt, kind, value)?;
         }
         Ok(())
     }
@@ -223,7 +185,7 @@ impl ObjectLog {
             return;
         }
         if let Ok(value) = read_value(self.alloc, body) {
-            let _ = self.elements(rt, kind, values_on(&value), found);
+            let _ = self.elements(rt, kind, values_on(&value));
         }
     }
 }

@@ -4,9 +4,10 @@ ghost use Rattle.adr_lock.specs.Halting.{HaltsByStep};
 ghost use Rattle.adr_work.specs.OfficeRounds.{TakesRounds};
 
 use crate::gate::Gate;
+use crate::rest::Rests;
 use crate::round::poll_round;
 use crate::round_log::RoundLog;
-use adr_book::{Office, Pass};
+use adr_book::{Office, Pass, Trail};
 use adr_link::Upstream;
 use adr_lock::{Clock, Steps, halts};
 use adr_machine::Desk;
@@ -39,11 +40,19 @@ fn is_stopped_within<R: Wait + time::Clock>(rt: &R, seconds: u64, stopped: &Atom
 
 /// Asks the utility in rounds, the first at once, until it is told to stop, or, with a flag to set, until the store refuses
 /// a command. A round that is broken or otherwise refused is passed over: the next one asks for everything again.
+/// Between two rounds it rests so many seconds, and behind such rounds 1, 2, 4 and so on up to these (`Rests`).
 #[tactic(auto, using(crate::proofs::Taking::rounds_none, crate::proofs::Taking::rounds_more, crate::proofs::Halting::halts_none))]
-pub fn poll_loop<D: Desk + Drop, L: Ledger, G: Gate, C: Clock, R: Wait + time::Clock + Log>(
+pub fn poll_loop<
+    D: Desk + Drop,
+    T: Trail<D>,
+    L: Ledger,
+    G: Gate,
+    C: Clock,
+    R: Wait + time::Clock + Log,
+>(
     rt: &R,
     alloc: Global,
-    office: &Office<D, L>,
+    office: &Office<D, T, L>,
     gate: &mut G,
     upstream: &Upstream,
     clock: &C,
@@ -57,6 +66,7 @@ pub fn poll_loop<D: Desk + Drop, L: Ledger, G: Gate, C: Clock, R: Wait + time::C
     ensures halts { HaltsByStep (is_some halt.entry) result.halted steps.old.items steps.new.items }
 {
     let mut log = RoundLog::new(rt, alloc);
+    let mut rests = Rests::new(seconds);
     for _ in rt.forever() {
         log.begin();
         let end = poll_round(
@@ -67,7 +77,7 @@ pub fn poll_loop<D: Desk + Drop, L: Ledger, G: Gate, C: Clock, R: Wait + time::C
         if halted {
             return Polled { pass, halted };
         }
-        if is_stopped_within(rt, seconds, stopped) {
+        if is_stopped_within(rt, rests.behind(&end), stopped) {
             return Polled { pass, halted };
         }
     }

@@ -132,7 +132,7 @@ fn probe_each<G: Gate, T: Teller, W: Watch>(
     Ok(())
 }
 
-/// Ends the scan, and probes the keys that it missed.
+/// Ends the scan, and probes the keys that it missed, of which the gate is told how many these are.
 #[tactic(auto, using(crate::proofs::Refusing::ends_refused))]
 fn end_scan<G: Gate, T: Teller, W: Watch>(
     alloc: Global,
@@ -146,7 +146,9 @@ fn end_scan<G: Gate, T: Teller, W: Watch>(
     ensures refusal { IfErr result (λ refusal. EndsBy (T.refuses teller.new) refusal) }
 {
     let missed = teller.tell(&Command::ScanEnd)?;
-    probe_each(alloc, gate, teller, upstream, keys_in(&missed), watch)
+    let keys = keys_in(&missed);
+    gate.look_ahead(teller.versions(), keys.len() as u64);
+    probe_each(alloc, gate, teller, upstream, keys, watch)
 }
 
 /// One round: a scan over all pages of programs and then of events, whose end answers the keys that it missed, and a

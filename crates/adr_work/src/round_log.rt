@@ -11,7 +11,7 @@ use adr_machine::Command;
 use adr_objects::{Found, Kind};
 use adr_state::MirrorKey;
 use adr_text::Refusal;
-use log::{Log, debug, info, warn};
+use log::{Log, debug, error, info, warn};
 use std::alloc::Global;
 use std::fmt;
 use std::fmt::{Display, Formatter};
@@ -93,6 +93,8 @@ struct Seen {
     objects: u64,
     skipped: u64,
     probes: u64,
+    /// Of these those that the gate didn't let through, since there are too many.
+    withheld: u64,
     page: Option<Page>,
     account: Account,
     /// Whether the last page was one.
@@ -107,6 +109,7 @@ impl Seen {
             objects: 0,
             skipped: 0,
             probes: 0,
+            withheld: 0,
             page: None,
             account: Account::Untold,
             is_read: false,
@@ -178,6 +181,9 @@ impl<'r, R: Log + Clock> RoundLog<'r, R> {
         let ms = self.begun.millis(self.rt);
         let since = Since(self.whole.map(|whole| whole.millis(self.rt) / 1_000));
         match end {
+            Ok(PollEnd::Whole) if 0 < self.seen.withheld => {
+                tell_withheld(self.rt, &self.seen, ms, since);
+            }
             Ok(PollEnd::Whole) => {
                 tell_whole(self.rt, &self.seen, ms, since);
                 self.whole = Some(Stopwatch::start(self.rt));
@@ -209,6 +215,10 @@ impl<R: Log + Clock> Watch for RoundLog<'_, R> {
     }
 
     fn probe(&mut self, key: &MirrorKey, account: Account, _came: &Result<HttpReply, LinkFault>) {
+        if let Account::Withheld = account {
+            self.seen.withheld = self.seen.withheld.saturating_add(1);
+            return;
+        }
         self.seen.probes = self.seen.probes.saturating_add(1);
         let id = key.id.as_str();
         debug!(self.rt; target: "round", id; "probe: {account}");
@@ -216,7 +226,11 @@ impl<R: Log + Clock> Watch for RoundLog<'_, R> {
 }
 
 fn tell_whole<R: Log>(rt: &R, seen: &Seen, ms: u64, since: Since) {
-    let Counted { changes, deletions } = seen.counted;
+    let Counted {
+        changes,
+        versions: _,
+        deletions,
+    } = seen.counted;
     info!(
         rt; target: "round",
         pages = seen.pages, objects = seen.objects, skipped = seen.skipped, changes, probes = seen.probes, deletions, ms, since:%;
@@ -227,4 +241,12 @@ fn tell_whole<R: Log>(rt: &R, seen: &Seen, ms: u64, since: Since) {
 fn tell_broken<R: Log>(rt: &R, seen: &Seen, why: Broke, ms: u64, since: Since) {
     let page = Asked(seen.page);
     warn!(rt; target: "round", page:%, pages = seen.pages, ms, since:%; "broke: {why}");
+}
+
+fn tell_withheld<R: Log>(rt: &R, seen: &Seen, ms: u64, since: Since) {
+    error!(
+        rt; target: "round",
+        pages = seen.pages, objects = seen.objects, missed = seen.withheld, ms, since:%;
+        "withheld: more than half of what is live stands on no page, and is asked for only where the next whole round finds that too"
+    );
 }

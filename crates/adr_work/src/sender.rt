@@ -10,7 +10,7 @@ use crate::delivery::deliver;
 use crate::gate::Gate;
 use crate::peers::Peers;
 use crate::queue::{JobQueue, Seat};
-use adr_book::{Office, Pass};
+use adr_book::{Office, Pass, Trail};
 use adr_lock::{Clock, Steps, halts};
 use adr_machine::Desk;
 use log::Log;
@@ -23,10 +23,17 @@ use std::time;
 /// Takes a job, and sends and settles it; where there is none, waits until one is put behind those that were seen. Answers
 /// whether the sender halts by it.
 #[tactic(auto, using(crate::proofs::Delivering::sends_none, crate::proofs::Delivering::sends_more, crate::proofs::Delivering::sends_same, crate::proofs::Halting::halts_none))]
-fn send_next<D: Desk + Drop, L: Ledger, G: Gate, C: Clock, R: Wait + time::Clock + Log>(
+fn send_next<
+    D: Desk + Drop,
+    T: Trail<D>,
+    L: Ledger,
+    G: Gate,
+    C: Clock,
+    R: Wait + time::Clock + Log,
+>(
     rt: &R,
     alloc: Global,
-    office: &Office<D, L>,
+    office: &Office<D, T, L>,
     queue: &JobQueue,
     gate: &mut G,
     peers: &Peers,
@@ -54,10 +61,17 @@ fn send_next<D: Desk + Drop, L: Ledger, G: Gate, C: Clock, R: Wait + time::Clock
 /// Takes jobs, sends and settles them, until the queue is closed, or, with a flag to set, until the store refuses a
 /// settlement. The job in hand is settled first, and then no further one is taken.
 #[tactic(auto, using(crate::proofs::Delivering::sends_none, crate::proofs::Delivering::sends_both, crate::proofs::Halting::halts_none, crate::proofs::Halting::halts_then))]
-pub fn send_loop<D: Desk + Drop, L: Ledger, G: Gate, C: Clock, R: Wait + time::Clock + Log>(
+pub fn send_loop<
+    D: Desk + Drop,
+    T: Trail<D>,
+    L: Ledger,
+    G: Gate,
+    C: Clock,
+    R: Wait + time::Clock + Log,
+>(
     rt: &R,
     alloc: Global,
-    office: &Office<D, L>,
+    office: &Office<D, T, L>,
     queue: &JobQueue,
     gate: &mut G,
     peers: &Peers,

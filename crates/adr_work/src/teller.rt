@@ -19,6 +19,11 @@ pub trait Teller {
     /// By which refusals a command may be refused.
     ghost refuses: { Self → Command → Refusal → Type 0 };
 
+    /// How many versions stood on the pages that were told: no contract says anything of it.
+    fn versions(&self) -> u64 {
+        0
+    }
+
     /// Takes one command, once.
     fn tell(&mut self, command: &Command) -> Result<Answer, Refusal>
         ensures once { steps self.new ≡ steps self.old ++ (command.now, result) ∷ [] }

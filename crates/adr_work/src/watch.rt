@@ -20,25 +20,3 @@ pub trait Watch {
     /// The object of a key was asked for.
     fn probe(&mut self, key: &MirrorKey, account: Account, came: &Result<HttpReply, LinkFault>);
 }
-
-/// Nobody.
-#[derive(Clone, Copy)]
-pub struct Unwatched;
-
-impl Watch for Unwatched {
-    fn page(
-        &mut self,
-        _kind: Kind,
-        _skip: u64,
-        _account: Account,
-        _came: &Result<HttpReply, LinkFault>,
-        _page: &PageRead,
-    ) {}
-
-    fn probe(
-        &mut self,
-        _key: &MirrorKey,
-        _account: Account,
-        _came: &Result<HttpReply, LinkFault>,
-    ) {}
-}

@@ -12,7 +12,7 @@ use crate::gate::Gate;
 use crate::peers::Peers;
 use crate::queue::{JobQueue, Seat};
 use crate::sender::send_loop;
-use adr_book::{Office, Pass};
+use adr_book::{Office, Pass, Trail};
 use adr_lock::{Clock, Steps};
 use adr_machine::Desk;
 use log::Log;
@@ -32,10 +32,10 @@ fn copy_of(halt: &Halt) -> Result<Halt, AllocError> {
 }
 
 /// Starts a sender.
-fn sender<D, L, G, C, R>(
+fn sender<D, T, L, G, C, R>(
     rt: R,
     alloc: Global,
-    office: &Arc<Office<D, L>, Global>,
+    office: &Arc<Office<D, T, L>, Global>,
     queue: &Arc<JobQueue, Global>,
     peers: &Arc<Peers, Global>,
     clock: &Arc<C, Global>,
@@ -46,6 +46,7 @@ fn sender<D, L, G, C, R>(
 ) -> Result<Thread<L>, AllocError>
 where
     D: Desk + Drop + Send + 'static,
+    T: Trail<D> + Send + 'static,
     L: Ledger + Send + Sync + 'static,
     G: Gate + Drop + Send + 'static,
     C: Clock + Drop + Send + Sync + 'static,
@@ -83,9 +84,9 @@ where
 }
 
 /// Starts a dispatcher.
-fn dispatcher<D, L, C, R>(
+fn dispatcher<D, T, L, C, R>(
     rt: R,
-    office: &Arc<Office<D, L>, Global>,
+    office: &Arc<Office<D, T, L>, Global>,
     queue: &Arc<JobQueue, Global>,
     clock: &Arc<C, Global>,
     halt: &Halt,
@@ -94,6 +95,7 @@ fn dispatcher<D, L, C, R>(
 ) -> Result<Thread<L>, AllocError>
 where
     D: Desk + Drop + Send + 'static,
+    T: Trail<D> + Send + 'static,
     L: Ledger + Send + Sync + 'static,
     C: Clock + Drop + Send + Sync + 'static,
     R: Threads + Wait + time::Clock + Log + Copy + Send + 'static,
@@ -149,11 +151,11 @@ impl<L: Ledger> Workers<L> {
     }
 
     /// The same with one sender more; where its thread cannot be made, all are joined.
-    fn with_sender<D, G, C, R>(
+    fn with_sender<D, T, G, C, R>(
         self,
         rt: R,
         alloc: Global,
-        office: &Arc<Office<D, L>, Global>,
+        office: &Arc<Office<D, T, L>, Global>,
         peers: &Arc<Peers, Global>,
         clock: &Arc<C, Global>,
         halt: &Halt,
@@ -162,6 +164,7 @@ impl<L: Ledger> Workers<L> {
     ) -> Result<Workers<L>, AllocError>
     where
         D: Desk + Drop + Send + 'static,
+        T: Trail<D> + Send + 'static,
         L: Send + Sync + 'static,
         G: Gate + Drop + Send + 'static,
         C: Clock + Drop + Send + Sync + 'static,
@@ -196,16 +199,17 @@ impl<L: Ledger> Workers<L> {
     }
 
     /// The same with a dispatcher; where its thread cannot be made, all are joined.
-    fn with_dispatcher<D, C, R>(
+    fn with_dispatcher<D, T, C, R>(
         self,
         rt: R,
-        office: &Arc<Office<D, L>, Global>,
+        office: &Arc<Office<D, T, L>, Global>,
         clock: &Arc<C, Global>,
         halt: &Halt,
         pass: Pass<L>,
     ) -> Result<Workers<L>, AllocError>
     where
         D: Desk + Drop + Send + 'static,
+        T: Trail<D> + Send + 'static,
         L: Send + Sync + 'static,
         C: Clock + Drop + Send + Sync + 'static,
         R: Threads + Wait + time::Clock + Log + Copy + Send + 'static,
@@ -239,10 +243,10 @@ impl<L: Ledger> Workers<L> {
 
 /// Starts a sender for each gate, and one dispatcher, each with a pass, and with the flag to halt by, where there is one.
 /// Where a thread cannot be made, the queue is closed and those that were made are joined: that counts as want of memory.
-pub fn start<D, L, G, C, R>(
+pub fn start<D, T, L, G, C, R>(
     rt: R,
     alloc: Global,
-    office: &Arc<Office<D, L>, Global>,
+    office: &Arc<Office<D, T, L>, Global>,
     queue: JobQueue,
     whole: Seat,
     peers: &Arc<Peers, Global>,
@@ -253,6 +257,7 @@ pub fn start<D, L, G, C, R>(
 ) -> Result<Workers<L>, AllocError>
 where
     D: Desk + Drop + Send + 'static,
+    T: Trail<D> + Send + 'static,
     L: Ledger + Send + Sync + 'static,
     G: Gate + Drop + Send + 'static,
     C: Clock + Drop + Send + Sync + 'static,

@@ -3,7 +3,7 @@ ghost use Rattle.std.specs.Prelude.{◌≡◌, ◌+◌, ◌<◌, ◌≤◌, leng
 
 use crate::peer::peers;
 use crate::quiet::quiet;
-use adr_book::{Office, Pass};
+use adr_book::{Office, Pass, RecordedTrail};
 use adr_delivery::Job;
 use adr_machine::{Answer, Desk, PlainDesk, Query, Role};
 use adr_objects::OutboxCounts;
@@ -33,7 +33,7 @@ pub struct Day {
 /// How many entries the outbox had, and what came of them.
 pub fn counts<D: Desk + Drop, L: Ledger, R: Wait>(
     rt: &R,
-    office: &Office<D, L>,
+    office: &Office<D, RecordedTrail, L>,
     pass: &mut Pass<L>,
 ) -> Result<OutboxCounts, Refusal> {
     let query = Query::Outbox {
@@ -49,7 +49,7 @@ pub fn counts<D: Desk + Drop, L: Ledger, R: Wait>(
 // Waits until no entry waits any more. It goes by time and not by turns of its own: whoever dispatches may rest for a second.
 fn until_none_waits<D: Desk + Drop, L: Ledger, R: Wait + time::Clock>(
     rt: &R,
-    office: &Office<D, L>,
+    office: &Office<D, RecordedTrail, L>,
     pass: &mut Pass<L>,
 ) {
     for _ in 0..MOST_NAPS {
@@ -65,7 +65,7 @@ pub trait Meanwhile {
     fn pass_time<D: Desk + Drop, L: Ledger, R: Wait + time::Clock>(
         &self,
         rt: &R,
-        office: &Office<D, L>,
+        office: &Office<D, RecordedTrail, L>,
         pass: &mut Pass<L>,
     );
 }
@@ -78,7 +78,7 @@ impl Meanwhile for UntilNoneWaits {
     fn pass_time<D: Desk + Drop, L: Ledger, R: Wait + time::Clock>(
         &self,
         rt: &R,
-        office: &Office<D, L>,
+        office: &Office<D, RecordedTrail, L>,
         pass: &mut Pass<L>,
     ) {
         until_none_waits(rt, office, pass);
@@ -138,7 +138,12 @@ where
     requires gates { (0 < length gates.items) × (length gates.items ≤ 16) }
     requires room { (0 < capacity) × (capacity ≤ 64) }
 {
-    let (office, mut passes) = Office::<D, L>::open(alloc, blank, desk, gates.len() as u32 + 2)?;
+    let (office, mut passes) = Office::<D, RecordedTrail, L>::open(
+        alloc,
+        blank,
+        desk,
+        gates.len() as u32 + 2,
+    )?;
     let Some(mut mine) = passes.pop() else {
         unreachable!()
     };

@@ -1,12 +1,13 @@
-//! Two threads that enrol fifty vens each, over a trail that holds all their commands, and over one that doesn't.
+//! Two threads that enrol fifty vens each: over a trail that keeps all their commands, over one that has no room for them,
+//! and over one that keeps none.
 ghost use Rattle.std.specs.Prelude.{◌≡◌};
 
 use crate::clock::Still;
 use crate::desk::{desk_with_trail, ten, ven};
 use crate::quiet::quiet;
-use adr_book::{Office, Pass, Receipt};
+use adr_book::{Office, Pass, Receipt, RecordedTrail, Trail, UnrecordedTrail};
 use adr_lock::{Call, Steps, take_under_lock};
-use adr_machine::{Answer, Command, Desk, Object, Page, PlainDesk, Query, Role};
+use adr_machine::{Answer, Command, Object, Page, PlainDesk, Query, Role};
 use adr_text::{Moment, Refusal};
 use std::alloc::Global;
 use std::marker::Brand;
@@ -22,19 +23,10 @@ const VENS: u32 = 50;
 /// How often a step is tried: once more after a new base, and once more where the other thread has filled the trail.
 const MOST_TRIES: u32 = 3;
 
-/// How a thread takes its steps.
-#[derive(Clone, Copy)]
-enum Way {
-    /// By `Book::step`; the caller makes a new base where the trail is full, and tries again.
-    ByHand,
-    /// By the one place of the lock, which makes the base itself.
-    UnderLock,
-}
-
 // A step by hand, with its receipt.
-fn stepped<D: Desk + Drop, L: Ledger, R: Wait>(
+fn stepped<L: Ledger, R: Wait>(
     rt: &R,
-    office: &Office<D, L>,
+    office: &Office<PlainDesk, RecordedTrail, L>,
     pass: &mut Pass<L>,
     at: Moment,
     command: &Command,
@@ -49,10 +41,10 @@ fn stepped<D: Desk + Drop, L: Ledger, R: Wait>(
     Err(Refusal::TrailFull)
 }
 
-fn enrol_by_hand<D: Desk + Drop, L: Ledger, R: Wait>(
+fn enrol_each<L: Ledger, R: Wait>(
     rt: &R,
     alloc: Global,
-    office: &Office<D, L>,
+    office: &Office<PlainDesk, RecordedTrail, L>,
     pass: &mut Pass<L>,
     at: Moment,
     name: &str,
@@ -66,10 +58,23 @@ fn enrol_by_hand<D: Desk + Drop, L: Ledger, R: Wait>(
     Ok(receipts)
 }
 
-fn enrol_under_lock<D: Desk + Drop, L: Ledger, R: Wait>(
+// Enrols its vens by hand; hands back the pass, and the receipts.
+fn enrol_by_hand<L: Ledger, R: Wait>(
     rt: &R,
     alloc: Global,
-    office: &Office<D, L>,
+    office: &Office<PlainDesk, RecordedTrail, L>,
+    mut pass: Pass<L>,
+    at: Moment,
+    name: &str,
+) -> (Pass<L>, Result<Vec<Receipt>, Refusal>) {
+    let done = enrol_each(rt, alloc, office, &mut pass, at, name);
+    (pass, done)
+}
+
+fn enrol_each_under_lock<L: Ledger, R: Wait>(
+    rt: &R,
+    alloc: Global,
+    office: &Office<PlainDesk, UnrecordedTrail<PlainDesk>, L>,
     pass: &mut Pass<L>,
     at: Moment,
     name: &str,
@@ -90,29 +95,23 @@ fn enrol_under_lock<D: Desk + Drop, L: Ledger, R: Wait>(
     Ok(())
 }
 
-// Enrols its vens in that way; hands back the pass, and the receipts where there are some.
-fn enrol<D: Desk + Drop, L: Ledger, R: Wait>(
+// Enrols its vens under the lock; hands back the pass.
+fn enrol_under_lock<L: Ledger, R: Wait>(
     rt: &R,
     alloc: Global,
-    office: &Office<D, L>,
+    office: &Office<PlainDesk, UnrecordedTrail<PlainDesk>, L>,
     mut pass: Pass<L>,
     at: Moment,
     name: &str,
-    way: Way,
-) -> (Pass<L>, Result<Vec<Receipt>, Refusal>) {
-    let done = match way {
-        Way::ByHand => enrol_by_hand(rt, alloc, office, &mut pass, at, name),
-        Way::UnderLock => {
-            enrol_under_lock(rt, alloc, office, &mut pass, at, name).map(|_| Vec::new(alloc))
-        }
-    };
+) -> (Pass<L>, Result<(), Refusal>) {
+    let done = enrol_each_under_lock(rt, alloc, office, &mut pass, at, name);
     (pass, done)
 }
 
 // The numbers of the vens on a page.
-fn numbers<D: Desk + Drop, L: Ledger, R: Wait>(
+fn numbers<T: Trail<PlainDesk>, L: Ledger, R: Wait>(
     rt: &R,
-    office: &Office<D, L>,
+    office: &Office<PlainDesk, T, L>,
     pass: &mut Pass<L>,
     skip: u32,
     numbers: &mut Vec<u64>,
@@ -133,10 +132,10 @@ fn numbers<D: Desk + Drop, L: Ledger, R: Wait>(
 }
 
 // Whether the vens are v1 to v100.
-fn are_all_there<D: Desk + Drop, L: Ledger, R: Wait>(
+fn are_all_there<T: Trail<PlainDesk>, L: Ledger, R: Wait>(
     rt: &R,
     alloc: Global,
-    office: &Office<D, L>,
+    office: &Office<PlainDesk, T, L>,
     pass: &mut Pass<L>,
 ) -> Result<bool, Refusal> {
     let mut found = Vec::new(alloc);
@@ -161,17 +160,17 @@ struct Enrolled {
     turn: u64,
 }
 
-fn by_two<L: Ledger + Send + Sync, R: Threads + Wait + Sync>(
+// Two threads that take their steps by hand, over a trail that is kept.
+fn by_hand<L: Ledger + Send + Sync, R: Threads + Wait + Sync>(
     rt: &R,
     alloc: Global,
     blank: Blank,
     desk: PlainDesk,
     at: Moment,
-    way: Way,
 ) -> Result<Enrolled, Refusal>
     requires { (blank.name ≡ L.name) × (blank.parts ≡ L.parts) × (blank.parts ≡ 2) }
 {
-    let (office, mut passes) = Office::<PlainDesk, L>::open(alloc, blank, desk, 2)?;
+    let (office, mut passes) = Office::<PlainDesk, RecordedTrail, L>::open(alloc, blank, desk, 2)?;
     let (Some(mine), Some(yours)) = (passes.pop(), passes.pop()) else {
         unreachable!()
     };
@@ -179,10 +178,10 @@ fn by_two<L: Ledger + Send + Sync, R: Threads + Wait + Sync>(
     let ((mut mine, first), (yours, second)) = thread::join(
         rt,
         move || -> (Pass<L>, Result<Vec<Receipt>, Refusal>) {
-            enrol(rt, alloc, shared, mine, at, "a", way)
+            enrol_by_hand(rt, alloc, shared, mine, at, "a")
         },
         move || -> (Pass<L>, Result<Vec<Receipt>, Refusal>) {
-            enrol(rt, alloc, shared, yours, at, "b", way)
+            enrol_by_hand(rt, alloc, shared, yours, at, "b")
         },
     );
     let mut receipts = first?;
@@ -201,31 +200,55 @@ fn by_two<L: Ledger + Send + Sync, R: Threads + Wait + Sync>(
     })
 }
 
-// Two threads over a trail that holds so many commands.
-fn day<R: Threads + Wait + Sync>(
+// Two threads that take their steps by the one place of the lock, over a trail that keeps nothing and so is never full.
+fn under_lock<L: Ledger + Send + Sync, R: Threads + Wait + Sync>(
     rt: &R,
     alloc: Global,
-    trail: u64,
-    way: Way,
-) -> Result<Enrolled, Refusal> {
-    let desk = desk_with_trail(alloc, trail)?;
-    by_two::<Brand, R>(rt, alloc, Blank::new(2), desk, ten()?, way)
+    blank: Blank,
+    desk: PlainDesk,
+    at: Moment,
+) -> Result<(bool, u64), Refusal>
+    requires { (blank.name ≡ L.name) × (blank.parts ≡ L.parts) × (blank.parts ≡ 2) }
+{
+    let (office, mut passes) = Office::<PlainDesk, UnrecordedTrail<PlainDesk>, L>::open(
+        alloc, blank, desk, 2,
+    )?;
+    let (Some(mine), Some(yours)) = (passes.pop(), passes.pop()) else {
+        unreachable!()
+    };
+    let shared = &office;
+    let ((mut mine, first), (yours, second)) = thread::join(
+        rt,
+        move || -> (Pass<L>, Result<(), Refusal>) {
+            enrol_under_lock(rt, alloc, shared, mine, at, "a")
+        },
+        move || -> (Pass<L>, Result<(), Refusal>) {
+            enrol_under_lock(rt, alloc, shared, yours, at, "b")
+        },
+    );
+    first?;
+    second?;
+    let all_there = are_all_there(rt, alloc, &office, &mut mine)?;
+    passes.push(mine)?;
+    passes.push(yours)?;
+    Ok((all_there, office.gather(passes)))
 }
 
 /// Row 31: two threads with a pass each enrol 50 vens: v1 to v100, the audit of the 100 receipts is Ok, `gather` is
 /// 100. With `trail=40`, where a caller that is refused 5 makes a new base and tries again, the vens and `gather` are
-/// the same, and so they are through `take_under_lock` with `trail=1`.
+/// the same, and so they are over a trail that keeps nothing, through `take_under_lock` with `trail=1`.
 #[test]
 fn fifty_vens_each(rt: HostRuntime) -> Result<(), Fail> {
     let alloc = rt.alloc();
-    let whole = day(&rt, alloc, 1_000, Way::ByHand)?;
-    assert!(rt; whole.all_there && whole.agrees);
-    assert_eq!(rt; (whole.receipts, whole.turn), (100, 100));
-    let short = day(&rt, alloc, 40, Way::ByHand)?;
-    assert!(rt; short.all_there && short.agrees);
-    assert_eq!(rt; short.turn, 100);
-    let shortest = day(&rt, alloc, 1, Way::UnderLock)?;
-    assert!(rt; shortest.all_there);
-    assert_eq!(rt; shortest.turn, 100);
+    for trail in [1_000, 40] {
+        let desk = desk_with_trail(alloc, trail)?;
+        let day = by_hand::<Brand, _>(&rt, alloc, Blank::new(2), desk, ten()?)?;
+        assert!(rt; day.all_there && day.agrees);
+        assert_eq!(rt; (day.receipts, day.turn), (100, 100));
+    }
+    let desk = desk_with_trail(alloc, 1)?;
+    let (all_there, turn) = under_lock::<Brand, _>(&rt, alloc, Blank::new(2), desk, ten()?)?;
+    assert!(rt; all_there);
+    assert_eq!(rt; turn, 100);
     Ok(())
 }

@@ -4,7 +4,7 @@ ghost use Rattle.std.specs.Prelude.{◌≡◌};
 use crate::desk::ONE_EVENT;
 use crate::peer::Peer;
 use crate::polled::{BOTH, Upstreams, enrolled_and_subscribed, made, round};
-use adr_book::{Office, Pass};
+use adr_book::{Office, Pass, RecordedTrail};
 use adr_link::{HttpReply, LinkFault};
 use adr_machine::{PlainDesk, Query};
 use adr_text::Refusal;
@@ -36,7 +36,7 @@ impl Peer for FailsOnce {
 // Whether a scan is open.
 fn is_scanning<L: Ledger, R: Wait>(
     rt: &R,
-    office: &Office<PlainDesk, L>,
+    office: &Office<PlainDesk, RecordedTrail, L>,
     pass: &mut Pass<L>,
 ) -> Result<bool, Refusal> {
     match office.book.lock(rt).look(pass, Query::Probes { limit: 1 }) {
@@ -53,7 +53,7 @@ type Ended = ((PollEnd, u64), bool);
 fn failing_round<L: Ledger, R: Wait + time::Clock>(
     rt: &R,
     alloc: Global,
-    office: &Office<PlainDesk, L>,
+    office: &Office<PlainDesk, RecordedTrail, L>,
     pass: &mut Pass<L>,
     fetch: u64,
 ) -> Result<Ended, Refusal> {
@@ -77,7 +77,7 @@ fn two_rounds<L: Ledger, R: Wait + time::Clock>(
 ) -> Result<[Ended; 2], Refusal>
     requires { (blank.name ≡ L.name) × (blank.parts ≡ L.parts) × (blank.parts ≡ 1) }
 {
-    let (office, mut passes) = Office::<PlainDesk, L>::open(
+    let (office, mut passes) = Office::<PlainDesk, RecordedTrail, L>::open(
         alloc,
         blank,
         enrolled_and_subscribed(alloc)?,

@@ -6,7 +6,7 @@ use crate::day::{Day, MOST_NAPS, Meanwhile, UntilNoneWaits, counts, run_with};
 use crate::desk::{desk_of_jobs, empty_desk, ten};
 use crate::peer::{Peer, PeerGate, peers, reply};
 use crate::quiet::quiet;
-use adr_book::{Office, Pass};
+use adr_book::{Office, Pass, RecordedTrail};
 use adr_link::{HttpReply, LinkFault};
 use adr_machine::Desk;
 use adr_text::Refusal;
@@ -45,7 +45,7 @@ impl Meanwhile for UntilSet {
     fn pass_time<D: Desk + Drop, L: Ledger, R: Wait + time::Clock>(
         &self,
         rt: &R,
-        office: &Office<D, L>,
+        office: &Office<D, RecordedTrail, L>,
         _pass: &mut Pass<L>,
     ) {
         for _ in 0..MOST_NAPS {
@@ -65,7 +65,7 @@ impl Meanwhile for UntilSent {
     fn pass_time<D: Desk + Drop, L: Ledger, R: Wait + time::Clock>(
         &self,
         rt: &R,
-        office: &Office<D, L>,
+        office: &Office<D, RecordedTrail, L>,
         pass: &mut Pass<L>,
     ) {
         for _ in 0..MOST_NAPS {
@@ -190,7 +190,7 @@ fn polled<L: Ledger, R: Wait + time::Clock>(
     requires { (blank.name ≡ L.name) × (blank.parts ≡ L.parts) × (blank.parts ≡ 1) }
 {
     let desk = Ailing::new(empty_desk(alloc)?, Refused::Scans);
-    let (office, mut passes) = Office::<Ailing, L>::open(alloc, blank, desk, 1)?;
+    let (office, mut passes) = Office::<Ailing, RecordedTrail, L>::open(alloc, blank, desk, 1)?;
     let Some(pass) = passes.pop() else {
         unreachable!()
     };

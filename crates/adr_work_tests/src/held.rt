@@ -6,7 +6,7 @@ use crate::day::{Day, Meanwhile, UntilNoneWaits, run_day};
 use crate::desk::{desk_of_jobs, empty_desk, ten, ven};
 use crate::peer::{Peer, PeerGate, reply};
 use crate::quiet::quiet;
-use adr_book::{Office, Pass};
+use adr_book::{Office, Pass, RecordedTrail};
 use adr_link::{HttpReply, LinkFault};
 use adr_machine::{Command, Desk, PlainDesk};
 use adr_text::{Moment, Refusal};
@@ -106,7 +106,7 @@ impl Meanwhile for Enrolling {
     fn pass_time<D: Desk + Drop, L: Ledger, R: Wait + time::Clock>(
         &self,
         rt: &R,
-        office: &Office<D, L>,
+        office: &Office<D, RecordedTrail, L>,
         pass: &mut Pass<L>,
     ) {
         let taken = office.book.lock(rt).step(pass, self.at, &self.command);
@@ -183,7 +183,7 @@ fn puts_none<L: Ledger, R: Wait>(
 ) -> Result<bool, Refusal>
     requires { (blank.name ≡ L.name) × (blank.parts ≡ L.parts) × (blank.parts ≡ 1) }
 {
-    let (office, mut passes) = Office::<PlainDesk, L>::open(alloc, blank, desk, 1)?;
+    let (office, mut passes) = Office::<PlainDesk, RecordedTrail, L>::open(alloc, blank, desk, 1)?;
     let Some(mut pass) = passes.pop() else {
         unreachable!()
     };
@@ -213,7 +213,7 @@ fn steps_of_two<L: Ledger, R: Wait>(
 ) -> Result<u64, Refusal>
     requires { (blank.name ≡ L.name) × (blank.parts ≡ L.parts) × (blank.parts ≡ 1) }
 {
-    let (office, mut passes) = Office::<PlainDesk, L>::open(alloc, blank, desk, 1)?;
+    let (office, mut passes) = Office::<PlainDesk, RecordedTrail, L>::open(alloc, blank, desk, 1)?;
     let Some(mut pass) = passes.pop() else {
         unreachable!()
     };

@@ -5,7 +5,7 @@ use crate::clock::Still;
 use crate::day::{Day, Meanwhile, run_day};
 use crate::desk::{empty_desk, ten};
 use crate::peer::{Peer, PeerGate};
-use adr_book::{Office, Pass};
+use adr_book::{Office, Pass, RecordedTrail};
 use adr_link::{HttpReply, LinkFault};
 use adr_machine::Desk;
 use adr_work::Request;
@@ -34,7 +34,7 @@ impl Meanwhile for ForAWhile {
     fn pass_time<D: Desk + Drop, L: Ledger, R: Wait + time::Clock>(
         &self,
         _rt: &R,
-        _office: &Office<D, L>,
+        _office: &Office<D, RecordedTrail, L>,
         _pass: &mut Pass<L>,
     ) {
         for _ in 0..10_000u32 {

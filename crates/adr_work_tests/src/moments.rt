@@ -5,7 +5,7 @@ use crate::clock::{Moving, Seconds};
 use crate::day::{Day, Meanwhile, UntilNoneWaits, run_day};
 use crate::desk::{desk_of_jobs, ten};
 use crate::peer::{Peer, PeerGate, reply};
-use adr_book::{Office, Pass};
+use adr_book::{Office, Pass, RecordedTrail};
 use adr_link::{HttpReply, LinkFault};
 use adr_machine::{Command, Desk};
 use adr_text::{Moment, Refusal};
@@ -47,7 +47,7 @@ impl Meanwhile for Settlements {
     fn pass_time<D: Desk + Drop, L: Ledger, R: Wait + time::Clock>(
         &self,
         rt: &R,
-        office: &Office<D, L>,
+        office: &Office<D, RecordedTrail, L>,
         pass: &mut Pass<L>,
     ) {
         UntilNoneWaits.pass_time(rt, office, pass);

@@ -3,7 +3,7 @@ ghost use Rattle.std.specs.Prelude.{◌≡◌, ◌+◌, ◌≤◌, IfOk, length}
 ghost use Rattle.adr_book.specs.Words.{taken_by};
 
 use crate::desk::{desk_with_trail, ven};
-use adr_book::{AuditFault, Office, Pass};
+use adr_book::{AuditFault, Office, Pass, RecordedTrail};
 use adr_machine::{Answer, Command, Desk, Object, PlainDesk, Query, Role};
 use adr_text::{Moment, ObjectId, Refusal};
 use std::alloc::Global;
@@ -25,7 +25,7 @@ fn ven_gone(alloc: Global, id: &str) -> Result<Command, Refusal> {
 // Takes a step for each command, and counts those that were accepted.
 fn take_steps<D: Desk + Drop, L: Ledger, R: Wait>(
     rt: &R,
-    office: &Office<D, L>,
+    office: &Office<D, RecordedTrail, L>,
     mut pass: Pass<L>,
     at: Moment,
     commands: &[Command],
@@ -57,7 +57,7 @@ fn shared_day<D: Desk + Drop + Send, L: Ledger + Send + Sync, R: Threads + Wait 
     requires parts { (blank.parts ≡ L.parts) × (blank.parts ≡ 2) }
     ensures { IfOk result (λ r. r.0 ≡ r.1 + r.2) }
 {
-    let (office, mut passes) = Office::<D, L>::open(alloc, blank, desk, 2)?;
+    let (office, mut passes) = Office::<D, RecordedTrail, L>::open(alloc, blank, desk, 2)?;
     let (Some(mine), Some(yours)) = (passes.pop(), passes.pop()) else {
         unreachable!()
     };
@@ -123,7 +123,9 @@ fn by_two<L: Ledger, R: Wait + Abort>(rt: &R, alloc: Global, blank: Blank) -> Re
     requires { (blank.name ≡ L.name) × (blank.parts ≡ L.parts) × (blank.parts ≡ 2) }
 {
     let desk = desk_with_trail(alloc, 1).map_err(|_| "a desk")?;
-    let (office, mut passes) = Office::<_, L>::open(alloc, blank, desk, 2).map_err(|_| "opens")?;
+    let (office, mut passes) = Office::<_, RecordedTrail, L>::open(alloc, blank, desk, 2).map_err(
+        |_| "opens",
+    )?;
     let (Some(mut second), Some(mut first)) = (passes.pop(), passes.pop()) else {
         unreachable!()
     };
@@ -135,7 +137,7 @@ fn by_two<L: Ledger, R: Wait + Abort>(rt: &R, alloc: Global, blank: Blank) -> Re
 
 // What both passes have taken.
 fn gathered<D: Desk + Drop, L: Ledger>(
-    office: Office<D, L>,
+    office: Office<D, RecordedTrail, L>,
     passes: Vec<Pass<L>>,
     first: Pass<L>,
     second: Pass<L>,
@@ -152,7 +154,7 @@ fn gathered<D: Desk + Drop, L: Ledger>(
 fn take_turns<L: Ledger, R: Wait + Abort>(
     rt: &R,
     alloc: Global,
-    office: &Office<PlainDesk, L>,
+    office: &Office<PlainDesk, RecordedTrail, L>,
     first: &mut Pass<L>,
     second: &mut Pass<L>,
 ) -> Result<(), Fail> {

@@ -6,7 +6,7 @@ use crate::day::counts;
 use crate::desk::{ONE_EVENT, desk_with_keys, enrolled, subscription, ten};
 use crate::peer::{Peer, PeerGate, peers, reply};
 use crate::quiet::quiet;
-use adr_book::{Office, Pass};
+use adr_book::{Office, Pass, RecordedTrail};
 use adr_link::{HttpReply, LinkFault};
 use adr_machine::{Desk, PlainDesk};
 use adr_objects::OutboxCounts;
@@ -82,7 +82,7 @@ pub fn enrolled_and_subscribed(alloc: Global) -> Result<PlainDesk, Refusal> {
 pub fn round<L: Ledger, U: Peer + Drop, R: Wait + time::Clock>(
     rt: &R,
     alloc: Global,
-    office: &Office<PlainDesk, L>,
+    office: &Office<PlainDesk, RecordedTrail, L>,
     pass: &mut Pass<L>,
     utility: U,
 ) -> Result<(PollEnd, OutboxCounts), Refusal> {
@@ -118,7 +118,7 @@ fn rounds<L: Ledger, R: Wait + time::Clock>(
 ) -> Result<[(PollEnd, u64); 3], Refusal>
     requires { (blank.name ≡ L.name) × (blank.parts ≡ L.parts) × (blank.parts ≡ 1) }
 {
-    let (office, mut passes) = Office::<PlainDesk, L>::open(
+    let (office, mut passes) = Office::<PlainDesk, RecordedTrail, L>::open(
         alloc,
         blank,
         enrolled_and_subscribed(alloc)?,
@@ -169,7 +169,7 @@ fn steps_to_refusal<L: Ledger, R: Wait + time::Clock>(
     requires { (blank.name ≡ L.name) × (blank.parts ≡ L.parts) × (blank.parts ≡ 1) }
 {
     let desk = desk_with_keys(alloc, 1)?;
-    let (office, mut passes) = Office::<PlainDesk, L>::open(alloc, blank, desk, 1)?;
+    let (office, mut passes) = Office::<PlainDesk, RecordedTrail, L>::open(alloc, blank, desk, 1)?;
     let Some(mut pass) = passes.pop() else {
         unreachable!()
     };

@@ -2,7 +2,7 @@
 ghost use Rattle.std.specs.Prelude.{◌≡◌};
 
 use crate::desk::{empty_desk, ten, ven};
-use adr_book::{Office, Pass, Receipt};
+use adr_book::{Office, Pass, Receipt, RecordedTrail};
 use adr_machine::PlainDesk;
 use adr_text::{Moment, Refusal};
 use std::alloc::Global;
@@ -23,7 +23,7 @@ type Told<L> = (Pass<L>, Result<Vec<Receipt>, Refusal>);
 fn enrol<L: Ledger, R: Wait>(
     rt: &R,
     alloc: Global,
-    office: &Office<PlainDesk, L>,
+    office: &Office<PlainDesk, RecordedTrail, L>,
     pass: &mut Pass<L>,
     at: Moment,
     thread: u32,
@@ -41,7 +41,7 @@ fn enrol<L: Ledger, R: Wait>(
 fn start<L, R>(
     rt: R,
     alloc: Global,
-    office: &Arc<Office<PlainDesk, L>, Global>,
+    office: &Arc<Office<PlainDesk, RecordedTrail, L>, Global>,
     pass: Pass<L>,
     at: Moment,
     thread: u32,
@@ -82,7 +82,7 @@ where
     R: Threads + Wait + Copy + Send + 'static,
     requires { (blank.name ≡ L.name) × (blank.parts ≡ L.parts) × (blank.parts ≡ 4) }
 {
-    let (office, mut passes) = Office::<PlainDesk, L>::open(alloc, blank, desk, 4)?;
+    let (office, mut passes) = Office::<PlainDesk, RecordedTrail, L>::open(alloc, blank, desk, 4)?;
     let office = Arc::new(alloc, office)?;
     let mut threads = Vec::with_capacity(alloc, 4)?;
     let mut number = 0;

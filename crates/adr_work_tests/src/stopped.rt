@@ -5,7 +5,7 @@ use crate::clock::Still;
 use crate::day::{Day, MOST_LOOKS, Meanwhile, run_day};
 use crate::desk::{desk_of_jobs, ten};
 use crate::peer::{Peer, PeerGate, reply};
-use adr_book::{Office, Pass};
+use adr_book::{Office, Pass, RecordedTrail};
 use adr_link::{HttpReply, LinkFault};
 use adr_machine::Desk;
 use adr_text::Refusal;
@@ -54,7 +54,7 @@ impl Meanwhile for UntilLeased {
     fn pass_time<D: Desk + Drop, L: Ledger, R: Wait + time::Clock>(
         &self,
         rt: &R,
-        office: &Office<D, L>,
+        office: &Office<D, RecordedTrail, L>,
         _pass: &mut Pass<L>,
     ) {
         for _ in 0..MOST_LOOKS {

@@ -20,8 +20,8 @@ const CLIENT: &str = "meter";
 
 // A ven, where there is one.
 fn some_ven(dice: &mut Dice, held: &Held) -> Option<Number> {
-    let place = dice.place(held.portfolio.vens.len());
-    match held.portfolio.vens.iter().nth(place) {
+    let place = dice.place(held.base.portfolio.vens.len());
+    match held.base.portfolio.vens.iter().nth(place) {
         Some((number, _)) => Some(*number),
         None => None,
     }
@@ -29,8 +29,8 @@ fn some_ven(dice: &mut Dice, held: &Held) -> Option<Number> {
 
 // A resource with its ven, where there is one.
 fn some_resource(dice: &mut Dice, held: &Held) -> Option<(Number, Number)> {
-    let place = dice.place(held.portfolio.resources.len());
-    match held.portfolio.resources.iter().nth(place) {
+    let place = dice.place(held.base.portfolio.resources.len());
+    match held.base.portfolio.resources.iter().nth(place) {
         Some((number, resource)) => Some((resource.ven, *number)),
         None => None,
     }
@@ -38,8 +38,8 @@ fn some_resource(dice: &mut Dice, held: &Held) -> Option<(Number, Number)> {
 
 // A report, where there is one.
 fn some_report(dice: &mut Dice, held: &Held) -> Option<Number> {
-    let place = dice.place(held.portfolio.reports.len());
-    match held.portfolio.reports.iter().nth(place) {
+    let place = dice.place(held.base.portfolio.reports.len());
+    match held.base.portfolio.reports.iter().nth(place) {
         Some((number, _)) => Some(*number),
         None => None,
     }

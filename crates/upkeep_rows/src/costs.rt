@@ -1,7 +1,7 @@
 //! What a refresh takes.
 use crate::play::make_tables;
 use adr_db::Meta;
-use adr_db_portfolio::{put_report, put_resource, put_share, put_ven};
+use adr_db_portfolio::{Sharers, put_report, put_resource, put_share, put_ven};
 use adr_mirror::{gone, put_evidence};
 use adr_objects::{
     Body, EventBody, Found, Interval, Intervals, Kind, Number, ReportBody, ReportHead,
@@ -9,7 +9,7 @@ use adr_objects::{
 };
 use adr_state::{Limits, Report, Resource, ShareKey, Ven, Weight, fresh};
 use adr_text::{Moment, Name, ObjectId, Refusal, Rows};
-use adr_upkeep::{Sharers, refresh_rollup_sharing, refresh_sharing};
+use adr_upkeep::{refresh_rollup_sharing, refresh_sharing};
 use anyhow::{Context, Result, bail};
 use sqlite::{Alter, Connection, Transaction};
 use std::alloc::Global;

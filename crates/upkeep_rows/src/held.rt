@@ -1,20 +1,18 @@
 //! What the tables hold, and what whole views show of it.
 use adr_db::Meta;
-use adr_db_portfolio::read_portfolio;
-use adr_db_state::read_stamps;
-use adr_events::view;
+use adr_lent_image::{lent_base, lent_meta, lent_stamps};
 use adr_objects::{Number, Stamps};
-use adr_state::{Portfolio, ViewKey};
+use adr_state::{Base, ViewKey};
 use adr_text::{Refusal, Table};
-use adr_view::View;
-use sqlite::{Alter, Transaction};
+use adr_view::{View, view_of};
+use sqlite::{Alter, Connection};
 use std::alloc::Global;
 
-/// All that is shown, its stamps, and who takes part.
+/// All that is shown, its stamps, and the mirror and the portfolio that are kept.
 pub struct Held {
     pub view: View,
     pub stamps: Table<ViewKey, Stamps>,
-    pub portfolio: Portfolio,
+    pub base: Base,
 }
 
 impl Drop for Held {
@@ -22,36 +20,26 @@ impl Drop for Held {
         let Held {
             view: _,
             stamps: _,
-            portfolio: _,
+            base: _,
         } = self;
     }
 }
 
-/// Reads it, but for what is shown.
-pub fn read_held_with<S: Alter>(
-    alloc: Global,
-    tx: &mut Transaction<'_, S>,
-    view: View,
-) -> Result<Held, Refusal> {
-    let stamps = read_stamps(alloc, tx)?;
-    let portfolio = read_portfolio(alloc, tx)?;
+/// Reads it: what is shown is the whole view of the mirror and the portfolio, which are all that it depends on.
+pub fn read_held<S: Alter>(alloc: Global, conn: &mut Connection<S>) -> Result<Held, Refusal> {
+    let meta = lent_meta(alloc, conn)?;
+    let base = lent_base(alloc, conn, &meta)?;
     Ok(Held {
-        view,
-        stamps,
-        portfolio,
+        view: view_of(alloc, &base)?,
+        stamps: lent_stamps(alloc, conn)?,
+        base,
     })
-}
-
-/// Reads it.
-pub fn read_held<S: Alter>(alloc: Global, tx: &mut Transaction<'_, S>) -> Result<Held, Refusal> {
-    let view = view(alloc, tx)?;
-    read_held_with(alloc, tx, view)
 }
 
 impl Held {
     /// The ven that owns a resource, where it is there.
     pub fn owner(&self, resource: Number) -> Option<Number> {
-        match self.portfolio.resources.get(resource) {
+        match self.base.portfolio.resources.get(resource) {
             Some(found) => Some(found.ven),
             None => None,
         }
@@ -59,7 +47,7 @@ impl Held {
 
     /// Whether the numbers of the node say how much of each kind there is.
     pub fn is_counted(&self, meta: &Meta) -> bool {
-        let p = &self.portfolio;
+        let p = &self.base.portfolio;
         meta.vens == p.vens.len() as u64
             && meta.resources == p.resources.len() as u64
             && meta.shares == p.shares.len() as u64

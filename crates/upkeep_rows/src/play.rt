@@ -1,6 +1,9 @@
 //! Edits are played one after another, each in a transaction of its own.
+use crate::compared::Step;
 use crate::counts::{Counts, print_counts, print_made};
-use crate::step::{Ended, World, step};
+use crate::held::{Held, read_held};
+use crate::refreshed::Told;
+use crate::step::{Ended, World, compare, step};
 use crate::visited::visit_all;
 use adr_db::create;
 use adr_state::Limits;
@@ -36,22 +39,60 @@ pub fn make_tables<S: Alter>(conn: &mut Connection<S>) -> Result<()> {
     Ok(())
 }
 
-/// One step: what an edit that is refused wrote goes with its transaction.
-fn step_in<S: Alter>(
+/// An edit in a transaction: what one that is refused wrote goes with that.
+fn edit_in<S: Alter>(
     alloc: Global,
     conn: &mut Connection<S>,
     world: &mut World,
+    before: &Held,
+    now: Moment,
+) -> Result<Option<Told>> {
+    if !conn.is_autocommit() {
+        bail!("a transaction stands");
+    }
+    let mut tx = conn.transaction();
+    match step(alloc, &mut tx, world, before, now)? {
+        Some(told) => {
+            tx.commit()?;
+            Ok(Some(told))
+        }
+        None => Ok(None),
+    }
+}
+
+/// What a step told and left is compared, in a transaction that is dropped.
+fn compare_in<S: Alter>(
+    alloc: Global,
+    conn: &mut Connection<S>,
+    world: &mut World,
+    step: &Step<'_>,
     now: Moment,
 ) -> Result<Ended> {
     if !conn.is_autocommit() {
         bail!("a transaction stands");
     }
     let mut tx = conn.transaction();
-    let ended = step(alloc, &mut tx, world, now)?;
-    if let Ended::Made = ended {
-        tx.commit()?;
-    }
-    Ok(ended)
+    Ok(compare(alloc, &mut tx, world, step, now)?)
+}
+
+/// One step: the tables are read whole before it and after it.
+fn step_in<S: Alter>(
+    alloc: Global,
+    conn: &mut Connection<S>,
+    world: &mut World,
+    now: Moment,
+) -> Result<Ended> {
+    let before = read_held(alloc, conn)?;
+    let Some(told) = edit_in(alloc, conn, world, &before, now)? else {
+        return Ok(Ended::Refused);
+    };
+    let after = read_held(alloc, conn)?;
+    let step = Step {
+        before: &before,
+        after: &after,
+        told: &told,
+    };
+    compare_in(alloc, conn, world, &step, now)
 }
 
 fn moment(step: u64) -> Result<Moment> {
@@ -91,12 +132,20 @@ fn play_steps<S: Alter, R: Print + AllocGlobal>(
 
 /// Visits all events that came, in a transaction that is dropped, and answers whether each is told and kept.
 fn visit<S: Alter>(alloc: Global, conn: &mut Connection<S>, world: &World) -> Result<bool> {
+    let held = read_held(alloc, conn)?;
     if !conn.is_autocommit() {
         bail!("a transaction stands");
     }
     let mut tx = conn.transaction();
     let now = moment(STEPS.wrapping_add(1))?;
-    Ok(visit_all(alloc, &mut tx, &Limits::largest(), world.events(), now)?)
+    Ok(visit_all(
+        alloc,
+        &mut tx,
+        &held,
+        &Limits::largest(),
+        world.events(),
+        now,
+    )?)
 }
 
 /// Plays a seed over tables in memory.

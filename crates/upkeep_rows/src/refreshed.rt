@@ -2,10 +2,11 @@
 use crate::held::Held;
 use crate::objects::{ObjectsTold, refresh_programs, refresh_reports};
 use crate::touched::Touched;
+use adr_db_portfolio::Sharers;
 use adr_kept_view::{RollupChange, ShownChange};
 use adr_state::ViewKey;
 use adr_text::{Moment, ObjectId, Refusal, Rows};
-use adr_upkeep::{Sharers, refresh, refresh_rollup, refresh_rollup_sharing, refresh_sharing};
+use adr_upkeep::{refresh, refresh_rollup, refresh_rollup_sharing, refresh_sharing};
 use adr_view::Change;
 use sqlite::{Alter, Transaction};
 use std::alloc::{AllocError, Global};

@@ -4,14 +4,13 @@ use crate::compared::{Step, Wanted, differs_kept, differs_told};
 use crate::counts::Counts;
 use crate::dice::Dice;
 use crate::edit::Edit;
-use crate::held::{Held, read_held, read_held_with};
+use crate::held::Held;
 use crate::made::make;
 use crate::pages::{EVENTS, event_text};
 use crate::refreshed::{Told, refresh_touched};
 use crate::scene::Scene;
 use crate::touched::{Touched, add_touched};
 use adr_db::{Meta, put_meta, read_meta};
-use adr_events::view;
 use adr_objects::Kind;
 use adr_state::Limits;
 use adr_text::{Moment, ObjectId, Refusal};
@@ -71,19 +70,6 @@ fn wanted(alloc: Global, before: &Held, after: &View, now: Moment) -> Result<Wan
     let changes = changes_of(alloc, &before.view, after)?;
     let stamps = restamped(alloc, &before.stamps, &before.view, after, now)?;
     Ok(Wanted { changes, stamps })
-}
-
-// What whole views give, and what the tables hold then.
-fn settle<S: Alter>(
-    alloc: Global,
-    tx: &mut Transaction<'_, S>,
-    before: &Held,
-    now: Moment,
-) -> Result<(Wanted, Held), Refusal> {
-    let view = view(alloc, tx)?;
-    let wanted = wanted(alloc, before, &view, now)?;
-    let after = read_held_with(alloc, tx, view)?;
-    Ok((wanted, after))
 }
 
 // What differs in what is kept of an event.
@@ -159,26 +145,6 @@ impl World {
     }
 }
 
-// What follows an edit that was made.
-fn follow<S: Alter>(
-    alloc: Global,
-    tx: &mut Transaction<'_, S>,
-    world: &mut World,
-    before: &Held,
-    touched: &Touched,
-    now: Moment,
-) -> Result<Ended, Refusal> {
-    let told = refresh_touched(alloc, tx, before, touched, now)?;
-    let (wanted, after) = settle(alloc, tx, before, now)?;
-    world.note_told(before, &after, &told);
-    let step = Step {
-        before,
-        after: &after,
-        told: &told,
-    };
-    look(alloc, tx, &step, &wanted, world.events())
-}
-
 // Chooses an edit and makes it, and answers what it touched, unless it was refused.
 fn edit_once<S: Alter>(
     alloc: Global,
@@ -206,20 +172,33 @@ fn edit_once<S: Alter>(
     Ok(touched)
 }
 
-/// Makes an edit, refreshes what it touched, and compares what is told and kept with what whole views give.
+/// Makes an edit, and refreshes what it touched: what is told of that, or nothing where the edit was refused.
 pub fn step<S: Alter>(
     alloc: Global,
     tx: &mut Transaction<'_, S>,
     world: &mut World,
+    before: &Held,
     now: Moment,
-) -> Result<Ended, Refusal> {
-    let before = read_held(alloc, tx)?;
+) -> Result<Option<Told>, Refusal> {
     world.counts.count_step();
-    match edit_once(alloc, tx, world, &before, now)? {
-        Some(touched) => follow(alloc, tx, world, &before, &touched, now),
+    match edit_once(alloc, tx, world, before, now)? {
+        Some(touched) => Ok(Some(refresh_touched(alloc, tx, before, &touched, now)?)),
         None => {
             world.counts.count_refused();
-            Ok(Ended::Refused)
+            Ok(None)
         }
     }
+}
+
+/// Compares what a step told, and what is kept behind it, with what whole views give.
+pub fn compare<S: Alter>(
+    alloc: Global,
+    tx: &mut Transaction<'_, S>,
+    world: &mut World,
+    step: &Step<'_>,
+    now: Moment,
+) -> Result<Ended, Refusal> {
+    let wanted = wanted(alloc, step.before, &step.after.view, now)?;
+    world.note_told(step.before, step.after, step.told);
+    look(alloc, tx, step, &wanted, world.events())
 }

@@ -7,7 +7,7 @@ ghost use Rattle.adr_subscription.specs.declared.words.OperationKind.TheVariants
 ghost use Rattle.upkeep_rows.specs.Told.{told_once};
 
 use crate::compared::{differs_kept, is_kept};
-use crate::held::{Held, read_held};
+use crate::held::Held;
 use crate::pages::event_text;
 use adr_db::read_meta;
 use adr_db_shown::{read_rollup, read_shown_of, remove_rollup, remove_shown};
@@ -125,11 +125,11 @@ fn are_kept<S: Alter>(
 pub fn visit_all<S: Alter>(
     alloc: Global,
     tx: &mut Transaction<'_, S>,
+    held: &Held,
     limits: &Limits,
     count: u64,
     now: Moment,
 ) -> Result<bool, Refusal> {
-    let held = read_held(alloc, tx)?;
     let events = events_of(alloc, count)?;
     for event in &events {
         forget(alloc, tx, event)?;
@@ -145,6 +145,6 @@ pub fn visit_all<S: Alter>(
     )?;
     visit.close()?;
     let told = meta.pending.wrapping_sub(before);
-    let is_counted = told == visit.changes() && told == kept_count(&held);
-    Ok(is_counted && are_kept(alloc, tx, &held, &events)?)
+    let is_counted = told == visit.changes() && told == kept_count(held);
+    Ok(is_counted && are_kept(alloc, tx, held, &events)?)
 }

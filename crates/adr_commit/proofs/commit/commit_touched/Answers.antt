@@ -2,7 +2,7 @@ use Rattle.std.proofs.Common.{arith}
 use Rattle.adr_db.proofs.Common.{state, HasCleanDisk}
 use Rattle.adr_db.proofs.Results.{handed_on}
 use Rattle.adr_db.specs.Bases.{kept_beside}
-use Rattle.adr_events.proofs.OrderLemmas.{held_in_order}
+use Rattle.adr_kept_view.proofs.OrderLemmas.{held_in_order}
 use Rattle.adr_commit.proofs.Ended.{all_visited, ended, refused}
 use Rattle.adr_commit.proofs.commit.commit_touched.Goals as goal
 

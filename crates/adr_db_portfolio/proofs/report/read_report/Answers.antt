@@ -1,17 +1,16 @@
-use Rattle.std.proofs.Common.{ap, sym, arith, ◌∙◌, Ok, Some}
-use Rattle.adr_db.proofs.Common.{state, HasCleanDisk, Refusal, at, nat_cmp}
+use Rattle.std.proofs.Common.{ap, sym, arith, ◌∙◌, Some}
+use Rattle.adr_db.proofs.Common.{state, HasCleanDisk, at, nat_cmp}
 use Rattle.adr_db.proofs.Reports.{report_found, none_found}
-use Rattle.adr_db_portfolio.proofs.ReportStatements.{row_finds}
 use Rattle.adr_db_portfolio.proofs.report.read_report.Goals as goal
 
 pub returns-in_ok-intervals-in-Some-clause-finds : goal.returns-in_ok-intervals-in-Some-clause-finds
 returns-in_ok-intervals-in-Some-clause-finds g c clean kept was =
-    let early : HasCleanDisk (state g.S.Store c.first_of.new.tx.conn.now) = omega (arith, c.read_values.ensures.lent.stays.crash.clean) in
-    let found = row_finds {E = Refusal} g.S.Store c.args.tx.now.conn.now c.first_of.new.tx.conn.now c.args.id (Ok c.in_ok-found.found) (rw (c.in_ok-number.ensures.value, c.get.ensures) at c.in_ok-found.ensures.shows) early kept was in
+    let early : HasCleanDisk (state g.S.Store c.read_columns.new.tx.conn.now) = omega (arith, c.read_values.ensures.lent.stays.crash.clean) in
+    let found = c.in_ok-found.ensures.finds early kept was in
     let intervals = c.in_ok-intervals-in-Some.ensures.finds clean kept found.1 in
     (ap Some c.whole_report.ensures ∙ report_found c.args.id kept c.in-Some.columns c.in_ok-intervals-in-Some.intervals (sym c.in-Some.is ∙ found.0) intervals.0, intervals.1)
 
 pub returns-in-None-clause-finds : goal.returns-in-None-clause-finds
 returns-in-None-clause-finds g c clean kept was =
-    let found = row_finds {E = Refusal} g.S.Store c.args.tx.now.conn.now c.first_of.new.tx.conn.now c.args.id (Ok c.in_ok-found.found) (rw (c.in_ok-number.ensures.value, c.get.ensures) at c.in_ok-found.ensures.shows) clean kept was in
+    let found = c.in_ok-found.ensures.finds clean kept was in
     (none_found c.args.id (at nat_cmp c.args.id kept.portfolio.reports) (sym c.in-None.is ∙ found.0), found.1)

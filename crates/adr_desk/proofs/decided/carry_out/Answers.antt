@@ -1,11 +1,11 @@
 use Rattle.std.proofs.Common.{refl, arith}
-use Rattle.adr_db.proofs.Common.{LimitReached, NoScan}
+use Rattle.adr_db.proofs.Common.{LimitReached}
 use Rattle.adr_queries.specs.declared.answer.Answer.TheVariants as answer
 use Rattle.adr_machine.specs.declared.outcome.Outcome.TheVariants as outcome
 use Rattle.adr_machine.specs.Listed.{listed}
-use Rattle.adr_desk.proofs.DecisionLemmas.{begun_carries, ended_carries, delivery_carries}
+use Rattle.adr_desk.proofs.DecisionLemmas.{begun_carries, delivery_carries}
 use Rattle.adr_desk.proofs.AnswerLemmas.{along_answered}
-use Rattle.adr_desk.proofs.ListedLemmas.{along_either, along_store, either_refused, own_refused}
+use Rattle.adr_desk.proofs.ListedLemmas.{along_store, either_refused, own_refused}
 use Rattle.adr_desk.proofs.decided.carry_out.Goals as goal
 
 pub returns-in-VenAdd-clause-carries : goal.returns-in-VenAdd-clause-carries
@@ -107,18 +107,6 @@ returns-in-ScanBegin-clause-answered g c = rw (c.along.ensures, c.done.ensures) 
 
 pub returns-in-ScanBegin-clause-listed : goal.returns-in-ScanBegin-clause-listed
 returns-in-ScanBegin-clause-listed g c = rw (c.along.ensures, c.done.ensures) (along_store (listed c.args.command.now) (λ _. outcome.Told answer.Done) c.none.result c.scan_begin.result c.scan_begin.ensures.refused)
-
-pub returns-in-ScanEnd-clause-carries : goal.returns-in-ScanEnd-clause-carries
-returns-in-ScanEnd-clause-carries g c =
-    rw (c.in-ScanEnd.is, c.along-in-ScanEnd.ensures, c.of_scan.ensures) (ended_carries g.S.Store c.args.tx.now.conn.now c.scan_end.new.tx.conn.now c.none-in-ScanEnd.result c.none-in-ScanEnd.ensures.covers c.args.meta.now c.scan_end.new.meta c.scan_end.result c.scan_end.ensures.makes c.scan_end.ensures.refuses)
-
-pub returns-in-ScanEnd-clause-answered : goal.returns-in-ScanEnd-clause-answered
-returns-in-ScanEnd-clause-answered g c = rw (c.along-in-ScanEnd.ensures, c.of_scan.ensures) (along_answered c.args.command.now (λ keys. outcome.Told (answer.Probes keys)) (λ x before after. tt) c.none-in-ScanEnd.result c.scan_end.result)
-
-pub returns-in-ScanEnd-clause-listed : goal.returns-in-ScanEnd-clause-listed
-returns-in-ScanEnd-clause-listed g c =
-    rw (c.along-in-ScanEnd.ensures, c.of_scan.ensures)
-    (along_either (listed c.args.command.now) (λ keys. outcome.Told (answer.Probes keys)) c.none-in-ScanEnd.result NoScan (rw c.in-ScanEnd.is (0, omega arith, refl)) c.scan_end.result c.scan_end.ensures.refused)
 
 pub returns-in-ReportPost-clause-carries : goal.returns-in-ReportPost-clause-carries
 returns-in-ReportPost-clause-carries g c = rw c.in-ReportPost.is c.report_post.ensures.carries

@@ -1,4 +1,4 @@
-use Rattle.std.proofs.Common.{◌∷◌, [], Bool, List, arith, subst, sym}
+use Rattle.std.proofs.Common.{◌∷◌, [], Bool, List, arith, subst}
 use Rattle.std.specs.Prelude.{if◌then◌else◌}
 use Rattle.adr_state.specs.declared.base.Mark.TheVariants.{Dead}
 use Rattle.adr_state.specs.declared.keys.MirrorKey.{MirrorKey}

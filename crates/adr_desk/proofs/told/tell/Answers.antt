@@ -3,7 +3,7 @@ use Rattle.std.proofs.lemmas.Result.{IfErr-weaker}
 use Rattle.adr_db.proofs.Common.{state, HasCleanDisk}
 use Rattle.adr_db.proofs.Results.{handed_on, ok_then}
 use Rattle.adr_db.specs.Bases.{kept_beside}
-use Rattle.adr_events.proofs.OrderLemmas.{held_in_order}
+use Rattle.adr_kept_view.proofs.OrderLemmas.{held_in_order}
 use Rattle.adr_machine.specs.Commands.{traits_of}
 use Rattle.adr_machine.specs.Edits.{is_quiet}
 use Rattle.adr_machine.specs.Listed.{listed}

@@ -12,7 +12,7 @@ use Rattle.adr_state.specs.declared.keys.MirrorKey.{MirrorKey}
 use Rattle.adr_view.specs.Frozen.{frozen_as}
 use Rattle.adr_view.specs.Rollups.{event_key, event_body, event_at}
 use Rattle.adr_counted.proofs.Decided.{carried_as}
-use Rattle.adr_frozen.proofs.InOrder.{held_in_order}
+use Rattle.adr_kept_view.proofs.OrderLemmas.{held_in_order}
 use Rattle.adr_frozen.proofs.Deciding.{as_decided}
 use Rattle.adr_frozen.proofs.freezing.freeze.Goals as goal
 

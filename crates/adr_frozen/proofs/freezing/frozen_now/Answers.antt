@@ -7,7 +7,7 @@ use Rattle.adr_db.specs.Bases.{kept_beside}
 use Rattle.adr_db.proofs.Results.{ok_then}
 use Rattle.adr_counted.proofs.Decided.{carried_as}
 use Rattle.adr_frozen.specs.Decided.{frozen_within}
-use Rattle.adr_frozen.proofs.InOrder.{held_in_order}
+use Rattle.adr_kept_view.proofs.OrderLemmas.{held_in_order}
 use Rattle.adr_frozen.proofs.Deciding.{pairs_rise}
 use Rattle.adr_frozen.proofs.freezing.frozen_now.Goals as goal
 

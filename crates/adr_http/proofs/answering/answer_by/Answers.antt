@@ -9,10 +9,10 @@ pub returns-clause-ok : goal.returns-clause-ok
 returns-clause-ok g c =
     let t = g.T.Taker in
     let planned = plan_of c.args.roles.now (request_parts c.args.request.now) in
-    rw c.without.ensures (IfOk-weaker c.answer_plan-bytes.result _ _ (λ out built. built_by_plan t.takes (t.client c.args.taker.now) c.args.taker.now planned _ c.plan-plan.result _ c.plan-plan.ensures built) c.answer_plan-bytes.ensures.ok)
+    rw c.without.ensures (IfOk-weaker c.answer_plan-bytes.result _ _ (λ out built. built_by_plan t.takes (t.client c.args.taker.now) c.args.taker.now planned _ c.plan_seen-plan.result _ c.plan_seen-plan.ensures built) c.answer_plan-bytes.ensures.ok)
 
 pub returns-clause-err : goal.returns-clause-err
 returns-clause-err g c =
     let t = g.T.Taker in
     let planned = plan_of c.args.roles.now (request_parts c.args.request.now) in
-    rw c.without.ensures (MatchResult-weaker c.answer_plan-bytes.result c.answer_plan-bytes.ensures.err (λ out h. tt) (λ fault leaves. left_by_plan t.takes (t.client c.args.taker.now) c.args.taker.now planned _ c.plan-plan.result c.plan-plan.ensures leaves))
+    rw c.without.ensures (MatchResult-weaker c.answer_plan-bytes.result c.answer_plan-bytes.ensures.err (λ out h. tt) (λ fault leaves. left_by_plan t.takes (t.client c.args.taker.now) c.args.taker.now planned _ c.plan_seen-plan.result c.plan_seen-plan.ensures leaves))

@@ -12,8 +12,8 @@ returns-in-Ok-clause-err g c = rw c.in-Ok.is c.answer_asked.ensures.err
 -- a problem, for which nothing is taken
 pub returns-in-Err-clause-ok : goal.returns-in-Err-clause-ok
 returns-in-Err-clause-ok g c =
-    IfOk-weaker c.problem_bytes.result _ _ (λ out told. of_problem c.in-Err.problem c.in-Err.is refl told) c.problem_bytes.ensures
+    IfOk-weaker c.problem_seen.result _ _ (λ out told. of_problem c.in-Err.problem c.in-Err.is refl told) c.problem_seen.ensures
 
 pub returns-in-Err-clause-err : goal.returns-in-Err-clause-err
 returns-in-Err-clause-err g c =
-    MatchResult-weaker c.problem_bytes.result c.problem_bytes.ensures (λ out told. tt) (λ fault _. not_taken refl)
+    MatchResult-weaker c.problem_seen.result c.problem_seen.ensures (λ out told. tt) (λ fault _. not_taken refl)

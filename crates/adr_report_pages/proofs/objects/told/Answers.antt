@@ -6,7 +6,7 @@ use Rattle.adr_report_pages.proofs.objects.told.Goals as goal
 
 pub returns-clause-finds : goal.returns-clause-finds
 returns-clause-finds g c clean =
-    let early : HasCleanDisk (state g.S.Store c.read_intervals.new.tx.conn.now) = omega (arith, clean, c.read_stamps_of.ensures.lent.stays.crash.clean) in
+    let early : HasCleanDisk (state g.S.Store c.read_values.new.tx.conn.now) = omega (arith, clean, c.read_stamps_of.ensures.lent.stays.crash.clean) in
     ok_then c.object_of.result
     (λ object is kept was.
     let intervals = c.in_ok-intervals.ensures.finds early kept was in

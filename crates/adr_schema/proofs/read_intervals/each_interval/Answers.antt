@@ -11,4 +11,5 @@ loop-v-preserved c =
       len = grind (arith, common_steps);
       apart = rw c.in_ok-push.ensures.items (differ-push (λ i. i.id) c.loop-v.intervals.items c.in_ok-next.next c.loop-v.invariant.apart fresh);
       so_far = grind (arith, common_steps);
+      place = grind (arith, common_steps);
     }

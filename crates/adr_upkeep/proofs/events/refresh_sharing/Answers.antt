@@ -3,7 +3,7 @@ use Rattle.std.specs.List.{All}
 use Rattle.adr_db.proofs.Common.{state, HasCleanDisk}
 use Rattle.adr_db.specs.Bases.{kept_beside}
 use Rattle.adr_db.specs.Kept.{Keeps}
-use Rattle.adr_events.proofs.OrderLemmas.{held_in_order}
+use Rattle.adr_kept_view.proofs.OrderLemmas.{held_in_order}
 use Rattle.adr_kept_view.specs.declared.change.ShownChange.{ShownChange}
 use Rattle.adr_kept_view.specs.declared.found.Found.{Found}
 use Rattle.adr_kept_view.specs.Changes.{found_of, numbers_of, changes_found}

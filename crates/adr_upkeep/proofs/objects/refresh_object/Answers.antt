@@ -7,7 +7,7 @@ use Rattle.adr_view.specs.Changes.{changes}
 use Rattle.adr_db.proofs.Common.{state, HasCleanDisk}
 use Rattle.adr_db.specs.Bases.{kept_beside}
 use Rattle.adr_db.specs.Kept.{Kept, Keeps}
-use Rattle.adr_events.proofs.OrderLemmas.{held_in_order}
+use Rattle.adr_kept_view.proofs.OrderLemmas.{held_in_order}
 use Rattle.adr_kept_view.specs.Objects.{view_key, shown_at, row_at, restamped_at, with_object, with_stamps_at}
 use Rattle.adr_kept_view.proofs.ObjectLemmas.{kept_is_shown, object_refreshed, tells_first}
 use Rattle.adr_upkeep.specs.Turns.{turn_at, IsChangeIn}

@@ -6,7 +6,7 @@ use Rattle.adr_view.specs.Rollups.{rollup_at}
 use Rattle.adr_db.proofs.Common.{state, HasCleanDisk}
 use Rattle.adr_db.specs.Bases.{kept_beside}
 use Rattle.adr_db.specs.Kept.{Kept, Keeps}
-use Rattle.adr_events.proofs.OrderLemmas.{held_in_order}
+use Rattle.adr_kept_view.proofs.OrderLemmas.{held_in_order}
 use Rattle.adr_kept_view.specs.declared.change.RollupChange.{RollupChange}
 use Rattle.adr_kept_view.specs.Laws.{with_rollup}
 use Rattle.adr_kept_view.specs.Refreshed.{IsRefreshed, as_rolled_up}

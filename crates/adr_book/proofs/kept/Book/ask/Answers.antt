@@ -23,6 +23,3 @@ returns-in_err-answer-clause-entry g c =
     let e = c.in_err-answer.field-0.0 in
     ends_after (entry_to_ask c.args.self.now c.args.pass.now) c.in_ok-admit.field-0 c.from_residual-in_err-answer.result (sym c.admit.ensures ∙ c.in_ok-admit.was)
     (handed_on IsOfDesk c.from_residual-in_err-answer.result e c.from_residual-in_err-answer.ensures.1 (of_desk g.D.Desk.may_refuse (listed_for query) (listed_for_of_machine query) e c.in_err-answer.ensures.listed))
-
-pub invariant_of-self-clause-weighs : goal.invariant_of-self-clause-weighs
-invariant_of-self-clause-weighs g c = c.args.self.now.weighs

@@ -5,4 +5,4 @@ pub returns : goal.returns
 returns g c =
     λ sound.
     let book = c.args.self.now in
-    leads_to (g.D.Desk.settings book.desk) book.base (g.D.Desk.state book.desk) book.trail.items (book.leads sound)
+    leads_to (g.D.Desk.settings book.desk) (g.T.Trail.base book.trail) (g.D.Desk.state book.desk) (g.T.Trail.commands book.trail) (book.leads sound)

@@ -12,4 +12,4 @@ returns-in_err-admit_step-clause-listed g c =
     let seen = c.args.pass.now.turn in
     let e = c.in_err-admit_step.field-0.0 in
     handed_on (MayRefuse may seen c.args.command.now) c.from_residual.result e c.from_residual.ensures.1
-    (entry_listed may (listed c.args.command.now) seen e book.turn (g.D.Desk.settings book.desk).limits.trail (length book.trail.items) (sym c.admit_step.ensures ∙ c.in_err-admit_step.was))
+    (entry_listed may (listed c.args.command.now) seen e g.T.Trail.keeps book.turn (g.D.Desk.settings book.desk).limits.trail (length (g.T.Trail.commands book.trail)) (sym c.admit_step.ensures ∙ c.in_err-admit_step.was))

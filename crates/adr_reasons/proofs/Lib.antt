@@ -1,4 +1,0 @@
-pub mod Stopping
-pub mod Agreement
-pub mod Fates
-pub mod Everybody

@@ -1,4 +1,0 @@
-use Rattle.adr_work_tests.proofs.enrolling.day.Given as goal
-
-abbrev pub ghosts-by_two : goal.ghosts-by_two
-ghosts-by_two g a = record { name = a.blank.name; parts = a.blank.parts }
