@@ -56,16 +56,16 @@ def init(path):
 
 
 class Node:
-    """A node with the configuration that follows, with other members in it; `None` takes one away, and `text` all. What it
-    writes goes into a file, but what it tells into a small pipe where it is not `heard`; and `before` is called in its process
-    before it begins."""
+    """A node below a utility at that port, or at that address, with the configuration that follows, with other members in it;
+    `None` takes one away, and `text` all. What it writes goes into a file, but what it tells into a small pipe where it is not
+    `heard`; and `before` is called in its process before it begins."""
 
     program = None
 
     def __init__(self, upstream, text=None, heard=True, before=None, **more):
         config = {
             "listen": "127.0.0.1:0",
-            "upstream": f"http://127.0.0.1:{upstream}/openadr3",
+            "upstream": upstream if isinstance(upstream, str) else f"http://127.0.0.1:{upstream}/openadr3",
             "upstreamToken": f"{UNTOLD}-upstream",
             "clientName": UNTOLD,
             "poll": SELDOM,

@@ -1,6 +1,7 @@
 """Scripts for the program: their lines, what the node has by then, and how a run answers them."""
 import argparse
 import collections
+import contextlib
 import dataclasses
 import datetime
 import json
@@ -8,6 +9,7 @@ import os
 import random
 import subprocess
 import sys
+import tempfile
 import time
 
 from findings import Wrong
@@ -112,6 +114,12 @@ class Script:
         """From here on lines are measured."""
         self.setup = len(self.lines)
         self.second += 1
+
+    def taken(self):
+        """Returns what was said since, and how the replies have to begin."""
+        said = self.lines, self.replies
+        self.lines, self.replies = [], []
+        return said
 
     # ---- enrolment
 
@@ -330,6 +338,52 @@ def check(lines, wanted, replies):
     for line, start, has in zip(lines, wanted, replies):
         if not f"{has}\n".startswith(start):
             raise Wrong(f"{line[:SHOWN]}\n    is answered: {has[:SHOWN]}\n    and not:     {start.rstrip()} ..")
+
+
+def seconds_of(process):
+    """Returns the processor seconds of all threads that a process had so far. The number of its clock is made as
+    `clock_getcpuclockid` makes it."""
+    return time.clock_gettime(~process.pid << 3 | 2)
+
+
+def states(process):
+    """Gives in what state each thread of a process is that goes on meanwhile."""
+    for it in os.listdir(f"/proc/{process.pid}/task"):
+        with contextlib.suppress(OSError), open(f"/proc/{process.pid}/task/{it}/stat", encoding="latin-1") as stat:
+            yield stat.read().rpartition(")")[2].split()[0]
+
+
+class Played:
+    """A program that plays a script, as it comes, over tables in memory."""
+
+    def __init__(self, program):
+        self.room = tempfile.TemporaryDirectory()
+        with open(f"{self.room.name}/said", "wb") as said, open(f"{self.room.name}/told", "wb") as told:
+            self.process = subprocess.Popen([program, "script"], stdin=subprocess.PIPE, stdout=said, stderr=told)
+        self.said = open(f"{self.room.name}/said", "rb")
+
+    def __enter__(self):
+        return self
+
+    def __exit__(self, *_):
+        self.process.kill()
+        with contextlib.suppress(BrokenPipeError):
+            self.process.stdin.close()
+        self.process.wait()
+        self.said.close()
+        self.room.cleanup()
+
+    def answer(self, lines, wanted, patience=PATIENCE):
+        """Has lines answered; returns the replies."""
+        with contextlib.suppress(BrokenPipeError):  # (where it is over, replies are wanting)
+            self.process.stdin.write("".join(f"{it}\n" for it in lines).encode())
+            self.process.stdin.flush()
+        replies = hear(self.process, self.said, len(lines), patience)
+        check(lines, wanted, replies)
+        if len(replies) != len(lines):
+            with open(f"{self.room.name}/told", encoding="latin-1") as told:
+                raise Wrong(f"{len(replies)} of {len(lines)} lines are answered, and it ends: {told.read().strip()}")
+        return replies
 
 
 def is_program(path):
