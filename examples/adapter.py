@@ -33,16 +33,48 @@ The switches. All are off at first; absent, `null` and `false` are off.
     textTargets    a type, as "RESOURCE_NAME": targets that are texts, as ["r1","r2"] of OpenADR 3.1, become targets of
                    that type, [{"type":"RESOURCE_NAME","values":["r1","r2"]}]. What isn't a list of texts alone stays
     operations     true: `CREATE` and `UPDATE` of notifications, as of OpenADR 3.1, become `POST` and `PUT`
-    ownTargets     {"targetType": "VEN_NAME", "targetValues": ["alpha"]}: such a query is added to each listing
+    ownTargets     {"targetType": "VEN_NAME", "targetValues": ["alpha"]}: such a query is added to each listing. Or a
+                   list of names, as ["alpha"]: an event is for somebody else that has targets of the type VEN_NAME,
+                   none with one of these names, and none of RESOURCE_NAME, at which the node looks itself. Without
+                   this it goes to all sites. Now it stands on pages as an element that is no object, so that nothing
+                   is known of it; a notification of it is taken here, and a line at WARN tells of each version. A
+                   DELETE is passed on. What was for the sites before stays as it was: have the utility delete it
+
+Five more are for a node below a node (docs/SCALING.md), where the utility is the node above:
+
+    stripTargets   {"VEN_NAME": "below", "RESOURCE_NAME": "below-sum"}, one of them or both: the names that this ven and
+                   its resource have up there. A target of that type with that name among its values is taken off, of
+                   pages, of single objects and of notifications: else nobody below has the name, and nobody takes part
+    reportAs       the resource's name up there, as "below-sum": a sum (`AGGREGATED_REPORT`) goes up as the report of
+                   that resource. Who is missing is left out, and told here. It goes in place of the report that is
+                   there on that event, of that resource and client, whatever id the node knows it by, and as a new one
+                   where there is none. What there is is asked up there, by `GET /reports`: at the first sum, and again
+                   behind each fault. So nothing is kept here, and nothing lost by a start of the adapter or the node.
+                   A utility that lists none (403, 404, 405, 501) is sent the node's own ids. Where a new report gets
+                   404 the event isn't shown up there any more: the sum is dropped, and the node told that it was taken,
+                   since others would wait behind it
+    callbackUrl    how the utility finds `listenForUtility`, as "http://127.0.0.1:8083/notifications": the adapter
+                   subscribes up there to programs and events, at its start, and looks each minute whether it still is.
+                   With it `callbackToken`, which notifications are to show: one of the node's for its role `utility`.
+                   `clientName` is that of the subscription, and "adapter" where it is absent
+    lives          true: the id of an event gets behind it when it came to be up there (its `createdDateTime`), as
+                   `r2-e1-at3anncvt9srabgu8`. To a node what is gone is gone for good. But up there an event goes and
+                   comes back under one id, as shares, targets and names change: so it is a new one to the node. Sums go
+                   up under the id there. A longer id than 100 bytes, which the node would pass over, stays as it was
+    sumsEvery      seconds, from 0.1 to 60, with `reportAs` and `nodeToken`, a token of the node's operator: each report
+                   of a site makes a sum, and each sum one more in each node above. With it the node is told that a sum
+                   was taken, and each so many seconds the sum that it has then of such an event (`/rollups`) goes up.
+                   At the start it goes up of each event that is shown up there, so that none is lost
 
 A line on standard error tells of each request and each reply what a rule changed in it, rule by rule. What can't be
 read is passed on as it is, byte for byte, and so is what no rule changes. Where a rule changes a body, its JSON is
 written anew, and says the same otherwise.
 
 A utility that is down, breaks off, or sends more than 8 MiB, is answered 502, one that is too slow 504: to the node
-that is no answer. No 404 comes from the adapter itself on the node's side. Rules take a second or so for a page of
-4 MB, and that is of the node's 4 s too: where pages are large, lower `seconds`. Who reaches `listen` asks the utility
-by `utilityToken`: so let the front pass on to `listenForUtility` alone.
+that is no answer. No 404 comes from the adapter itself on the node's side, but of `lives`, where an event that is asked
+for by its id came to be up there at another time. Rules take a second or so for a page of 4 MB, and that is of the
+node's 4 s too: where pages are large, lower `seconds`. Who reaches `listen` asks the utility by `utilityToken`: so let
+the front pass on to `listenForUtility` alone.
 
 It ends by a signal; with status 1, and a line that says why, where its configuration is no such one, or it can't
 listen; and with 2 for other words. Needed: Python 3.8 or later.
@@ -68,6 +100,10 @@ MOST = 8 * 1024 * 1024
 PATIENCE, ARRIVAL = 4, 10
 # How many requests are served at once; others wait.
 AT_ONCE = 32
+# How many objects of a listing are asked for at once; how many seconds lie between two looks for the subscription.
+PAGE, LOOK = 50, 60
+# The statuses by which a utility says that it lists nothing; 200 where what it lists can't be read.
+UNLISTED = (200, 403, 404, 405, 501)
 # What of a request and of a reply is passed on, beside the body.
 ASKED = ("Authorization", "Accept", "Content-Type")
 REPLIED = ("Content-Type", "Content-Encoding", "WWW-Authenticate", "Allow", "Location", "Retry-After")
@@ -144,6 +180,33 @@ def whole(number):
 
 # ---- the rules
 
+# The name under which a node posts a sum, and the type of payloads by which it names whose values it lacks.
+SUM, MISSING = "AGGREGATED_REPORT", "MISSING_RESOURCES"
+# What the id of an event gets behind it, and how long an id is at most that a node takes.
+LIFE, LONGEST = re.compile(r"-at[0-9a-z]{15}$"), 100
+DIGITS = "0123456789abcdefghijklmnopqrstuvwxyz"
+# What stands in place of an event for somebody else: no object, of which the node reads nothing.
+NO_OBJECT = {}
+# Of so many events for somebody else it is known which version was told of.
+MOST_TOLD = 10_000
+
+
+def life_of(value):
+    """Returns the id of an event with the moment at which it came to be; nothing where there is no such."""
+    ident, created = value.get("id"), value.get("createdDateTime")
+    if type(value.get("programID")) is not str or type(ident) is not str or type(created) is not str:
+        return None
+    digits = re.sub("[^0-9]", "", created)
+    if not 14 <= len(digits) <= 23:
+        return None
+    # (its digits, down to the nanosecond, as one number, in fewer)
+    left, found = int(digits.ljust(23, "0")), ""
+    while left:
+        left, last = divmod(left, len(DIGITS))
+        found = DIGITS[last] + found
+    found = f"{ident}-at{found}"
+    return found if LIFE.search(found) and len(found) <= LONGEST else None
+
 
 def make_whole(value):
     """Writes the whole numbers in an object or a list as such; returns those that were written otherwise."""
@@ -168,8 +231,14 @@ class Rules:
         self.end_of_list = config.get("endOfList")
         self.text_targets = config.get("textTargets")
         self.operations = config.get("operations")
+        self.strip_targets = config.get("stripTargets")
+        self.report_as, self.lives = config.get("reportAs"), config.get("lives")
         own = config.get("ownTargets")
-        self.own_query = urllib.parse.urlencode(own, True, quote_via=urllib.parse.quote) if own else ""
+        is_query = isinstance(own, dict)
+        self.own_query = urllib.parse.urlencode(own, True, quote_via=urllib.parse.quote) if is_query else ""
+        self.own_names = set() if is_query else set(own or ())
+        # Which version was told of, of events for somebody else, by their ids.
+        self.told_of = {}
 
     def query(self, query, told):
         """Returns the query with which the utility is asked for a listing."""
@@ -182,10 +251,11 @@ class Rules:
             told(f"ownTargets: asked with {self.own_query}")
         return "&".join(parts)
 
-    def objects(self, values, told):
-        """Changes objects of the utility where rules say so; returns whether one is changed."""
-        numbers, targets = [], []
-        for it in values:
+    def objects(self, values, told, is_gone=False):
+        """Changes objects of the utility where rules say so; returns whether one is changed. One that is gone may be
+        for somebody else."""
+        numbers, targets, others, stripped, lives = [], [], [], [], []
+        for at, it in enumerate(values):
             if not isinstance(it, dict):
                 continue
             name = it["id"] if isinstance(it.get("id"), str) else "none"
@@ -195,13 +265,100 @@ class Rules:
             if self.text_targets and here and isinstance(here, list) and all(type(target) is str for target in here):
                 it["targets"] = [{"type": self.text_targets, "values": here}]
                 targets.append(name)
+            if self.own_names and not is_gone and (names := self.for_others(it)):
+                self.warn(name, it.get("modificationDateTime"), names)
+                values[at] = NO_OBJECT
+                others.append(name)
+                continue
+            if self.strip_targets and (taken := self.strip(it)):
+                stripped.append((name, taken))
+            if self.lives and (ident := life_of(it)):
+                it["id"] = ident
+                lives.append(ident)
         if numbers:
             name, found = numbers[0]
             count = sum(len(found) for _, found in numbers)
             told(f"wholeNumbers: {found[0]} is {whole(found[0])} first={name} numbers={count} objects={len(numbers)}")
         if targets:
             told(f"textTargets: texts are of type {self.text_targets} first={targets[0]} objects={len(targets)}")
-        return bool(numbers or targets)
+        if others:
+            told(f"ownTargets: for somebody else, left out first={others[0]} objects={len(others)}")
+        if stripped:
+            name, taken = stripped[0]
+            told(f"stripTargets: without {' '.join(taken)} first={name} objects={len(stripped)}")
+        if lives:
+            told(f"lives: first={lives[0]} objects={len(lives)}")
+        return bool(numbers or targets or others or stripped or lives)
+
+    def for_others(self, value):
+        """Returns the names of vens for which an event is, where it is for somebody else alone; else nothing."""
+        here = value.get("targets")
+        if type(value.get("programID")) is not str or not isinstance(here, list):
+            return []
+        kinds = [(it.get("type"), it.get("values")) for it in here if isinstance(it, dict)]
+        if any(kind == "RESOURCE_NAME" for kind, _ in kinds):
+            return []
+        lists = [values for kind, values in kinds if kind == "VEN_NAME" and isinstance(values, list)]
+        names = [it for values in lists for it in values if type(it) is str]
+        return [] if self.own_names & set(names) else names
+
+    def warn(self, name, moment, names):
+        """Tells of an event for somebody else, once for each version."""
+        if self.told_of.get(name) == (moment := str(moment)):
+            return
+        if len(self.told_of) >= MOST_TOLD:
+            self.told_of = {}
+        self.told_of[name] = moment
+        tell("WARN", f"ownTargets: for somebody else, and shown to nobody: {' '.join(names)[:300]} id={name}")
+
+    def strip(self, value):
+        """Takes off the targets of an object that name this ven or its resource; returns their types."""
+        here = value.get("targets")
+        if not isinstance(here, list):
+            return []
+        taken = [it for it in here if self.names_us(it)]
+        if taken:
+            value["targets"] = [it for it in here if not self.names_us(it)]
+        return [it["type"] for it in taken]
+
+    def names_us(self, target):
+        """Whether a target names this ven, or its resource."""
+        kind, values = (target.get("type"), target.get("values")) if isinstance(target, dict) else (None, None)
+        name = self.strip_targets.get(kind) if type(kind) is str else None
+        return name is not None and isinstance(values, list) and any(type(it) is str and it == name for it in values)
+
+    def above(self, ident):
+        """Returns the id that an event has up there."""
+        return LIFE.sub("", ident) if self.lives else ident
+
+    def renamed(self, value):
+        """Gives a report the id that its event has up there; returns whether that is another."""
+        before = value.get("eventID") if isinstance(value, dict) else None
+        if type(before) is not str or self.above(before) == before:
+            return False
+        value["eventID"] = self.above(before)
+        return True
+
+    def sum(self, value, told):
+        """Makes a sum of a node the report of one resource; returns the event's id in the node, or nothing."""
+        if not self.report_as:
+            return None
+        try:
+            [resource] = value["resources"]
+            intervals, event = resource["intervals"], value["eventID"]
+            if resource["resourceName"] != SUM or type(event) is not str or type(value["clientName"]) is not str:
+                return None
+            found = [it for interval in intervals for it in interval["payloads"] if it["type"] == MISSING]
+            missing = list(dict.fromkeys(name for it in found for name in it["values"]))
+            for interval in intervals:
+                interval["payloads"] = [it for it in interval["payloads"] if it["type"] != MISSING]
+        except (KeyError, TypeError, ValueError):
+            return None
+        resource["resourceName"] = self.report_as
+        value["eventID"] = self.above(event)
+        names = f": {' '.join(map(str, missing))[:500]}" if missing else ""
+        told(f"reportAs: the sum is that of {self.report_as} event={value['eventID']} missing={len(missing)}{names}")
+        return event
 
     def listing(self, value, skip, limit, told):
         """Returns a listing as it is to be, and whether that is another."""
@@ -228,7 +385,10 @@ class Rules:
         """Changes a notification where rules say so; returns whether it is changed."""
         if not isinstance(value, dict):
             return False
-        is_changed = isinstance(value.get("object"), dict) and self.objects([value["object"]], told)
+        values = [value.get("object")]
+        is_changed = self.objects(values, told, value.get("operation") == "DELETE")
+        if is_changed:
+            value["object"] = values[0]
         word = {"CREATE": "POST", "UPDATE": "PUT"}.get(str(value.get("operation")))
         if self.operations and word:
             told(f"operations: {value['operation']} is {word}")
@@ -456,26 +616,58 @@ class FromNode(Handler):
         if not path.startswith(f"{it.utility.path}/"):
             self.told("not below the path of the utility's address: passed on as it is")
             kind = None
+        if (it.rules.report_as or it.rules.lives) and self.command in ("POST", "PUT"):
+            of_reports = f"{it.utility.path}/reports"
+            if path == of_reports or path.startswith(f"{of_reports}/"):
+                return self.report(body)
         if not kind or self.command != "GET":
             return self.ask(self.path, body)
         if kind[2]:
-            return self.one(self.ask(self.path, body))
+            return self.one(kind[2][1:], query)
         return self.page(path, query)
 
-    def ask(self, target, body=b""):
+    def asks(self):
+        """Returns the fields with which the utility is asked."""
         it = self.server.adapter
-        fields = self.fields()
-        if it.token:
-            fields["Authorization"] = f"Bearer {it.token}"
+        return {**self.fields(), **({"Authorization": f"Bearer {it.token}"} if it.token else {})}
+
+    def ask(self, target, body=b"", method=None):
         if not target.startswith("/") or not target.isascii():
             raise ValueError("a target of another form")
-        return it.utility.ask(self.command, target, fields, body, self.until)
+        return self.server.adapter.utility.ask(method or self.command, target, self.asks(), body, self.until)
 
-    def one(self, reply):
-        """Changes one object by its id, where rules say so."""
+    def report(self, body):
+        """Passes on a sum as the report of one resource, or keeps it for later; any other report as it is."""
+        it = self.server.adapter
+        try:
+            value = value_of(body)
+            event = it.rules.sum(value, self.told if not it.sums.every else lambda _: None)
+            if event or it.rules.renamed(value):
+                body = bytes_of(value)
+        except (ValueError, RecursionError):
+            self.told("not read: passed on as it is")
+            return self.ask(self.path, body)
+        if event and it.sums.every:
+            it.sums.keep(event)
+            return Reply(200, "OK", [("Content-Type", "application/json")], b"{}")
+        return (event and it.sums.send(value, body, self.asks(), self.until)) or self.ask(self.path, body)
+
+    def one(self, ident, query):
+        """Returns one object by its id."""
+        rules = self.server.adapter.rules
+        path = self.path.partition("?")[0]
+        there = f"{path[:-len(ident)]}{rules.above(ident)}"
+        reply = self.ask(f"{there}?{query}" if query else there)
         value = self.value_in(reply)
-        if isinstance(value, dict) and self.server.adapter.rules.objects([value], self.told):
+        values = [value]
+        if rules.objects(values, self.told):
+            [value] = values
             reply.becomes(value)
+        if value is NO_OBJECT:
+            return reply
+        if there != path and isinstance(value, dict) and value.get("id") != ident:
+            self.told("lives: it came to be at another time")
+            return problem(404, "Not Found", "it came to be at another time")
         return reply
 
     def page(self, path, query):
@@ -530,10 +722,190 @@ class FromUtility(Handler):
             value = value_of(body)
             if it.rules.notification(value, self.told):
                 body = bytes_of(value)
+            if isinstance(value, dict) and value.get("object") is NO_OBJECT:
+                return Reply(200, "OK", [("Content-Type", "application/json")], b"{}")
         except (ValueError, RecursionError):
             self.told("not read: passed on as it is")
         until = time.monotonic() + ARRIVAL
         return it.node.ask("POST", f"{it.node.path}/notifications", self.fields(), body, until)
+
+
+class Unlisted(Exception):
+    """The utility has no list of such objects, or doesn't take one."""
+
+    def __init__(self, why, status=200):
+        super().__init__(why)
+        self.status = status
+
+
+class Sums:
+    """What the utility is sent of a node's sums, as reports of one resource."""
+
+    def __init__(self, adapter, config):
+        # The ids of the reports up there, by their events'; none while they aren't known.
+        self.adapter, self.idents, self.lock = adapter, None, threading.Lock()
+        self.every, self.token = config.get("sumsEvery"), config.get("nodeToken")
+        # The events of which a sum is to be sent, by the ids that the node has.
+        self.kept, self.guard = {}, threading.Lock()
+
+    def send(self, value, body, fields, until):
+        """Sends a report; returns the reply, or nothing where the utility lists no reports."""
+        # One at a time: else of two sums on an event the former may be the last that comes up there.
+        if not self.lock.acquire(timeout=max(until - time.monotonic(), 0)):
+            raise Broken(504, "an earlier sum is still being sent")
+        idents, self.idents = self.idents, None
+        try:
+            if idents is None:
+                idents = self.there(value["clientName"], fields, until)
+            if idents is None:
+                return None
+            reply = self.replace(value["eventID"], body, idents, fields, until)
+            if 200 <= reply.status < 300:
+                self.idents = idents
+            return reply
+        finally:
+            self.lock.release()
+
+    def there(self, client, fields, until):
+        """Returns the ids of the resource's reports up there, by their events'; nothing where none are listed."""
+        it = self.adapter
+        of_resource = lambda report: report["resources"][0]["resourceName"] == it.rules.report_as
+        try:
+            found = it.all_of("/reports", client, fields, until)
+            idents = {report["eventID"]: report["id"] for report in found if of_resource(report)}
+        except Unlisted as wrong:
+            if wrong.status not in UNLISTED:
+                raise Broken(502, f"no list of reports: {wrong}") from wrong
+            tell("WARN", f"reportAs: no list of reports: {wrong}: the node's own ids are passed on")
+            return None
+        except (KeyError, IndexError, TypeError):
+            tell("WARN", "reportAs: reports of another form: the node's own ids are passed on")
+            return None
+        tell("INFO", f"reportAs: reports that are there: {len(idents)}")
+        return idents
+
+    def replace(self, event, body, idents, fields, until):
+        """Puts a report in place of that on its event, where one is there, and else as a new one."""
+        ask = self.adapter.utility.ask
+        reports = f"{self.adapter.utility.path}/reports"
+        if event in idents:
+            reply = ask("PUT", f"{reports}/{urllib.parse.quote(idents[event], '')}", fields, body, until)
+            if reply.status != 404:
+                return reply
+            del idents[event]
+        reply = ask("POST", reports, fields, body, until)
+        if reply.status == 404:
+            tell("WARN", f"reportAs: the event isn't shown up there any more: the sum is dropped event={event}")
+            return Reply(200, "OK", [("Content-Type", "application/json")], b"{}")
+        try:
+            made = value_of(reply.body) if 200 <= reply.status < 300 else {}
+            if type(made["id"]) is str:
+                idents[event] = made["id"]
+        except (ValueError, RecursionError, KeyError, TypeError):
+            pass  # what it is called is asked for another time
+        return reply
+
+    # ---- sums that are kept for a while, where `sumsEvery` is on
+
+    def keep(self, event):
+        """From now on a sum of an event is to be sent."""
+        with self.guard:
+            self.kept[event] = None
+
+    def keep_all(self):
+        """So is one of each event up there: which were kept before a start nobody knows."""
+        it = self.adapter
+        until = time.monotonic() + it.seconds
+        found = it.all_of("/events", None, it.own_fields(), until)
+        it.rules.objects(found, lambda _: None)
+        for event in found:
+            if event is not NO_OBJECT:
+                self.keep(event["id"])
+
+    def look(self):
+        """Sends the present sum of each event that is kept; those that can't be sent now stay."""
+        with self.guard:
+            kept, self.kept = self.kept, {}
+        for event in kept:
+            try:
+                self.tell_above(event)
+            except (Broken, Unlisted, ValueError, KeyError, TypeError, RecursionError) as wrong:
+                self.keep(event)
+                tell("WARN", f"sumsEvery: not sent: {wrong or type(wrong).__name__} event={event}")
+
+    def tell_above(self, event):
+        """Sends the sum that the node has now of an event, if it has one."""
+        it = self.adapter
+        until = time.monotonic() + it.seconds
+        fields = {"Accept": "application/json", "Authorization": f"Bearer {self.token}"}
+        reply = it.node.ask("GET", f"{it.node.path}/rollups/{urllib.parse.quote(event, '')}", fields, b"", until)
+        if reply.status == 404:
+            return
+        if reply.status != 200:
+            raise Unlisted(f"the node answers {reply.status}")
+        whole = value_of(reply.body)
+        value = {name: whole[name] for name in ("clientName", "eventID", "programID", "resources")}
+        if not it.rules.sum(value, lambda what: tell("INFO", what)):
+            raise Unlisted("the node's sum is of another form")
+        fields = {**it.own_fields(), "Content-Type": "application/json"}
+        reply = self.send(value, bytes_of(value), fields, until)
+        if reply is None or not 200 <= reply.status < 300:
+            raise Unlisted(f"the utility answers {reply.status}" if reply else "the utility lists no reports")
+
+    def run(self):
+        is_begun = False
+        while True:
+            try:
+                if not is_begun:
+                    self.keep_all()
+                    is_begun = True
+            except (Broken, Unlisted) as wrong:
+                tell("WARN", f"sumsEvery: no list of events: {wrong}")
+            self.look()
+            time.sleep(self.every)
+
+
+class Subscriber:
+    """Has the utility tell of programs and events."""
+
+    def __init__(self, adapter, config):
+        self.adapter, self.client = adapter, config.get("clientName", "adapter")
+        self.url, self.token = config["callbackUrl"], config["callbackToken"]
+
+    def ask(self, method, target, value):
+        """Asks the utility, which has to take it."""
+        it = self.adapter
+        fields = {**it.own_fields(), "Content-Type": "application/json"}
+        until = time.monotonic() + it.seconds
+        reply = it.utility.ask(method, f"{it.utility.path}{target}", fields, json.dumps(value).encode(), until)
+        if not 200 <= reply.status < 300:
+            raise Unlisted(f"{method} {target} is answered {reply.status}")
+
+    def look(self, is_first):
+        """Has the subscription be there. At the first time it is put anew: nobody shows which token it has."""
+        it = self.adapter
+        hook = {"objects": ["PROGRAM", "EVENT"], "operations": ["POST", "PUT", "DELETE"], "callbackUrl": self.url}
+        value = {"clientName": self.client, "objectOperations": [{**hook, "bearerToken": self.token}]}
+        found = it.all_of("/subscriptions", self.client, it.own_fields(), time.monotonic() + it.seconds)
+        own = [one["id"] for one in found if one.get("clientName") == self.client]
+        if own and not is_first:
+            return
+        if own:
+            self.ask("PUT", f"/subscriptions/{urllib.parse.quote(own[0], '')}", value)
+        else:
+            self.ask("POST", "/subscriptions", value)
+        tell("INFO", f"callbackUrl: subscribed to programs and events {'again' if own else 'anew'}")
+
+    def run(self):
+        is_first, failures = True, 0
+        while True:
+            try:
+                self.look(is_first)
+                is_first, failures = False, 0
+            except (Broken, Unlisted) as wrong:
+                failures += 1
+                tell("WARN", f"callbackUrl: not subscribed: {wrong}")
+            time.sleep(min(LOOK, 2 ** (failures - 1)) if failures else LOOK)
 
 
 class Listener(ThreadingHTTPServer):
@@ -584,6 +956,10 @@ def is_text(value):
     return isinstance(value, str) and 0 < len(value) <= 1024 and value.isprintable()
 
 
+def is_name(value):
+    return is_text(value) and len(value.encode()) <= 128
+
+
 def is_token(value):
     return isinstance(value, str) and bool(re.fullmatch("[!-~]{1,1024}", value))
 
@@ -610,11 +986,25 @@ def is_seconds(value):
     return isinstance(value, (int, float)) and not isinstance(value, bool) and 0.1 <= value <= 3.5
 
 
+def is_rest(value):
+    return isinstance(value, (int, float)) and not isinstance(value, bool) and 0.1 <= value <= 60
+
+
 def is_targets(value):
+    """Whether a value is a query for targets, or a list of names."""
+    if isinstance(value, list):
+        return bool(value) and all(map(is_name, value))
     if not isinstance(value, dict) or set(value) != {"targetType", "targetValues"}:
         return False
     values = value["targetValues"]
     return is_text(value["targetType"]) and isinstance(values, list) and bool(values) and all(map(is_text, values))
+
+
+def is_own(value):
+    """Whether a value is names by the types of their targets."""
+    if not isinstance(value, dict) or not value or not set(value) <= {"VEN_NAME", "RESOURCE_NAME"}:
+        return False
+    return all(map(is_name, value.values()))
 
 
 FORMS = {
@@ -630,9 +1020,20 @@ FORMS = {
     "endOfList": (is_switch, "true or false"),
     "textTargets": (is_text, "a type of targets"),
     "operations": (is_switch, "true or false"),
-    "ownTargets": (is_targets, "an object of targetType, a text, and targetValues, a list of texts"),
+    "ownTargets": (is_targets, "an object of targetType and targetValues, a list of texts, or a list of names"),
+    "stripTargets": (is_own, "an object of VEN_NAME or RESOURCE_NAME or both, each a name"),
+    "reportAs": (is_name, "a name of 1 to 128 bytes"),
+    "callbackUrl": (is_address, "an address that begins with http:// or https://, without a user"),
+    "callbackToken": (is_token, "1 to 1024 characters from ! to ~"),
+    "clientName": (is_name, "a name of 1 to 128 bytes"),
+    "lives": (is_switch, "true or false"),
+    "sumsEvery": (is_rest, "a number of seconds from 0.1 to 60"),
+    "nodeToken": (is_token, "1 to 1024 characters from ! to ~"),
 }
 SWITCHES = ("wholeNumbers", "listMember", "pages", "endOfList", "textTargets", "operations", "ownTargets")
+SWITCHES += ("stripTargets", "reportAs", "callbackUrl", "lives", "sumsEvery")
+# Those by which a page or an object is changed.
+READING = tuple(it for it in SWITCHES if it not in ("reportAs", "callbackUrl", "sumsEvery"))
 
 
 def configuration(path):
@@ -656,6 +1057,12 @@ def configuration(path):
             raise BadConfiguration(f"{name}: missing")
     if ("node" in config) != ("listenForUtility" in config):
         raise BadConfiguration("node and listenForUtility: one without the other")
+    if ("callbackUrl" in config) != ("callbackToken" in config):
+        raise BadConfiguration("callbackUrl and callbackToken: one without the other")
+    if "callbackUrl" in config and not ("node" in config and "utilityToken" in config):
+        raise BadConfiguration("callbackUrl: needs node, listenForUtility and utilityToken")
+    if "sumsEvery" in config and not all(it in config for it in ("node", "nodeToken", "utilityToken", "reportAs")):
+        raise BadConfiguration("sumsEvery: needs reportAs, node, nodeToken and utilityToken")
     return config
 
 
@@ -664,20 +1071,53 @@ class Adapter:
 
     def __init__(self, config):
         self.rules, self.token = Rules(config), config.get("utilityToken")
-        self.is_reading = any(it in config for it in SWITCHES)
+        self.is_reading = any(it in config for it in READING)
+        self.sums = Sums(self, config)
         self.seconds = config.get("seconds", 3.5)
         self.utility = Server(config["utility"])
         self.sides = [Listener(config["listen"], FromNode, self)]
         if "node" in config:
             self.node = Server(config["node"])
             self.sides.append(Listener(config["listenForUtility"], FromUtility, self))
+        self.subscriber = Subscriber(self, config) if "callbackUrl" in config else None
         on = " ".join(it for it in SWITCHES if it in config)
         places = " ".join("{}:{}".format(*it.server_address[:2]) for it in self.sides)
         tell("INFO", f"listening at={places} on={on or 'none'}")
 
+    def own_fields(self):
+        """Returns the fields with which the adapter asks the utility for itself."""
+        return {"Accept": "application/json", "Authorization": f"Bearer {self.token}"}
+
+    def all_of(self, path, client, fields, until):
+        """Returns what a listing up there has, of a client or in all, page by page; `Unlisted` where it is none."""
+        found, more = {}, True
+        while more:
+            parts = [f"clientName={urllib.parse.quote(client, '')}"] if client else []
+            parts += [] if self.rules.pages else [f"skip={len(found)}", f"limit={PAGE}"]
+            parts += [self.rules.own_query] if self.rules.own_query and not client else []
+            reply = self.utility.ask("GET", f"{self.utility.path}{path}?{'&'.join(parts)}", fields, b"", until)
+            try:
+                value = value_of(reply.body) if reply.status == 200 else None
+            except (ValueError, RecursionError) as wrong:
+                raise Unlisted(f"GET {path} can't be read") from wrong
+            if self.rules.list_member and isinstance(value, dict):
+                value = value.get(self.rules.list_member)
+            if value is None and self.rules.end_of_list and (found or reply.status in (200, 204)):
+                value = []
+            has_id = lambda it: isinstance(it, dict) and type(it.get("id")) is str
+            if not isinstance(value, list) or not all(map(has_id, value)):
+                raise Unlisted(f"GET {path} is answered {reply.status}", reply.status)
+            more = {it["id"]: it for it in value if it["id"] not in found}
+            found.update(more)
+        return list(found.values())
+
     def run(self):
         for it in self.sides[1:]:
             threading.Thread(target=it.serve_forever, daemon=True).start()
+        if self.subscriber:
+            threading.Thread(target=self.subscriber.run, daemon=True).start()
+        if self.sums.every:
+            threading.Thread(target=self.sums.run, daemon=True).start()
         self.sides[0].serve_forever()
 
 

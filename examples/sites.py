@@ -5,9 +5,10 @@
     examples/sites.py URL --many N --tokens tokens.json [--operator-token T] [--program p1] [--seconds 30]
 
 It enrols N vens, `site-1` and so on, each with a resource and a share in the program, and runs N sites of
-examples/site.py for so long. What is enrolled already stays. --tokens is what --config-for printed, or the node's whole
-configuration; its operator enrols, or the one of --operator-token. Over a new file the node gives the vens the ids v1
-to vN, and so they stand in `tokens`; where it has drawn numbers before, say by --first which it draws next.
+examples/site.py for so long. What is enrolled already stays, also a share. --tokens is what --config-for printed, or
+the node's whole configuration; its operator enrols, or the one of --operator-token. Over a new file the node gives the
+vens the ids v1 to vN, and so they stand in `tokens`; where it has drawn numbers before, say by --first which it draws
+next.
 
 Of the sites some fail, --failing of each of these kinds:
 
@@ -15,6 +16,9 @@ Of the sites some fail, --failing of each of these kinds:
     slow        sends all that it asks a few bytes at a time
     breaking    breaks off each fifth of its requests in the midst
 
+    --resources N       how many resources each ven has: `site-1-a`, `site-1-b` and so on; at most 26
+    --shares N          shares are from 1 to N, in turn; 1 where it isn't said
+    --tell              prints a line, with its moment, for what each site is told, does and fails at
     --ca FILE           the certificates that the node's front is held against, in place of the system's
     --listen PORT       where notifications come, on 127.0.0.1; where it isn't said, at a free port
     --callback URL      how the node finds that, where it is not http://127.0.0.1:PORT: its front may lead there
@@ -24,9 +28,11 @@ At its end it prints what all sites counted. Tokens of --config-for are random: 
 """
 import argparse
 import importlib.util
+import itertools
 import json
 import os
 import secrets
+import string
 import sys
 import threading
 import time
@@ -42,6 +48,8 @@ SOURCE.loader.exec_module(site)
 PIECE, REST = 40, 0.1
 # For how long a silent site holds who tells it something: longer than the node waits.
 SILENCE = 6
+# How long lies between the starts of two sites, in seconds: all at once would be more than the node's queue takes.
+APART = 0.005
 
 
 def tokens(many, first):
@@ -119,17 +127,21 @@ def patiently(link, *what):
             time.sleep(1)
 
 
-def enrolled(operator, many, program):
-    """Enrols so many vens, each with a resource and a share; returns their ids."""
+def enrolled(operator, many, program, resources=1, shares=1):
+    """Enrols so many vens, each with so many resources, with shares up to the greatest; returns the ids of the vens."""
     there = {it["venName"]: it["id"] for it in operator.all_of("/vens")}
     names = [f"site-{it + 1}" for it in range(many)]
     # All vens first, so that their ids are in the order of their names.
     idents = [there.get(it) or patiently(operator, "POST", "/vens", {"venName": it})["id"] for it in names]
+    has_share = {it["resourceID"] for it in patiently(operator, "GET", f"/shares/{program}")}
+    turn = itertools.cycle(range(1, shares + 1))
     for name, ident in zip(names, idents):
         own = patiently(operator, "GET", f"/vens/{ident}/resources") if name in there else []
-        new = {"resourceName": f"{name}-a"}
-        resource = own[0] if own else patiently(operator, "POST", f"/vens/{ident}/resources", new)
-        patiently(operator, "PUT", f"/shares/{program}/{resource['id']}", {"share": 1})
+        for letter in string.ascii_lowercase[len(own):resources]:
+            own.append(patiently(operator, "POST", f"/vens/{ident}/resources", {"resourceName": f"{name}-{letter}"}))
+        for it, share in zip(own[:resources], turn):
+            if it["id"] not in has_share:
+                patiently(operator, "PUT", f"/shares/{program}/{it['id']}", {"share": share})
     return idents
 
 
@@ -146,6 +158,9 @@ def words():
     it.add_argument("--operator-token", metavar="T")
     it.add_argument("--program", default="p1", help="in which they have a share")
     it.add_argument("--failing", type=int, default=1, metavar="N", help="how many sites of each kind fail")
+    it.add_argument("--resources", type=int, default=1, choices=range(1, 27), metavar="N")
+    it.add_argument("--shares", type=int, default=1, metavar="N")
+    it.add_argument("--tell", action="store_true")
     it.add_argument("--every", type=float, default=10, help="seconds between two looks of a site for all events")
     it.add_argument("--seconds", type=float, default=30)
     it.add_argument("--ca")
@@ -161,6 +176,11 @@ def words():
     return asked
 
 
+def telling(ident):
+    """Returns what prints a line of a site, whole, with its moment in seconds since 1970."""
+    return lambda text: sys.stdout.write(f"{time.time():.3f} {ident} {text}\n") and sys.stdout.flush()
+
+
 def run(asked):
     """Runs the sites; returns what they counted."""
     with open(asked.tokens, encoding="utf-8") as it:
@@ -171,7 +191,7 @@ def run(asked):
     if not (asked.operator_token or operators):
         raise ValueError("no token of an operator: say --operator-token")
     operator = site.Link(asked.url, asked.operator_token or operators[0], site.Counts(), asked.ca)
-    idents = enrolled(operator, asked.many, asked.program)
+    idents = enrolled(operator, asked.many, asked.program, asked.resources, asked.shares)
     if missing := [it for it in idents if it not in token_of]:
         raise ValueError(f"{asked.tokens} has no token for {' '.join(missing)}: print it with --first {idents[0][1:]}")
 
@@ -182,11 +202,14 @@ def run(asked):
     for ident, kind in zip(idents, [None] * (asked.many - len(kinds)) + kinds[-asked.many:]):
         link, of = KINDS.get(kind, (site.Link, site.Site))
         link = link(asked.url, token_of[ident], counts, asked.ca)
-        sites[f"/{ident}"] = of(link, f"client-{ident}", f"{base}/{ident}", asked.every)
+        tell = [telling(ident)] if asked.tell else []
+        sites[f"/{ident}"] = of(link, f"client-{ident}", f"{base}/{ident}", asked.every, *tell)
     print(f"sites {len(sites)}, {asked.failing} of each of {', '.join(KINDS)}", flush=True)
     threads = [threading.Thread(target=it.run, daemon=True) for it in sites.values()]
     for it in threads:
         it.start()
+        time.sleep(APART)
+    print(f"sites started {len(threads)}", flush=True)
     site.lasts(asked.seconds)
     for it in sites.values():
         it.stop()
