@@ -1,7 +1,6 @@
 //! The answers to queries of one object, and to short listings, each from its own rows in the tables, on a lent transaction.
 #![tactic(auto)]
 
-mod found;
 mod of_frozen;
 mod of_program;
 mod of_programs;
@@ -13,7 +12,6 @@ mod of_ven;
 mod sight;
 mod told;
 
-pub use found::ven_at;
 pub use of_frozen::frozen;
 pub use of_program::program;
 pub use of_programs::programs;

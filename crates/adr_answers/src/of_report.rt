@@ -14,10 +14,9 @@ ghost use Rattle.adr_db.specs.Images.{image_kept};
 ghost use Rattle.adr_answers.specs.Calls.{FindsOr};
 ghost use Rattle.adr_answers.specs.Told.{body_told};
 
-use crate::found::report_with_id;
 use crate::sight::sight_in;
 use crate::told::told_of;
-use adr_db_portfolio::read_resource;
+use adr_db_portfolio::{read_resource, report_with_id};
 use adr_db_state::read_stamps_of;
 use adr_objects::{Number, ReportBody, ReportObject, Stamps};
 use adr_queries::{Answer, Object, Role};

@@ -12,8 +12,8 @@ ghost use Rattle.adr_db.specs.Images.{image_kept};
 ghost use Rattle.adr_answers.specs.Calls.{FindsOr};
 ghost use Rattle.adr_answers.specs.Told.{resource_in_sight, resource_of, resource_under};
 
-use crate::found::{resource_with_id, ven_at};
 use crate::sight::sight_in;
+use adr_db_portfolio::{resource_with_id, ven_at};
 use adr_objects::Number;
 use adr_queries::{Answer, Object, Role};
 use adr_state::Resource;

@@ -10,8 +10,8 @@ ghost use Rattle.adr_db.specs.Images.{image_kept};
 ghost use Rattle.adr_answers.specs.Calls.{FindsOr};
 ghost use Rattle.adr_answers.specs.Told.{sub_told};
 
-use crate::found::sub_with_id;
 use crate::sight::sight_in;
+use adr_db_portfolio::sub_with_id;
 use adr_objects::Number;
 use adr_queries::{Answer, Object, Role};
 use adr_subscription::{Sub, SubObject};

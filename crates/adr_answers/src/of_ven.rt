@@ -9,8 +9,8 @@ ghost use Rattle.adr_db.specs.BaseCalls.{Refuses};
 ghost use Rattle.adr_db.specs.Images.{image_kept};
 ghost use Rattle.adr_answers.specs.Calls.{FindsOr};
 
-use crate::found::ven_with_id;
 use crate::sight::sight_in;
+use adr_db_portfolio::ven_with_id;
 use adr_objects::{Number, VenObject};
 use adr_queries::{Answer, Object, Role};
 use adr_state::Ven;

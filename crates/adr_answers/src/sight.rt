@@ -9,7 +9,7 @@ ghost use Rattle.adr_answers.specs.Calls.{FindsOr};
 ghost use Rattle.adr_queries.specs.Roles.{sight_by, sight_of};
 ghost use Rattle.adr_answers.specs.Sights.{ven_of, sight_with};
 
-use crate::found::ven_at;
+use adr_db_portfolio::ven_at;
 use adr_objects::Number;
 use adr_queries::Role;
 use adr_text::Refusal;

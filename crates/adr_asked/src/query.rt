@@ -1,10 +1,9 @@
 //! The query of a listing (OpenADR 3.0, skip and limit).
-ghost use Rattle.std.specs.Prelude.{◌≡◌, ◌≤◌, map, codes, IfOk};
+ghost use Rattle.std.specs.Prelude.{◌≡◌, map, IfOk};
 ghost use Rattle.std.specs.Cow.{cow_str_bytes};
 ghost use Rattle.std.specs.Option.{option_copied};
 ghost use Rattle.form_urlencoded.specs.Form.{raw_pairs};
 ghost use Rattle.adr_text.specs.Refusals.{Gives};
-ghost use Rattle.adr_state.specs.Digits.{most_number};
 ghost use Rattle.adr_asked.specs.Queries.{values_of, only_one, number_or, number_in, page_asked, decoded_text};
 ghost use Rattle.std.specs.Prelude.{bytes_eq};
 

@@ -1,6 +1,5 @@
 //! What the words of a request ask of the machine.
 ghost use Rattle.std.specs.Prelude.{◌≡◌, unwrap_or, IfOk};
-ghost use Rattle.std.specs.Option.{option_copied};
 ghost use Rattle.adr_text.specs.Refusals.{Gives};
 ghost use Rattle.adr_routes.specs.Paths.{place_of};
 ghost use Rattle.adr_routes.specs.Places.{methods_of};

@@ -64,8 +64,3 @@ answers_end settings s trail i c done within at none =
 -- a trail from the same base leads to the same
 pub led_moved : (settings : Settings) (base base' s : State) (trail trail' : List (ℕ × Command)) → base' ≡ base → trail' ≡ trail → led settings base trail ≡ Some s → led settings base' trail' ≡ Some s
 led_moved settings base base' s trail trail' same_base same leads = ap₂ (led settings) same_base same ∙ leads
-
--- a desk that stayed is still where the trail leads
-pub led_same : (settings settings' : Settings) (base s t : State) (trail : List (ℕ × Command))
-    → settings' ≡ settings → t ≡ s → led settings base trail ≡ Some s → led settings' base trail ≡ Some t
-led_same settings settings' base s t trail same stays leads = ap (λ l. led l base trail) same ∙ leads ∙ ap Some (sym stays)

@@ -1,5 +1,5 @@
 -- Receipts stay true: what a step tells has its place behind all that came before, and each place stays.
-use Rattle.std.proofs.Common.{◌≡◌, ◌<◌, ℕ, zero, suc, ◌+◌, ◌-◌, List, [], ◌∷◌, ◌++◌, length, slice_get, Some, option_map, Result, Ok, Err, ap, refl, sym, subst, ◌∙◌, arith}
+use Rattle.std.proofs.Common.{◌≡◌, ℕ, zero, suc, ◌+◌, ◌-◌, List, [], ◌∷◌, ◌++◌, length, slice_get, Some, option_map, Result, Ok, Err, ap, refl, sym, subst, ◌∙◌, arith}
 use Rattle.std.specs.List.{fold}
 use Rattle.std.proofs.lemmas.Option.{none-some}
 use Rattle.adr_text.specs.declared.refusal.Refusal.{Refusal}
@@ -29,12 +29,6 @@ get_before (y ∷ xs) ys (suc k) x is = get_before xs ys k x is
 get_pushed : {X : Type 0} (xs : List X) (x : X) → slice_get (xs ++ x ∷ []) (length xs) ≡ Some x
 get_pushed [] x = refl
 get_pushed (y ∷ xs) x = get_pushed xs x
-
--- what is found stands within the list
-got_within : {X Y : Type 0} (v : X → Y) (xs : List X) (k : ℕ) (y : Y) → option_map v (slice_get xs k) ≡ Some y → k < length xs
-got_within v [] k y is = absurd (none-some y is)
-got_within v (x ∷ xs) zero y is = omega arith
-got_within v (x ∷ xs) (suc k) y is = let rest = got_within v xs k y is in omega (arith, rest)
 
 -- ---- answers along a trail that leads somewhere
 
@@ -77,14 +71,6 @@ module _ (since : ℕ) (trail : List (ℕ × Command)) (answers : List Answer) (
         ap (λ k. option_map (λ d. d.1) (slice_get (trail ++ c ∷ []) k)) k ∙ ap (option_map (λ d. d.1)) (get_pushed trail c) ∙ ap Some (sym command),
         ap (slice_get (answers ++ a ∷ [])) j ∙ get_pushed answers a ∙ ap Some (sym answer),
       )
-
--- no receipt is of a turn past the last command
-pub no_place_past : {P : Type 0} (since : ℕ) (trail : List (ℕ × Command)) (answers : List Answer) (turn : ℕ) (r : Receipt)
-    → turn ≡ since + length trail → HasPlace since trail answers r → turn < r.turn → P
-no_place_past since trail answers turn r is place past =
-    let place = place (omega (arith, is, past)) in
-    let within = got_within (λ (c : ℕ × Command). c.1) trail (r.turn - since - 1) r.command place.0 in
-    absurd (omega (arith, within, is, past))
 
 -- a step from s to t, which puts its command behind the trail
 module _ (settings settings' : Settings) (base s t : State) (since : ℕ) (trail trail' : List (ℕ × Command)) (c : ℕ × Command) (a : Answer)

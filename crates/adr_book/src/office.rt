@@ -1,5 +1,5 @@
 //! The book under a lock, and the passes of those who use it.
-ghost use Rattle.std.specs.Prelude.{◌≡◌, ◌+◌, ◌<◌, ◌≤◌, [], All, IfOk, IfErr, length};
+ghost use Rattle.std.specs.Prelude.{◌≡◌, ◌<◌, ◌≤◌, [], All, IfOk, IfErr, length};
 ghost use Rattle.std.specs.List.{sum_by};
 ghost use Rattle.adr_queries.specs.Listed.{IsListed};
 ghost use Rattle.adr_book.specs.Words.{seen_by, taken_by};

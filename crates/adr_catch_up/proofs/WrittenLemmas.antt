@@ -74,13 +74,6 @@ module _ (key : MirrorKey) where
       by further (inl first) = here (only_one r (key, mark) first) (last_or then rows)
       by further (inr later) = further later
 
-  pub latest_was_written : (written : List (MirrorKey × Mark)) (mark : Mark) → IsLatest written (key, mark) → Contains written (key, mark)
-  latest_was_written written mark is = by (last_or [] written)
-    where
-      by : (after [] written ≡ None) ⊎ HasLast [] written → Contains written (key, mark)
-      by (inl none) = let no : None ≡ Some mark = sym none ∙ is in absurd (cc)
-      by (inr last) = subst (λ m. Contains written (key, m)) (same_Some last.0 mark (sym last.2 ∙ is)) last.1
-
   pub written_is_followed : (written : List (MirrorKey × Mark)) (mark : Mark) → IsHonest written → Contains written (key, mark) → (last : Mark) × IsLatest written (key, last) × ((last ≡ mark) ⊎ MayFollow mark last)
   written_is_followed written mark = followed [] written mark
 

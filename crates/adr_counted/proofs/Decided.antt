@@ -1,17 +1,9 @@
 -- What is decided as a whole, where a part of it was decided before.
-use Rattle.std.proofs.Common.{◌≡◌, Result, Ok, Err, ◌∙◌}
-use Rattle.adr_text.specs.Refusals.{◌>>=◌}
-use Rattle.adr_db.proofs.Common.{State, Refusal, OutOfMemory, Store, IsRefusalOf, Base, PortfolioChange}
+use Rattle.std.proofs.Common.{◌≡◌, Result, ◌∙◌}
+use Rattle.adr_db.proofs.Common.{State, Refusal, Base, PortfolioChange}
 use Rattle.adr_db.specs.declared.meta.Meta.{Meta}
 use Rattle.adr_db.specs.Bases.{Beside}
 use Rattle.adr_db.specs.BaseCalls.{IsCarriedOut}
-
--- a refusal of one thing is one of what follows from it
-pub then_refused : {A B : Type 0} (e : Refusal) (first : Result A Refusal) (next : A → Result B Refusal) → IsRefusalOf e first → IsRefusalOf e (first >>= next)
-then_refused OutOfMemory first next h = tt
-then_refused Store first next h = tt
-then_refused e (Ok x) next h = absurd cc
-then_refused e (Err d) next h = cc
 
 -- what is carried out of a part is carried out of the whole, where that is decided as the part
 pub carried_as : {A : Type 0} {whole part : Base → Result (A × PortfolioChange) Refusal} {beside : Beside} {base : Base} {before after : Meta} {x : A} {s : State} → IsCarriedOut part beside base before after x s

@@ -1,5 +1,5 @@
 //! An event frozen, counted by the pairs that are kept for it.
-ghost use Rattle.std.specs.Prelude.{◌≡◌, length, filter, IfOk, IfErr, OnOk};
+ghost use Rattle.std.specs.Prelude.{◌≡◌, length, filter, IfErr, OnOk};
 ghost use Rattle.adr_state.specs.Frozen.{is_of_event};
 ghost use Rattle.adr_state.specs.Portfolios.{Freeze};
 ghost use Rattle.adr_sql.specs.Calls.{LeavesLent};

@@ -1,14 +1,14 @@
 -- Tables of version 1 are made, and become those of today.
-use Rattle.std.proofs.Common.{◌≡◌, ◌⊎◌, inl, inr, ℕ, pos, List, [], ◌∷◌, ◌++◌, map, filter, take, drop, Ok, refl, sym, ap, ap₂, subst, ◌∙◌}
+use Rattle.std.proofs.Common.{◌≡◌, ℕ, List, [], ◌∷◌, ◌++◌, map, filter, take, drop, Ok, refl, sym, ap, ap₂, subst, ◌∙◌}
 use Rattle.adr_db.proofs.Common.{Null, Row, lit, col, State, Executes, Shown, understood, everything, with_row, cells, Contents, rows_of_table, with_table, Holds, AreValues, IsUpsertText, upsert_runs, first_runs, passes}
 use Rattle.adr_db.specs.declared.meta.Meta.{Meta}
 use Rattle.adr_db.specs.declared.meta.TheConstants.{READ}
 use Rattle.adr_db.specs.declared.migration.TheConstants.{PUT_FIRST}
 use Rattle.adr_db.specs.Tables.{schema, version, first_schema, first_version}
 use Rattle.adr_db.specs.Rows.{number, meta_row, event_key_row, frozen_share_row}
-use Rattle.adr_db.specs.Kept.{Kept, Keeps, first_meta, contents_of}
-use Rattle.adr_db.specs.FirstVersion.{first_row, first_contents, NothingIsFrozen, KeepsFirst}
-use Rattle.adr_db.specs.Versions.{SayVersion, KeepsInEither}
+use Rattle.adr_db.specs.Kept.{Kept, first_meta, contents_of}
+use Rattle.adr_db.specs.FirstVersion.{first_row, first_contents, NothingIsFrozen}
+use Rattle.adr_db.specs.Versions.{SayVersion}
 use Rattle.adr_db.proofs.MetaStatements.{one_row, reads}
 use Rattle.adr_db.proofs.Rows.{meta_kept}
 use Rattle.adr_db.proofs.Tables.{meta, meta_keyed, first_meta_keyed}

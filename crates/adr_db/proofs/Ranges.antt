@@ -1,5 +1,5 @@
 -- The rows of a table that is a map, of which the first columns of the key are the parameters; or which pass other tests.
-use Rattle.std.proofs.Common.{◌≡◌, ℕ, Bool, true, List, ◌∷◌, map, filter, length, Result, refl, ap, subst, ◌∙◌}
+use Rattle.std.proofs.Common.{◌≡◌, ℕ, Bool, true, List, ◌∷◌, map, filter, Result, ap, subst, ◌∙◌}
 use Rattle.adr_db.proofs.Common.{AllZip, Null, Row, filter-map, map-map, end, Ghosts, Held, state, State, Shown, cells, has_key, are_full, IsSelectText, first_columns, first_runs, passes, whole_rows, read_runs}
 use Rattle.sqlite_sql.specs.Term.{Term}
 use Rattle.adr_db.specs.Tables.{schema}

@@ -2,12 +2,12 @@
 use Rattle.std.proofs.Common.{◌≡◌, List, [], ◌∷◌, Ordering, refl, Less}
 use Rattle.std.specs.Map.{keys_of}
 use Rattle.std.specs.List.Sorted.{IsStrictlySortedBy}
-use Rattle.adr_db.proofs.Common.{AllByRecursion, nat_cmp, IsAscending, State, id_cmp, mirror_cmp, share_cmp}
+use Rattle.adr_db.proofs.Common.{AllByRecursion, nat_cmp, IsAscending, State, mirror_cmp, share_cmp}
 use Rattle.adr_state.specs.Keys.{frozen_cmp, view_cmp}
 use Rattle.adr_sql.proofs.KeyedMaps.{entries_rise}
 use Rattle.adr_db.specs.Kept.{Kept, Keeps, contents_of}
 use Rattle.adr_db.proofs.KeptMaps.{rises, stored_rises}
-use Rattle.adr_db.proofs.Maps.{mirror_map, ven_map, resource_map, share_map, frozen_map, frozen_share_map, stamp_map, report_rows, sub_map, outbox_map}
+use Rattle.adr_db.proofs.Maps.{mirror_map, ven_map, resource_map, share_map, frozen_share_map, stamp_map, report_rows, sub_map, outbox_map}
 
 module _ (kept : Kept) (s : State) (was : Keeps kept s) where
   pub mirror_rises : IsAscending (λ a b. mirror_cmp a.0 b.0 ≡ Less) kept.mirror
@@ -21,9 +21,6 @@ module _ (kept : Kept) (s : State) (was : Keeps kept s) where
 
   pub shares_rise : IsAscending (λ a b. share_cmp a.0 b.0 ≡ Less) kept.portfolio.shares
   shares_rise = rises share_map kept s was
-
-  pub frozen_rise : IsAscending (λ a b. id_cmp a.0 b.0 ≡ Less) kept.portfolio.frozen
-  frozen_rise = rises frozen_map kept s was
 
   pub frozen_shares_rise : IsAscending (λ a b. frozen_cmp a.0 b.0 ≡ Less) kept.portfolio.frozen_shares
   frozen_shares_rise = rises frozen_share_map kept s was

@@ -224,9 +224,6 @@ report_columns_again columns = ap (λ head. record columns { head = head }) (hea
 pub report_columns_kept : (a b : ReportColumns) → report_columns_row a ≡ report_columns_row b → a ≡ b
 report_columns_kept = stands_for_one report_columns_row report_columns_back report_columns_again
 
-pub name_kept : (a b : Option (List ℕ)) → name_cell a ≡ name_cell b → a ≡ b
-name_kept a b h = sym (name_again a) ∙ ap name_of h ∙ name_again b
-
 pub interval_kept : (a b : UsageInterval) → interval_columns a ≡ interval_columns b → a ≡ b
 interval_kept = stands_for_one interval_columns interval_back interval_again
 
@@ -270,10 +267,6 @@ stamp_codec = record {
 }
 
 -- ---- a row as it is read
-
-pub cells_are : (key : MirrorKey) (mark : Mark) → cells 0 6 (mark_row (key, mark)) ≡ mark_row (key, mark)
-cells_are key (Live moment body) = refl
-cells_are key Dead = refl
 
 pub columns_are : (key : MirrorKey) (mark : Mark) → cells 2 3 (mark_row (key, mark)) ≡ mark_columns mark
 columns_are key (Live moment body) = refl

@@ -1,5 +1,5 @@
 -- The statement that reads the version of the tables.
-use Rattle.std.proofs.Common.{◌≡◌, ◌⊎◌, inl, inr, ℕ, List, [], ◌∷◌, codes, map, Result, Ok, Err, IfOk, IfErr, refl, ap, sym, subst, ◌∙◌}
+use Rattle.std.proofs.Common.{◌≡◌, inl, inr, ℕ, List, [], ◌∷◌, codes, map, Result, Ok, Err, IfOk, IfErr, refl, ap, sym, subst, ◌∙◌}
 use Rattle.adr_text.specs.declared.refusal.Refusal.TheVariants.{BadFile}
 use Rattle.adr_sql.proofs.Places.{IsFound}
 use Rattle.adr_db.proofs.Common.{Refusal, Row, end, State, Shown, understood, everything, Contents, rows_of_table, Holds, cells, IsSelectText, first_columns, first_runs, holds_still, filter_all, all_of}

@@ -1,5 +1,5 @@
 -- Tables of version 1, in which nothing is frozen: it had neither `frozen` nor `frozen_share`.
-use Rattle.std.specs.Prelude.{◌≡◌, List, [], ◌∷◌, drop, take}
+use Rattle.std.specs.Prelude.{◌≡◌, [], ◌∷◌, drop, take}
 use Rattle.sqlite.specs.Order.{Row}
 use Rattle.sqlite.specs.State.{State}
 use Rattle.adr_state.specs.declared.portfolio.Portfolio.{Portfolio}

@@ -13,7 +13,7 @@ ghost use Rattle.adr_db.specs.Admitted.{IsIdText, IsNameText, IsMoment, AreStamp
 ghost use Rattle.adr_state.specs.Weights.{is_weight};
 ghost use Rattle.adr_objects.specs.declared.kind.Kind.{Kind as KindOf};
 ghost use Rattle.adr_text.specs.declared.refusal.Refusal.TheVariants.{Store};
-ghost use Rattle.adr_db.specs.Rows.{as_stored, number, flag_cell, kind_number, key_row, stamps_columns};
+ghost use Rattle.adr_db.specs.Rows.{as_stored, number, flag_cell, kind_number, stamps_columns};
 
 use crate::reading::FromRow;
 use crate::statement::refusal_of;

@@ -1,5 +1,5 @@
 //! How entries that wait, and the utility's ids of reports, read from their rows.
-ghost use Rattle.std.specs.Prelude.{◌≡◌, ◌≤◌, ◌∷◌, is_some, Option, IfOk, IfErr, IfSome, Some, ℕ};
+ghost use Rattle.std.specs.Prelude.{◌≡◌, ◌≤◌, is_some, Option, IfOk, IfErr, IfSome, Some, ℕ};
 ghost use Rattle.sqlite.specs.Order.{column};
 ghost use Rattle.sqlite.specs.Values.{or_null};
 ghost use Rattle.sqlite.specs.declared.types.Value.TheVariants.{Text};

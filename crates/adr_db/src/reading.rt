@@ -1,7 +1,6 @@
 //! Values that are read from the rows of a query.
-ghost use Rattle.std.specs.Prelude.{◌≡◌, ℕ, [], ◌∷◌, take, option_to_list, IfOk, OnOk, IfErr};
+ghost use Rattle.std.specs.Prelude.{◌≡◌, take, option_to_list, IfOk, OnOk, IfErr};
 ghost use Rattle.std.specs.List.{AllZip};
-ghost use Rattle.sqlite.specs.Order.{column};
 ghost use Rattle.sqlite.specs.Values.{bound};
 ghost use Rattle.adr_sql.specs.Calls.{LeavesLent};
 ghost use Rattle.adr_state.specs.Keys.{map_of, with_rows};
@@ -10,7 +9,7 @@ ghost use Rattle.adr_db.specs.Admitted.{IsNumber, ReadsNumber};
 ghost use Rattle.adr_db.specs.Refusals.{CannotRead, CannotReadAll, CannotReadFirst, RefusesToShow};
 ghost use Rattle.adr_text.specs.declared.refusal.Refusal.TheVariants.{OutOfMemory};
 
-use crate::cells::{column, number_in};
+use crate::cells::number_in;
 use crate::statement::rows_of;
 use adr_objects::Number;
 use adr_text::{Refusal, Rows, Table};

@@ -2,10 +2,9 @@
 ghost use Rattle.std.specs.Prelude.{[], ◌∷◌, OnOk, IfErr};
 ghost use Rattle.sqlite.specs.Held.{state};
 ghost use Rattle.sqlite.specs.State.{HasCleanDisk};
-ghost use Rattle.adr_sql.specs.Contents.{Holds, empty_tables};
+ghost use Rattle.adr_sql.specs.Contents.{Holds};
 ghost use Rattle.adr_sql.specs.Schemas.{no_schema};
 ghost use Rattle.adr_sql.specs.Calls.{LeavesLent};
-ghost use Rattle.adr_db.specs.Tables.{schema, tables};
 ghost use Rattle.adr_db.specs.Kept.{Keeps, nothing_kept, first_meta};
 ghost use Rattle.adr_db.specs.Calls.{IsOfStore};
 ghost use Rattle.adr_db.specs.Refusals.{RefusesToRunAll};

@@ -3,8 +3,6 @@
 
 mod mirror;
 mod polled;
-mod probes;
 
 pub use mirror::{put_mark, read_kind, read_known, read_mark};
 pub use polled::{clear_polled, put_polled};
-pub use probes::read_unseen;

@@ -56,7 +56,7 @@ pub fn read_sharers<S: Alter>(
 
 /// The resources for which a weight is kept in the event, in the order of their numbers, each with that weight, its name and
 /// its ven's: at most as many as a node has resources. It costs a look-up of a resource and a ven for each.
-pub fn read_frozen_sharers<S: Alter>(
+pub(crate) fn read_frozen_sharers<S: Alter>(
     alloc: Global,
     tx: &mut Transaction<'_, S>,
     event: &ObjectId,

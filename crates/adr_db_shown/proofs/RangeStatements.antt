@@ -1,5 +1,5 @@
 -- The statements that read the stamps of one event, all or those of some resources, and the live events of a program.
-use Rattle.std.proofs.Common.{◌≡◌, ℕ, pos, Bool, false, ◌&&◌, List, [], ◌∷◌, ◌++◌, Option, None, Some, codes, map, Ordering, Greater, refl, sym, ap, ap₂, ◌∙◌, is_eq}
+use Rattle.std.proofs.Common.{◌≡◌, ℕ, pos, false, ◌&&◌, List, [], ◌∷◌, Option, None, Some, codes, map, refl, ap, ap₂, ◌∙◌, is_eq}
 use Rattle.std.specs.Prelude.{nat_le}
 use Rattle.sqlite.specs.Values.{or_null}
 use Rattle.sqlite_value.specs.declared.keys.Collation.TheVariants.{Binary}
@@ -11,7 +11,7 @@ use Rattle.adr_db.proofs.Common.{AllZip, int_cmp, ordering_then, option_map_or, 
 use Rattle.adr_state.specs.declared.keys.ViewKey.TheVariants as view
 use Rattle.adr_view.specs.Laws.{is_key_of}
 use Rattle.adr_db.specs.Tables.{schema}
-use Rattle.adr_db.specs.Rows.{number, key_row, stamps_columns, stamp_row, view_kind, view_id, view_number, program_of, program_cell, mark_row, event_key_row}
+use Rattle.adr_db.specs.Rows.{number, stamps_columns, stamp_row, view_kind, view_id, view_number, program_of, mark_row, event_key_row}
 use Rattle.adr_db.specs.Admitted.{ReadsKey, ReadsStamped}
 use Rattle.adr_db.proofs.Comparisons.{number_ge, number_le}
 use Rattle.adr_db.proofs.Tables.{mirror, stamp}

@@ -1,6 +1,6 @@
 -- The statements on the table `shown`.
 use Rattle.std.proofs.Common.{◌≡◌, ℕ, List, [], ◌∷◌, codes, map, refl, ap₂}
-use Rattle.adr_db.proofs.Common.{AllZip, Has, column, Null, lit, col, end, understood, everything, AreValues, IsUpsertText, IsRemoveText, IsSelectText, whole_rows, equalities}
+use Rattle.adr_db.proofs.Common.{AllZip, column, Null, lit, col, end, understood, everything, AreValues, IsUpsertText, IsRemoveText, IsSelectText, whole_rows, equalities}
 use Rattle.adr_db.specs.declared.shown.ShownColumns.{ShownColumns}
 use Rattle.adr_db.specs.declared.shown.ShownKey.{ShownKey}
 use Rattle.adr_db.specs.Tables.{schema}

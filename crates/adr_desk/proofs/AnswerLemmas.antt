@@ -14,11 +14,6 @@ use Rattle.adr_queries.specs.Shown.{object_at, told}
 use Rattle.adr_touched.specs.declared.touched.Touched.{Touched}
 use Rattle.adr_desk.specs.Decisions.{IsAnswered, with_touched}
 
--- whatever comes of what went well
-pub all_answered : {A : Type 0} (c : Command) (comes : A → Outcome) → ((x : A) → IsAnswered c (comes x)) → (r : Result A Refusal) → IfOk (told_by comes r) (IsAnswered c)
-all_answered c comes each (Ok x) = each x
-all_answered c comes each (Err e) = tt
-
 -- along with what was touched
 pub along_answered : {A : Type 0} (c : Command) (comes : A → Outcome) → ((x : A) → IsAnswered c (comes x)) → (touched : Touched) (r : Result A Refusal) → IfOk (told_by (with_touched touched) (told_by comes r)) (λ r. IsAnswered c r.0)
 along_answered c comes each touched (Ok x) = each x

@@ -15,7 +15,7 @@ use Rattle.adr_db.specs.BaseCalls.{Carries, Makes, RefusesOn}
 use Rattle.adr_db.specs.Calls.{IsOfStore}
 use Rattle.adr_machine.specs.declared.outcome.Outcome.{Outcome}
 use Rattle.adr_machine.specs.declared.outcome.Outcome.TheVariants as outcome
-use Rattle.adr_db.proofs.Results.{refused_so}
+use Rattle.adr_db.proofs.Results.{refused_so, then_refused}
 use Rattle.sqlite.specs.State.{HasCleanDisk}
 use Rattle.adr_db.specs.Images.{image_kept}
 use Rattle.adr_state.specs.declared.base.Mark.{Mark}
@@ -35,13 +35,6 @@ use Rattle.adr_touched.specs.declared.touched.Touched.{Touched}
 use Rattle.adr_touched.specs.Touched.{Covers, CoversWhatTouchesNothing}
 use Rattle.adr_desk.specs.Steps.{IsEdited}
 use Rattle.adr_desk.specs.Decisions.{IsDecided, CarriesOut, with_touched}
-
--- a refusal of one thing is one of what follows from it
-pub then_refused : {A B : Type 0} (e : Refusal) (first : Result A Refusal) (next : A → Result B Refusal) → IsRefusalOf e first → IsRefusalOf e (first >>= next)
-then_refused OutOfMemory first next h = tt
-then_refused Store first next h = tt
-then_refused e (Ok x) next h = absurd cc
-then_refused e (Err d) next h = cc
 
 -- what reading gives where it fails
 failed_refused : {A : Type 0} (e : Refusal) (r : Result A Refusal) → Fails e r → IsRefusalOf e r

@@ -11,6 +11,7 @@ use Rattle.adr_db.specs.Kept.{Kept, Keeps}
 use Rattle.adr_db.specs.Bases.{meta_of, counting}
 use Rattle.adr_held.specs.Held.{kept_of}
 use Rattle.adr_db.specs.Images.{outbox_of}
+use Rattle.adr_db.proofs.Results.{then_refused}
 use Rattle.adr_queries.specs.declared.answer.Answer.{Answer}
 use Rattle.adr_machine.specs.declared.command.Command.{Command}
 use Rattle.adr_queries.specs.declared.answer.Answer.TheVariants as answer
@@ -26,7 +27,7 @@ use Rattle.adr_state.specs.declared.limits.Limits.{Limits}
 use Rattle.adr_outbox.specs.Told.{job_leased, done}
 use Rattle.adr_outbox.specs.Turned.{IsTurned, TurnsOutbox, RefusesOutbox}
 use Rattle.adr_desk.specs.Steps.{step_by, CommitsTables, RefusesToCommit}
-use Rattle.adr_desk.proofs.DecisionLemmas.{then_refused, told_refused}
+use Rattle.adr_desk.proofs.DecisionLemmas.{told_refused}
 
 module _ {S : Type 0} (g : Ghosts S) (old new : Held S) (settings : Settings) (now : ℕ) (command : Command) (is : is_delivery command ≡ true) where
   abbrev decide : Outbox → Result (Answer × Outbox) Refusal

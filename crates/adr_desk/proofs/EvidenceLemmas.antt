@@ -16,6 +16,7 @@ use Rattle.adr_state.specs.Evidence.{adds_beyond, joining}
 use Rattle.adr_state.specs.Mirror.{joined}
 use Rattle.adr_db.specs.declared.meta.Meta.{Meta}
 use Rattle.adr_db.specs.BaseCalls.{Makes, RefusesOn}
+use Rattle.adr_db.proofs.Results.{then_refused}
 use Rattle.adr_kept_view.specs.declared.object.OldObject.{OldObject}
 use Rattle.adr_mirror.specs.Raises.{HaveRisen}
 use Rattle.adr_touched.specs.declared.touched.Touched.{Touched}
@@ -24,7 +25,7 @@ use Rattle.adr_machine.specs.declared.outcome.Outcome.{Outcome}
 use Rattle.adr_machine.specs.declared.outcome.Outcome.TheVariants as outcome
 use Rattle.adr_machine.specs.Edits.{Decision, counted}
 use Rattle.adr_desk.specs.Decisions.{CarriesOut}
-use Rattle.adr_desk.proofs.DecisionLemmas.{Asks, passed_carries, then_refused}
+use Rattle.adr_desk.proofs.DecisionLemmas.{Asks, passed_carries}
 
 module _ {S : Type 0} (g : Ghosts S) (old asked new : Held S) (limits : Limits) (marks : List (MirrorKey × Mark)) (scan : Base → Option (List MirrorKey)) (programs : List OldObject) (asks : Asks g old asked (λ base. ProgramsStood marks base programs))
     (early : HasCleanDisk (state g new) → HasCleanDisk (state g asked)) (before after : Meta) where

@@ -80,22 +80,11 @@ module _ (these : List Refusal) where
     pub told_one_of : (ones : List Refusal) → AllByRecursion (Contains these) ones → (r : Result A Refusal) → IfErr r (IsOneOf ones) → IfErr (told_by told r) Listed
     told_one_of ones all = by_result (IsOneOf ones) (one_of_listed ones all)
 
-  -- without a store, less may be refused
-  pub storeless_listed : {A : Type 0} (r : Result A Refusal) → IfErr r (IsListed ⊥ these) → IfErr r Listed
-  storeless_listed (Ok x) h = tt
-  storeless_listed (Err OutOfMemory) h = tt
-  storeless_listed (Err Store) h = tt
-  storeless_listed (Err e) h = h
-
 -- along with what was touched
 module _ (these : List Refusal) {A : Type 0} (told : A → Outcome) (touched : Touched) where
   pub along_store : (r : Result A Refusal) → IfErr r IsOfStore → IfErr (told_by (with_touched touched) (told_by told r)) (Listed these)
   along_store (Ok x) h = tt
   along_store (Err e) h = store_listed these e h
-
-  pub along_either : (own : Refusal) → Contains these own → (r : Result A Refusal) → IfErr r (λ e. IsOfStore e ⊎ (e ≡ own)) → IfErr (told_by (with_touched touched) (told_by told r)) (Listed these)
-  along_either own has (Ok x) h = tt
-  along_either own has (Err e) h = either_listed these own has e h
 
   pub along_one_of : (ones : List Refusal) → AllByRecursion (Contains these) ones → (r : Result A Refusal) → IfErr r (IsOneOf ones) → IfErr (told_by (with_touched touched) (told_by told r)) (Listed these)
   along_one_of ones all (Ok x) h = tt
@@ -109,6 +98,3 @@ either_refused these own has (Err e) h = either_listed these own has e h
 pub own_refused : {A : Type 0} (c : Command) (r : Result A Refusal) → IfErr r (IsOneOf (traits_of c).own) → IfErr r (Listed (listed c))
 own_refused c (Ok x) h = tt
 own_refused c (Err e) h = let own = (traits_of c).own in one_of_listed (listed c) own (all_within (listed c) own (own_listed (traits_of c))) e h
-
-pub told_own : {A B : Type 0} (c : Command) (told : A → B) (r : Result A Refusal) → IfErr r (IsOneOf (traits_of c).own) → IfErr (told_by told r) (Listed (listed c))
-told_own c told = let own = (traits_of c).own in told_one_of (listed c) told own (all_within (listed c) own (own_listed (traits_of c)))

@@ -10,7 +10,7 @@ use Rattle.adr_queries.specs.Roles.{is_operator}
 use Rattle.adr_text.specs.Refusals.{◌>>=◌}
 use Rattle.adr_queries.specs.declared.answer.Answer.TheVariants as answer
 use Rattle.adr_queries.specs.Replies.{probes_reply}
-use Rattle.adr_mirror.specs.Missed.{missed}
+use Rattle.adr_missed.specs.Missed.{missed}
 
 -- the first keys that an open scan missed are told so
 pub missed_told : (limit : ℕ) (base : Base) → probes_reply limit base base.scan ≡ (missed (Some limit) base >>= λ keys. Ok (answer.Probes keys))

@@ -10,7 +10,7 @@ use Rattle.adr_machine.specs.Edits.{answered, decided, edit_of}
 use Rattle.adr_machine.specs.declared.command.Command.TheVariants.{ScanEnd}
 use Rattle.adr_machine.specs.declared.outcome.Outcome.TheVariants as outcome
 use Rattle.adr_queries.specs.declared.answer.Answer.TheVariants as answer
-use Rattle.adr_mirror.specs.Missed.{closing}
+use Rattle.adr_missed.specs.Missed.{closing}
 use Rattle.adr_touched.specs.declared.touched.Touched.{Touched}
 use Rattle.adr_touched.specs.Touched.{Covers, CoversWhatTouchesNothing}
 use Rattle.adr_desk.specs.Steps.{IsEdited}

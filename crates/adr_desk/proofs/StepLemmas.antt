@@ -1,5 +1,5 @@
 -- An edit, with the stamps of what it changes and what is told of the changes, is the step.
-use Rattle.std.proofs.Common.{◌≡◌, ◌≤◌, ◌+◌, ℕ, Bool, true, false, cond, List, Result, Ok, Err, IfOk, IfErr, refl, sym, ap, subst, ◌∙◌, arith}
+use Rattle.std.proofs.Common.{◌≡◌, ◌≤◌, ◌+◌, ℕ, Bool, true, false, cond, List, Result, Ok, Err, refl, sym, ap, subst, ◌∙◌, arith}
 use Rattle.std.specs.Prelude.{nat_le, All}
 use Rattle.sqlite.specs.State as sql
 use Rattle.adr_text.specs.Refusals.{◌>>=◌, IsRefusalOf}
@@ -34,20 +34,10 @@ use Rattle.adr_machine.specs.declared.outcome.Outcome.{Outcome}
 use Rattle.adr_machine.specs.Edits.{Decision, decided, draws_number, edit_of, numbered}
 use Rattle.adr_machine.specs.Steps.{answered_by, changed, outbox_then, committed}
 use Rattle.adr_commit.specs.Commits.{entries_told}
-use Rattle.adr_db.proofs.Results.{refused_so}
+use Rattle.adr_db.proofs.Results.{refused_so, then_refused}
 use Rattle.adr_held.proofs.StampLemmas.{same_view}
 use Rattle.adr_desk.specs.Steps.{step_of, IsCommitted}
 use Rattle.adr_desk.specs.Told.{outbox_then as outbox_told, IsTold}
-use Rattle.adr_desk.proofs.DecisionLemmas.{then_refused}
-
--- what follows of what went well, and of what was refused
-pub found_so : {A : Type 0} {P : A → Type 0} (r : Result A Refusal) → ((x : A) → r ≡ Ok x → P x) → IfOk r P
-found_so (Ok x) h = h x refl
-found_so (Err e) h = tt
-
-pub refused_then : {A : Type 0} {P : Refusal → Type 0} (r : Result A Refusal) → ((e : Refusal) → r ≡ Err e → P e) → IfErr r P
-refused_then (Ok x) h = tt
-refused_then (Err e) h = h e refl
 
 same_kept : (base : Base) (serial : ℕ) → kept_view (record base { serial = serial }) ≡ kept_view base
 same_kept base serial = ap (rows_at (λ k. is_kept (source_of k))) (same_view base serial)

@@ -9,7 +9,7 @@ use Rattle.adr_state.specs.declared.state.State.{State}
 use Rattle.adr_db.specs.declared.meta.Meta.{Meta}
 use Rattle.adr_db.specs.Bases.{meta_of}
 use Rattle.adr_held.specs.Held.{HoldsState}
-use Rattle.adr_mirror.specs.Missed.{missed}
+use Rattle.adr_missed.specs.Missed.{missed}
 use Rattle.adr_queries.specs.declared.answer.Answer.{Answer}
 use Rattle.adr_desk.specs.Steps.{IsCommitted, IsStepped}
 

@@ -18,9 +18,9 @@ use crate::totals::counted;
 use adr_answers::{frozen, program, programs, report, resource, shares, sight_in, sub, ven};
 use adr_machine::{Answer, Query, Role, is_operator, rollup_told};
 use adr_pages::event;
-use adr_reports::rollup;
 use adr_site_pages::resources;
 use adr_text::{ObjectId, Refusal};
+use adr_upkeep::rollup;
 use sqlite::{Alter, Connection, Transaction};
 use std::alloc::{AllocError, Global};
 

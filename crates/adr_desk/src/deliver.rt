@@ -5,7 +5,6 @@ ghost use Rattle.adr_sql.specs.Calls.{LeavesLent};
 ghost use Rattle.adr_queries.specs.declared.answer.Answer.TheVariants as answer;
 ghost use Rattle.adr_queries.specs.Listed.{IsListed};
 ghost use Rattle.adr_machine.specs.declared.command.Command.TheVariants as command;
-ghost use Rattle.adr_machine.specs.Edits.{told_by};
 ghost use Rattle.adr_machine.specs.Deliveries.{delivered};
 ghost use Rattle.adr_machine.specs.Listed.{listed};
 ghost use Rattle.adr_outbox.specs.Turned.{TurnsOutbox, RefusesOutbox};

@@ -8,8 +8,6 @@ ghost use Rattle.adr_text.specs.Refusals.{IsRefusalOf};
 ghost use Rattle.adr_text.specs.declared.refusal.Refusal.TheVariants.{BadFile};
 ghost use Rattle.adr_state.specs.declared.state.State.{State};
 ghost use Rattle.adr_state.specs.States.{empty};
-ghost use Rattle.adr_sql.specs.Contents.{Contents, Holds, rows_of_table};
-ghost use Rattle.adr_db.specs.Tables.{schema};
 ghost use Rattle.adr_held.specs.Held.{HoldsState, HoldsInEither, AreLeftWith};
 ghost use Rattle.adr_db.specs.Calls.{IsOfStore};
 ghost use Rattle.adr_queries.specs.Listed.{listed_for, IsListed};

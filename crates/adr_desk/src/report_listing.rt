@@ -16,8 +16,8 @@ ghost use Rattle.adr_desk.specs.Steps.{TellsTables, RefusesAs};
 ghost use Rattle.adr_desk.specs.Transactions.{IsDropped};
 
 use crate::frame::begin;
-use adr_answers::ven_at;
 use adr_db::ReportColumns;
+use adr_db_portfolio::ven_at;
 use adr_machine::{Answer, Object, Page, ReportFilter, Role};
 use adr_objects::Number;
 use adr_report_pages::{every_page, objects_of, own_page};

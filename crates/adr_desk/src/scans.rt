@@ -16,7 +16,7 @@ ghost use Rattle.adr_db.specs.Kept.{Kept, Keeps};
 ghost use Rattle.adr_queries.specs.declared.query.Query.TheVariants as query;
 ghost use Rattle.adr_queries.specs.Listed.{listed_for, IsListed};
 ghost use Rattle.adr_queries.specs.Replies.{reply};
-ghost use Rattle.adr_mirror.specs.Missed.{missed, TellsOn};
+ghost use Rattle.adr_missed.specs.Missed.{missed, TellsOn};
 ghost use Rattle.adr_desk.specs.Steps.{TellsTables, RefusesAs};
 ghost use Rattle.adr_desk.specs.Transactions.{IsDropped};
 

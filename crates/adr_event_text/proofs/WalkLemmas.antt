@@ -41,19 +41,12 @@ Stays t = (k : ℕ) → after (Inside k) t ≡ Some (Inside k)
 stays_both : (s t : List ℕ) → Stays s → Stays t → Stays (s ++ t)
 stays_both s t h g k = after_both s t (Inside k) ∙ ap (option_and_then (λ q. after q t)) (h k) ∙ g k
 
--- a byte that is neither a quote nor a backslash
-plain_stays : (x : ℕ) → (x == 34) ≡ false → (x == 92) ≡ false → Stays (x ∷ [])
-plain_stays x q b k = rw (q, b) refl
-
 digit_plain : (d : ℕ) → (digit_char d == 34 ≡ false) × (digit_char d == 92 ≡ false)
 digit_plain d = go (cases_lt d 10)
   where
     go : (d < 10) ⊎ (10 ≤ d) → (digit_char d == 34 ≡ false) × (digit_char d == 92 ≡ false)
     go (inl less) = rw (lt-ltb d 10 less) (ne_eqb (48 + d) 34 (λ e. omega arith), ne_eqb (48 + d) 92 (λ e. omega arith))
     go (inr more) = rw (le-ltb d 10 more) (ne_eqb (87 + d) 34 (λ e. omega arith), ne_eqb (87 + d) 92 (λ e. omega arith))
-
-digit_stays : (d : ℕ) → Stays (digit_char d ∷ [])
-digit_stays d = plain_stays (digit_char d) (digit_plain d).0 (digit_plain d).1
 
 -- a byte that has no short escape is neither a quote nor a backslash
 no_quote : (q b : Bool) (x : ℕ) → x == 34 ≡ q → x == 92 ≡ b → nat_lt 0 (escape_letter x) ≡ false → (x == 34 ≡ false) × (x == 92 ≡ false)

@@ -1,8 +1,7 @@
 -- The requests of the client are such as a head has.
-use Rattle.std.proofs.Common.{◌≡◌, ℕ, ◌+◌, ◌^◌, ◌<◌, ◌≤◌, ◌==◌, ◌&&◌, ◌||◌, Bool, true, false, not, List, [], ◌∷◌, ◌++◌, length, take, drop, ◌-◌, All, refl, sym, ap, subst, ◌∙◌, arith, IsTrue, IsUtf8, IfSome, Option, Some, None, codes, decimal, nat_lt, nat_le, leb, unwrap_or, if◌then◌else◌, ⊎_elim, length-append}
+use Rattle.std.proofs.Common.{◌≡◌, ℕ, ◌+◌, ◌^◌, ◌<◌, ◌≤◌, ◌==◌, ◌&&◌, Bool, true, false, not, List, [], ◌∷◌, ◌++◌, length, take, drop, ◌-◌, All, refl, sym, ap, subst, arith, IsTrue, IsUtf8, IfSome, Option, Some, None, codes, decimal, nat_lt, nat_le, leb, unwrap_or, if◌then◌else◌, ⊎_elim, length-append}
 use Rattle.std.specs.Str.{bytes_eq}
 use Rattle.std.specs.List.{list_all}
-use Rattle.std.specs.Char.{is_ascii_alphanumeric}
 use Rattle.std.specs.Str.Parse.{AllDigits}
 use Rattle.std.proofs.lemmas.Bool.Decides.{nat_tests}
 use Rattle.std.proofs.lemmas.Fmt.{decimal_is_IsNumeral}
@@ -19,7 +18,7 @@ use Rattle.url.specs.declared.host.Host.{Host}
 use Rattle.url.specs.declared.host.Host.TheVariants.{Domain}
 use Rattle.url.specs.declared.scheme.SchemeType.TheVariants.{SpecialNotFile}
 use Rattle.url.specs.Scheme.{scheme_type, default_port, is_special}
-use Rattle.url.specs.Host.{host_text, IsHostOf}
+use Rattle.url.specs.Host.{host_text}
 use Rattle.url.specs.Parts.{Parts, kind_of, host_or_empty, query_set, IsPortOf, IsValid}
 use Rattle.url.proofs.InputLemmas.{Passes}
 use Rattle.url.proofs.SetLemmas.{passes_from_kept}
@@ -33,15 +32,13 @@ use Rattle.adr_objects.specs.declared.kind.Kind.{Kind}
 use Rattle.adr_objects.specs.declared.kind.Kind.TheVariants.{Program, Event}
 use Rattle.adr_subscription.specs.Callbacks.{is_callback}
 use Rattle.adr_subscription.specs.Tokens.{is_token_byte as bearer_byte, is_token}
-use Rattle.adr_delivery.specs.declared.job.Job.{Job}
 use Rattle.adr_delivery.specs.declared.job.JobMethod.{JobMethod}
 use Rattle.adr_delivery.specs.declared.job.JobMethod.TheVariants.{Post, Put}
 use Rattle.adr_delivery.specs.Jobs.{report_target}
 use Rattle.adr_link.specs.Requests.{RequestText}
-use Rattle.adr_link.specs.Upstreams.{UpstreamParts}
 use Rattle.adr_link.specs.Targets.{collection, page_target, probe_target, method_word, page_request, probe_request, report_request, notice_request}
 use Rattle.adr_exchange.specs.Exchanges.{token_length, FitsHead, IsShown, IsOfClient, page, probe, report, notice}
-use Rattle.adr_link.specs.Addresses.{port_text, host_field, without_slash, target_below, query_text, own_target}
+use Rattle.adr_link.specs.Addresses.{port_text, host_field, without_slash, target_below, query_text}
 use Rattle.adr_exchange.proofs.Fields.{pass}
 
 -- above a space, and in ASCII

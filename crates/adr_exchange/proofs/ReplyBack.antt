@@ -1,25 +1,22 @@
 -- A reply as it is written is read as its status and its body.
-use Rattle.std.proofs.Common.{◌≡◌, ℕ, zero, suc, ◌+◌, ◌^◌, ◌<◌, ◌≤◌, ◌||◌, ◌&&◌, ◌==◌, List, [], ◌∷◌, ◌++◌, length, map, Bool, true, false, MatchBool, refl, sym, subst, ap, ◌∙◌, arith, IsTrue, Some, Result, Ok, codes, decimal, nat_lt, nat_le, append_assoc, append-nil, length-append}
-use Rattle.std.specs.List.{flat_map, list_all, AllByRecursion}
+use Rattle.std.proofs.Common.{◌≡◌, ℕ, zero, suc, ◌+◌, ◌^◌, ◌<◌, ◌≤◌, ◌||◌, ◌&&◌, ◌==◌, List, [], ◌∷◌, ◌++◌, length, map, Bool, true, false, MatchBool, refl, sym, subst, ap, ◌∙◌, arith, Some, Result, Ok, codes, decimal, nat_lt, nat_le, append_assoc, append-nil, length-append}
+use Rattle.std.specs.List.{flat_map, list_all}
 use Rattle.std.specs.Char.{is_ascii_digit}
 use Rattle.std.specs.Fmt.{digits}
-use Rattle.std.specs.Str.Parse.{AllDigits, digits_value}
+use Rattle.std.specs.Str.Parse.{digits_value}
 use Rattle.std.proofs.lemmas.Bool.Decides.{nat_tests, Decides-below_and}
 use Rattle.std.proofs.lemmas.Fmt.{decimal_is_IsNumeral, length-decimal-le}
-use Rattle.std.proofs.lemmas.Str.Parse.{digit_from_value}
 use Rattle.std.proofs.lemmas.List.Elements.{All-from_recursion}
 use Rattle.std.proofs.lemmas.List.Concat.{flat_map-append}
-use Rattle.std.proofs.lemmas.List.{take_all}
-use Rattle.httparse.specs.Grammar.{Field, crlf, print_field, print_section, is_value_byte, is_uri_byte, AllPass, IsField, ResponseHead, IsResponseHead, print_response}
+use Rattle.httparse.specs.Grammar.{crlf, print_field, print_section, is_value_byte, is_uri_byte, IsField, ResponseHead, IsResponseHead, print_response}
 use Rattle.httparse.specs.Spans.{name_and_value}
 use Rattle.httparse.proofs.GrammarLemmas.{print_response-append}
 use Rattle.httparse.proofs.OnLiterals.{httparse_on_literals}
 use Rattle.adr_wire.specs.declared.end.MessageFault.{MessageFault}
-use Rattle.adr_wire.specs.declared.extent.Extent.{Extent}
 use Rattle.adr_wire.specs.declared.extent.Extent.TheVariants.{Length}
 use Rattle.adr_wire.specs.Written.{line}
 use Rattle.adr_wire.specs.Lengths.{body_of_length}
-use Rattle.adr_wire.specs.Extents.{length_in, extent_in}
+use Rattle.adr_wire.specs.Extents.{extent_in}
 use Rattle.adr_routes.specs.declared.methods.Methods.{Methods}
 use Rattle.adr_reply.specs.declared.reply.Extra.{Extra}
 use Rattle.adr_reply.specs.declared.reply.Extra.TheVariants.{Nothing, Challenge, Allow}

@@ -1,28 +1,26 @@
 -- A request as it is written is read as its method, its target, its host, its token and its body.
-use Rattle.std.proofs.Common.{◌≡◌, ℕ, ◌+◌, ◌^◌, ◌<◌, ◌≤◌, List, [], ◌∷◌, ◌++◌, length, map, reverse, Bool, true, false, refl, sym, ap, subst, ◌∙◌, arith, IsTrue, IsUtf8, IfSome, Option, Some, None, Result, Ok, codes, decimal, nat_lt, nat_le, append_assoc, append-nil, length-append}
+use Rattle.std.proofs.Common.{◌≡◌, ℕ, ◌+◌, ◌^◌, ◌<◌, ◌≤◌, List, [], ◌∷◌, ◌++◌, length, map, reverse, true, false, refl, sym, ap, subst, ◌∙◌, arith, IsTrue, IfSome, Option, Some, None, Ok, codes, decimal, append_assoc, append-nil, length-append}
 use Rattle.std.specs.List.{flat_map, list_all, AllByRecursion}
 use Rattle.std.proofs.lemmas.Bool.Decides.{nat_tests}
 use Rattle.std.proofs.lemmas.Fmt.{decimal_is_IsNumeral, length-decimal-le}
 use Rattle.std.proofs.lemmas.List.Elements.{All-from_recursion, recursion_from_All}
-use Rattle.std.proofs.lemmas.List.{take_all, reverse-append, length-reverse}
-use Rattle.httparse.specs.Grammar.{Field, crlf, print_field, print_section, is_token, is_token_byte, is_value_byte, is_uri_byte, is_ows, skip_ows, trim_ows, AllPass, IsField, RequestHead, IsRequestHead, print_request}
+use Rattle.std.proofs.lemmas.List.{reverse-append, length-reverse}
+use Rattle.httparse.specs.Grammar.{crlf, print_field, print_section, is_value_byte, is_uri_byte, is_ows, skip_ows, trim_ows, AllPass, IsField, RequestHead, IsRequestHead, print_request}
 use Rattle.httparse.specs.Spans.{name_and_value}
 use Rattle.httparse.proofs.GrammarLemmas.{print_request-append}
 use Rattle.httparse.proofs.TrimLemmas.{trim_ows_space, AllPass-reverse}
 use Rattle.httparse.proofs.OnLiterals.{httparse_on_literals}
-use Rattle.adr_wire.specs.declared.end.MessageFault.{MessageFault}
 use Rattle.adr_wire.specs.declared.extent.Extent.{Extent}
 use Rattle.adr_wire.specs.declared.extent.Extent.TheVariants.{Unsaid, Length}
 use Rattle.adr_wire.specs.Written.{line}
 use Rattle.adr_wire.specs.Fields.{values}
-use Rattle.adr_wire.specs.Lengths.{body_of_length}
-use Rattle.adr_wire.specs.Extents.{length_in, extent_in}
-use Rattle.adr_request.specs.Tokens.{bearer, token_in}
-use Rattle.adr_request.specs.Heads.{HeadAt, HeadParts, request_extent, head_in, IsHead}
-use Rattle.adr_request.specs.Requests.{IsBody, IsRequest, request}
+use Rattle.adr_wire.specs.Extents.{extent_in}
+use Rattle.adr_request.specs.Tokens.{token_in}
+use Rattle.adr_request.specs.Heads.{HeadAt, request_extent, head_in}
+use Rattle.adr_request.specs.Requests.{IsBody, request}
 use Rattle.adr_link.specs.Requests.{RequestText, request_line, token_line, body_lines, body_text, request_bytes}
 use Rattle.adr_exchange.specs.Exchanges.{token_length, FitsHead, ReadsAs}
-use Rattle.adr_exchange.proofs.Fields.{pass, pass_all, no_white, trimmed, field_of, good_field, are_fields, lines_are, line_length}
+use Rattle.adr_exchange.proofs.Fields.{pass, trimmed, field_of, good_field, are_fields, lines_are, line_length}
 use Rattle.adr_exchange.proofs.Digits.{values_are, visible_are, number_is, whole_body}
 
 -- ---- the fields

@@ -1,35 +1,23 @@
 -- What is decided of an event whose mark was read is what is decided of it by all that is held.
-use Rattle.std.proofs.Common.{◌≡◌, ℕ, Bool, true, false, cond, ◌+◌, ◌||◌, nat_lt, not, List, [], length, Option, Some, None, Result, Ok, Err, refl, sym, ap, ap₂, subst, ◌∙◌}
+use Rattle.std.proofs.Common.{◌≡◌, ℕ, Bool, true, false, cond, ◌||◌, List, [], Some, Ok, Err, refl, sym, ap, subst}
 use Rattle.std.specs.List.{list_any}
 use Rattle.std.specs.List.Sorted.{IsStrictlySortedBy}
 use Rattle.std.specs.Map.{keys_of}
 use Rattle.adr_view.proofs.Common.{map-map}
-use Rattle.adr_text.specs.Refusals.{unless}
-use Rattle.adr_text.specs.declared.refusal.Refusal.{Refusal}
 use Rattle.adr_text.specs.declared.refusal.Refusal.TheVariants.{LimitReached}
 use Rattle.adr_objects.specs.declared.body.EventBody.{EventBody}
 use Rattle.adr_state.specs.declared.limits.Limits.{Limits}
 use Rattle.adr_state.specs.declared.participants.Participant.{Participant}
-use Rattle.adr_state.specs.declared.portfolio.Portfolio.{Portfolio}
-use Rattle.adr_state.specs.Frozen.{is_frozen, pairs_kept, with_frozen}
+use Rattle.adr_state.specs.Frozen.{is_frozen, pairs_kept}
 use Rattle.adr_state.specs.Participants.{participants}
-use Rattle.adr_state.specs.Portfolios.{PortfolioChange, Freeze}
-use Rattle.adr_view.specs.Frozen.{pairs_of, are_beyond, mark_differs, frozen_with, frozen_as}
+use Rattle.adr_state.specs.Portfolios.{Freeze}
+use Rattle.adr_view.specs.Frozen.{pairs_of, are_beyond, mark_differs, frozen_as}
 use Rattle.adr_view.specs.Laws.{StandsInOrder}
 use Rattle.adr_view.specs.Rollups.{event_at}
 use Rattle.adr_view.proofs.FrozenLemmas.{freezing_keeps}
 use Rattle.adr_view.proofs.ShownLemmas.{participants_rise}
 use Rattle.adr_db.proofs.Common.{Base, nat_cmp}
-use Rattle.adr_frozen.specs.Decided.{frozen_within, frozen_by}
-
--- a test passes where what was tested holds, and tells its own refusal where it does not
-pub passed : (own : Refusal) (holds : Bool) (u : Unit {0}) → unless own holds ≡ Ok u → holds ≡ true
-passed own true u h = refl
-passed own false u h = absurd cc
-
-pub stopped : (own : Refusal) (holds : Bool) (e : Refusal) → unless own holds ≡ Err e → (holds ≡ false) × (e ≡ own)
-stopped own true e h = absurd cc
-stopped own false e h = (refl, let it : own ≡ e = cc in sym it)
+use Rattle.adr_frozen.specs.Decided.{frozen_by}
 
 module _ (base : Base) (stands : StandsInOrder base) (id : List ℕ) (event : EventBody) where
   abbrev own : List (ℕ × ℕ)

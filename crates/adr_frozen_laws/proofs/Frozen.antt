@@ -1,5 +1,5 @@
 -- Who takes part in an event that is frozen, and what is told as it is frozen.
-use Rattle.std.proofs.Common.{append_assoc, ◌≡◌, ◌⊎◌, inl, inr, ℕ, Bool, true, false, cond, not, ⊎_elim, List, [], ◌∷◌, ◌++◌, map, filter, Option, Some, None, Ordering, Result, Ok, Err, refl, sym, ap, ap₂, subst, ◌∙◌}
+use Rattle.std.proofs.Common.{append_assoc, ◌≡◌, ◌⊎◌, inl, inr, ℕ, Bool, true, false, cond, ⊎_elim, List, [], ◌∷◌, ◌++◌, map, filter, Option, Some, None, Ordering, Result, Ok, Err, refl, sym, ap, ap₂, subst, ◌∙◌}
 use Rattle.std.specs.Prelude.{IfOk, bytes_eq, is_some, option_map}
 use Rattle.std.specs.List.{cons_option, filter_map}
 use Rattle.std.specs.Map.{keys_of}
@@ -23,7 +23,7 @@ use Rattle.adr_state.specs.declared.portfolio.Portfolio.{Portfolio}
 use Rattle.adr_state.specs.declared.portfolio.Resource.{Resource}
 use Rattle.adr_state.specs.declared.state.State.{State}
 use Rattle.adr_state.specs.BaseChanges.{ChangePortfolio, changed}
-use Rattle.adr_state.specs.Frozen.{is_frozen, frozen_key, frozen_weight, is_of_event, pair_of, pairs_kept, with_frozen}
+use Rattle.adr_state.specs.Frozen.{is_frozen, frozen_key, frozen_weight, is_of_event, pair_of, pairs_kept}
 use Rattle.adr_state.specs.Keys.{frozen_cmp, id_cmp, share_cmp}
 use Rattle.adr_state.specs.Participants.{is_for, participants}
 use Rattle.adr_state.specs.Portfolios.{PortfolioChange, portfolio_after, Freeze as FreezeEvent}
@@ -47,13 +47,13 @@ use Rattle.adr_machine.specs.Edits.{draws_number, edit, edit_of, frozen_outcome,
 use Rattle.adr_machine.specs.Steps.{committed, outbox_then, step}
 use Rattle.adr_laws.specs.Entries.{reached}
 use Rattle.adr_laws.specs.Standing.{state_of}
-use Rattle.adr_laws.proofs.Common.{Contains, IsDistinct-from_sorted, at, empty, eq_by_cmp_equiv, exact_unsigned, lookup-from_Contains, nat_cmp_total, sorted_tail, state_after, step_at}
+use Rattle.adr_laws.proofs.Common.{IsDistinct-from_sorted, at, empty, eq_by_cmp_equiv, exact_unsigned, lookup-from_Contains, nat_cmp_total, sorted_tail, state_after, step_at}
 use Rattle.adr_laws.proofs.EnrolledLemmas.{lack_none}
 use Rattle.adr_laws.proofs.PortfolioLemmas.{Whole, portfolio_whole, whole_after}
-use Rattle.adr_laws.proofs.RunLemmas.{state_of-append, state_of-push}
-use Rattle.adr_frozen_laws.specs.FrozenRuns.{is_there, StaysFrozen, weighed, KeptTakePart, WasFrozen, FreezesAreKept}
+use Rattle.adr_laws.proofs.RunLemmas.{state_of-push}
+use Rattle.adr_frozen_laws.specs.FrozenRuns.{StaysFrozen, weighed, KeptTakePart, FreezesAreKept}
 use Rattle.adr_frozen_laws.proofs.Weights.{stays_kept}
-use Rattle.adr_frozen_laws.proofs.Runs.{frozen_stay, number_there}
+use Rattle.adr_frozen_laws.proofs.Runs.{frozen_stay}
 
 -- ---- who takes part
 

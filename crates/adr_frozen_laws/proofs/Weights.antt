@@ -1,12 +1,11 @@
 -- What a change of the portfolio leaves of the weights that are kept for an event that is frozen.
-use Rattle.std.proofs.Common.{◌≡◌, ℕ, Bool, true, false, cond, not, ◌==◌, ⊎_elim, List, [], ◌∷◌, map, filter, Option, Some, None, Ordering, Less, refl, sym, ap, ap₂, subst, ◌∙◌}
+use Rattle.std.proofs.Common.{◌≡◌, ℕ, Bool, true, false, cond, not, ◌==◌, List, map, filter, Option, Some, None, refl, sym, ap, subst, ◌∙◌}
 use Rattle.std.specs.Prelude.{IsSome, bytes_eq, is_some}
-use Rattle.std.specs.Cmp.{IsTotalOrder}
 use Rattle.std.specs.Map.{keys_of, remove_entry}
 use Rattle.std.specs.Option.{option_map_or}
 use Rattle.std.specs.Ordering.{is_eq, nat_cmp}
-use Rattle.std.proofs.lemmas.Bool.{cases_Bool, cond_both, false_from_ne_true, true≢false}
-use Rattle.std.proofs.lemmas.Cmp.{nat_list_cmp_total, tied_itself}
+use Rattle.std.proofs.lemmas.Bool.{cond_both, false_from_ne_true, true≢false}
+use Rattle.std.proofs.lemmas.Cmp.{nat_list_cmp_total}
 use Rattle.std.proofs.lemmas.Map.{lookup-remove_entry}
 use Rattle.std.proofs.lemmas.Map.Entries.{lookup-filter-keys, lookup-filter-values, option_filter}
 use Rattle.std.proofs.lemmas.Slice.Eq.{bytes_eq-Decides}
@@ -22,19 +21,14 @@ use Rattle.adr_view.proofs.KeyLemmas.{frozen_exact}
 use Rattle.adr_view.proofs.Common.{exact_bytes}
 use Rattle.adr_view.proofs.MapLemmas.{at-with_others, tied}
 use Rattle.adr_view.proofs.OrderLemmas.{InOrder}
-use Rattle.adr_view.proofs.RowLemmas.{each_there, found_after_put, found_after_removal, row_found}
-use Rattle.adr_laws.specs.Laws.{HasFrozenResource}
-use Rattle.adr_laws.proofs.Common.{All-map, Contains, Contains-from_lookup, IsDistinct-from_sorted, at, eq_by_cmp_equiv, insert_entry, is_at, nat_cmp_total, tells_apart, unsigned_Decides}
+use Rattle.adr_view.proofs.RowLemmas.{each_there, found_after_put, found_after_removal}
+use Rattle.adr_laws.proofs.Common.{All-map, Contains, Contains-from_lookup, IsDistinct-from_sorted, at, eq_by_cmp_equiv, is_at, nat_cmp_total, tells_apart, unsigned_Decides}
 use Rattle.adr_laws.proofs.PortfolioLemmas.{FrozenStands}
 use Rattle.adr_frozen_laws.specs.FrozenRuns.{is_there, StaysFrozen}
 
 some_is : {A : Type 0} (o : Option A) → IsSome o → is_some o ≡ true
 some_is (Some x) found = refl
 some_is None found = found
-
-is_so : {A : Type 0} (o : Option A) → is_some o ≡ true → IsSome o
-is_so (Some x) there = refl
-is_so None there = there
 
 module _ (p : Portfolio) (stands : FrozenStands p) (id : List ℕ) where
   -- a weight is kept for a resource that is there

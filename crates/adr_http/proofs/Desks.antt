@@ -13,7 +13,7 @@ use Rattle.adr_asked.specs.declared.asked.Asked.{Asked}
 use Rattle.adr_asked.specs.Turns.{asked_step, asks_desk, Turn, Outcome, as_machine, no_memory, store_refused, Takes, as_defined, without_memory, refused_by_store, without_text, MayLeave, no_step, step_taken}
 use Rattle.adr_http.specs.Serving.{want_bytes, outcome_bytes, plan_turn, reading_turn, IsBuilt, of_turn, of_memory, of_store, IsServed, as_read, not_read, Serves, ServesPart}
 use Rattle.adr_http.specs.Takers as by
-use Rattle.adr_http.specs.Takers.{reading_plan, TakesOnce, IsBuiltBy, MayLeaveBy, IsReplied, IsServedBy, ServesBy, ServesPartBy}
+use Rattle.adr_http.specs.Takers.{reading_plan, IsBuiltBy, MayLeaveBy, IsReplied, IsServedBy, ServesBy, ServesPartBy}
 
 -- a turn whose text could not be built is told by want of memory
 left_without_text : {may_refuse : Type 0} (want : Refusal → List ℕ) {s t : State} {turn : Turn} → MayLeave s turn t → Takes may_refuse want s turn (want OutOfMemory) t

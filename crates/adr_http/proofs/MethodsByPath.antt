@@ -1,5 +1,5 @@
 -- A method is asked by exactly where its path has it.
-use Rattle.std.proofs.Common.{◌≡◌, ℕ, List, Bool, true, false, cond, codes, bytes_eq, Option, Some, None, Result, Ok, Err, refl, ap}
+use Rattle.std.proofs.Common.{◌≡◌, ℕ, List, Bool, true, false, cond, codes, bytes_eq, Option, Some, None, Result, Ok, Err, refl}
 use Rattle.std.specs.Prelude.{◌≢◌}
 use Rattle.adr_text.specs.Refusals.{◌>>=◌}
 use Rattle.adr_text.specs.declared.refusal.Refusal.{Refusal}

@@ -1,5 +1,5 @@
 //! The tokens of a node, and what each allows.
-ghost use Rattle.std.specs.Prelude.{◌≡◌, ◌<◌, IfSome, IfOk, map, length, bytes_eq};
+ghost use Rattle.std.specs.Prelude.{◌≡◌, ◌<◌, IfOk, map, bytes_eq};
 ghost use Rattle.std.specs.Option.{option_copied};
 ghost use Rattle.adr_http.specs.Roles.{granted, role_of, roles_of};
 

@@ -1,5 +1,5 @@
 //! One request, from its bytes to those of its reply, whoever takes what it asks.
-ghost use Rattle.std.specs.Prelude.{◌≡◌, ◌≢◌, ◌⊎◌, ◌≤◌, ◌+◌, IfSome, IfOk, OnOk, Some, Ok, Err, ℕ, List, []};
+ghost use Rattle.std.specs.Prelude.{◌≡◌, ◌≢◌, ◌⊎◌, ◌≤◌, ◌+◌, IfSome, IfOk, OnOk, Ok, Err, ℕ, List, []};
 ghost use Rattle.adr_wire.specs.Calls.{NoneFails, LastFails, RunsOut};
 ghost use Rattle.adr_wire.specs.Pieces.{OfWhatCame, IsReading};
 ghost use Rattle.adr_wire.specs.declared.end.ReadEnd.TheVariants as read_end;

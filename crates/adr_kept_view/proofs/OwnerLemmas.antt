@@ -1,5 +1,5 @@
 -- What stands at the key of a resource among what is shown of an event is an event, and the resource is there.
-use Rattle.std.proofs.Common.{◌≡◌, ℕ, Bool, true, false, cond, List, [], map, Option, Some, None, refl, sym, ap, subst, ◌∙◌}
+use Rattle.std.proofs.Common.{◌≡◌, ℕ, List, [], map, Option, Some, None, refl, sym, ap, subst, ◌∙◌}
 use Rattle.std.specs.Prelude.{IfSome, option_map, option_and_then}
 use Rattle.std.specs.Ordering.{nat_cmp}
 use Rattle.std.proofs.lemmas.Bool.{cond_both}
@@ -20,7 +20,7 @@ use Rattle.adr_view.specs.Views.{split_interval, weights_of, rows_for, carries, 
 use Rattle.adr_view.proofs.ListLemmas.{from_filter_map, from_map, in_map}
 use Rattle.adr_view.proofs.ShownLemmas.{keys_shown}
 use Rattle.adr_view.proofs.ViewLemmas.{by_mark, each_by_mark}
-use Rattle.adr_refresh.proofs.Common.{All, All-contains, All-nil, Contains, Contains-from_lookup, at, equal_from_is, is_eq, mirror_cmp, nat_cmp_total, share_cmp, view_cmp, view_exact}
+use Rattle.adr_refresh.proofs.Common.{All, All-contains, All-nil, Contains, Contains-from_lookup, at, equal_from_is, is_eq, mirror_cmp, nat_cmp_total, view_cmp, view_exact}
 use Rattle.adr_refresh.proofs.MapLemmas.{found}
 
 pub at_there : {V : Type 0} (q : ViewKey) (rows : List (ViewKey × V)) (v : V) → at view_cmp q rows ≡ Some v → Contains rows (q, v)

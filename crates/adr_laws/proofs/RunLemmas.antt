@@ -1,7 +1,7 @@
 -- The commands whose answers stand, and where they lead.
-use Rattle.std.proofs.Common.{◌≡◌, Bool, true, false, cond, List, [], ◌∷◌, ◌++◌, length, map, filter, Result, refl, ap, ap₂, ◌∙◌, arith}
+use Rattle.std.proofs.Common.{◌≡◌, Bool, true, false, cond, List, [], ◌∷◌, ◌++◌, map, filter, Result, refl, ap, ap₂, ◌∙◌}
 use Rattle.std.specs.Prelude.{MatchBool}
-use Rattle.adr_laws.proofs.Common.{zip, map-append, filter-append, Refusal, told, state_after, stands, step_at, IsTaken, IsRun}
+use Rattle.adr_laws.proofs.Common.{zip, Refusal, told, state_after, stands, step_at, IsTaken, IsRun}
 use Rattle.adr_laws.specs.Standing.{answers_of, state_of, standing}
 use Rattle.adr_laws.specs.Laws.{IsOfTheStepsThatStand, RunsAreOfTheStepsThatStand}
 
@@ -9,33 +9,7 @@ use Rattle.adr_laws.specs.Laws.{IsOfTheStepsThatStand, RunsAreOfTheStepsThatStan
 abbrev pairs : {A C : Type 0} → List C → List (Result A Refusal) → List (C × Result A Refusal)
 pairs cs rs = filter (λ p. stands p.1) (zip cs rs)
 
-mapped : {A C : Type 0} (b : Bool) (c : C) (r : Result A Refusal) → map (λ (p : C × Result A Refusal). p.0) (cond b ((c, r) ∷ []) []) ≡ cond b (c ∷ []) []
-mapped true c r = refl
-mapped false c r = refl
-
-zip-push : {K X : Type 0} (ks : List K) (xs : List X) (k : K) (x : X) → length ks ≡ length xs → zip (ks ++ k ∷ []) (xs ++ x ∷ []) ≡ zip ks xs ++ (k, x) ∷ []
-zip-push [] [] k x e = refl
-zip-push [] (y ∷ ys) k x e = absurd (omega arith)
-zip-push (j ∷ js) [] k x e = absurd (omega arith)
-zip-push (j ∷ js) (y ∷ ys) k x e = ap (λ zs. (j, y) ∷ zs) (zip-push js ys k x (omega arith))
-
--- the steps that stand, with one more
-pub standing-push : {A C : Type 0} (cs : List C) (rs : List (Result A Refusal)) (c : C) (r : Result A Refusal) (b : Bool) → stands r ≡ b → length cs ≡ length rs → standing (cs ++ c ∷ []) (rs ++ r ∷ []) ≡ standing cs rs ++ cond b (c ∷ []) []
-standing-push {A} {C} cs rs c r b h e =
-    ap (λ zs. map (λ (p : C × Result A Refusal). p.0) (filter (λ p. stands p.1) zs)) (zip-push cs rs c r e)
-    ∙ ap (map (λ (p : C × Result A Refusal). p.0)) (filter-append (λ (p : C × Result A Refusal). stands p.1) (zip cs rs) ((c, r) ∷ []))
-    ∙ map-append (λ (p : C × Result A Refusal). p.0) (filter (λ p. stands p.1) (zip cs rs)) (filter (λ p. stands p.1) ((c, r) ∷ []))
-    ∙ ap (λ x. standing cs rs ++ map (λ (p : C × Result A Refusal). p.0) (cond x ((c, r) ∷ []) [])) h
-    ∙ ap (λ ds. standing cs rs ++ ds) (mapped b c r)
-
-pub filter_stands-push : {A : Type 0} (rs : List (Result A Refusal)) (r : Result A Refusal) (b : Bool) → stands r ≡ b → filter stands (rs ++ r ∷ []) ≡ filter stands rs ++ cond b (r ∷ []) []
-filter_stands-push rs r b h = filter-append stands rs (r ∷ []) ∙ ap (λ x. filter stands rs ++ cond x (r ∷ []) []) h
-
 module _ {A C S : Type 0} (step : S → C → Result (A × S) Refusal) where
-  pub answers_of-push : (s : S) (cs : List C) (c : C) → answers_of step s (cs ++ c ∷ []) ≡ answers_of step s cs ++ told (step (state_of step s cs) c) ∷ []
-  answers_of-push s [] c = refl
-  answers_of-push s (d ∷ cs) c = ap (λ rs. told (step s d) ∷ rs) (answers_of-push (state_after s (step s d)) cs c)
-
   pub state_of-push : (s : S) (cs : List C) (c : C) → state_of step s (cs ++ c ∷ []) ≡ state_after (state_of step s cs) (step (state_of step s cs) c)
   state_of-push s [] c = refl
   state_of-push s (d ∷ cs) c = state_of-push (state_after s (step s d)) cs c

@@ -1,5 +1,5 @@
 -- What is wanted where it stands in one column, and pages of it.
-use Rattle.std.proofs.Common.{◌≡◌, ℕ, Bool, true, false, ◌||◌, ◌&&◌, List, [], ◌∷◌, filter, take, drop, Option, None, Some, refl, sym, ap, ap₂, ◌∙◌, arith}
+use Rattle.std.proofs.Common.{◌≡◌, ℕ, Bool, true, ◌&&◌, List, [], ◌∷◌, filter, take, drop, Option, None, Some, refl, sym, ap, ap₂, ◌∙◌, arith}
 use Rattle.std.proofs.lemmas.List.{take-take}
 use Rattle.adr_queries.specs.Filters.{is_among_all, has_target}
 use Rattle.adr_queries.specs.declared.filter.TargetFilter.{TargetFilter}
@@ -9,10 +9,6 @@ use Rattle.adr_queries.specs.declared.filter.EventFilter.{EventFilter}
 use Rattle.adr_lent.specs.declared.picked.Picked.{Picked}
 use Rattle.adr_lent.specs.Pages.{ShownEntry, kept_for, wanted_among}
 use Rattle.adr_lent.specs.Picks.{picks, for_ven, part_of}
-
-or_false : (b : Bool) → (b || false) ≡ b
-or_false true = refl
-or_false false = refl
 
 -- all are picked
 pub each_of : {X : Type 0} (xs : List X) → filter (λ x. true) xs ≡ xs

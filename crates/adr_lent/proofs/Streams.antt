@@ -1,5 +1,5 @@
 -- Rows that are lent one at a time: what they are the beginning of, and what is left.
-use Rattle.std.proofs.Common.{◌≡◌, ◌⊎◌, inl, inr, ℕ, false, List, [], ◌++◌, Result, Ok, Err, OnErr, IfOk, IsTrue, arith, refl, sym, ap, subst, ◌∙◌}
+use Rattle.std.proofs.Common.{◌≡◌, ◌⊎◌, inl, inr, ℕ, false, List, [], ◌++◌, Result, Ok, Err, OnErr, IfOk, arith, refl, sym, ap, subst, ◌∙◌}
 use Rattle.sqlite.specs.Order.{Row}
 use Rattle.sqlite.specs.Tree.{Trees}
 use Rattle.sqlite.specs.Schema.{Schema}
@@ -17,7 +17,7 @@ use Rattle.sqlite.proofs.Callers.{command_of, EndsIn, begins_shown, given_begin,
 use Rattle.sqlite.proofs.StateLemmas.{survives_then, survives_weaker}
 use Rattle.sqlite_resolve.specs.declared.compiled.Compiled.{Compiled}
 use Rattle.adr_lent.specs.Texts.{IsQueryText}
-use Rattle.adr_lent.specs.Lent.{HasLent, Stands, IsSettled, Begins}
+use Rattle.adr_lent.specs.Lent.{HasLent, Stands, Begins}
 use Rattle.adr_lent.proofs.Texts.{understood_bare, never_returns}
 
 -- ---- states
@@ -63,14 +63,6 @@ module _ {S : Type 0} (g : Ghosts S) where
     over = over;
     crash = crash;
   }
-
-  -- What stands, where no transaction was open and all was committed, is as it was where a transaction was begun and dropped. That a store which is open
-  -- was open, and what a crash may leave, need neither; that the databases are the same needs that all was committed; that no transaction is open needs
-  -- that none was.
-  pub stands_dropped : (old new : Held S) → Stands g old new → old.in_transaction ≡ false → IsSettled (state g old)
-      → (HasCleanDisk (state g new) → IsTrue (state g new).is_open → ((state g new).now ≡ (state g old).now) × ((state g new).committed ≡ (state g old).committed))
-      × (HasCleanDisk (state g new) → IsTrue (state g new).is_open → IsTrue (state g old).is_open) × (new.in_transaction ≡ false) × Survives (state g old) (state g new) (λ _. ⊥)
-  stands_dropped old new h none settled = (λ clean opened. h.same clean opened settled, h.was_open, h.over none, h.crash)
 
 -- ---- the text of a query
 

@@ -1,17 +1,15 @@
 -- Which subscriptions were read, as more are.
-use Rattle.std.proofs.Common.{◌≡◌, ℕ, Bool, true, false, List, [], ◌∷◌, ◌++◌, map, filter, Option, Some, None, Less, refl, sym, ap, ap₂, ◌∙◌, subst}
+use Rattle.std.proofs.Common.{◌≡◌, ℕ, Bool, true, false, List, [], ◌∷◌, ◌++◌, filter, Option, Some, None, Less, refl, sym, ap, ◌∙◌}
 use Rattle.std.specs.Prelude.{◌==◌, ◌||◌}
 use Rattle.std.specs.List.{list_any}
 use Rattle.std.specs.Option.{option_map_or}
-use Rattle.std.proofs.lemmas.Bool.{eqb-true}
 use Rattle.adr_db.proofs.Common.{IsAscending, State, Sub, is_sub_of, nat_cmp}
 use Rattle.adr_state.specs.Keys.{with_rows}
 use Rattle.adr_db.specs.Kept.{Kept, Keeps}
 use Rattle.adr_db.proofs.KeptMaps.{stored_rises}
 use Rattle.adr_db.proofs.Maps.{sub_map}
-use Rattle.adr_listeners.specs.declared.hearers.Hearers.TheVariants.{Nobody, Of, Everyone}
 use Rattle.adr_listeners.specs.declared.listeners.Listeners.{Listeners}
-use Rattle.adr_listeners.specs.Hearers.{is_operators, hears}
+use Rattle.adr_listeners.specs.Hearers.{is_operators}
 use Rattle.adr_listeners.specs.Listeners.{was_read, AreThose, ReadsMore}
 use Rattle.adr_db.proofs.Unions.{both_put, any_more, none_pass, or_false, or_true}
 
@@ -67,55 +65,3 @@ module _ (kept : Kept) (s : State) (was : Keeps kept s) where
   put_more those later more are same put =
       put ∙ ap (λ rows. with_rows nat_cmp rows (filter (λ e. more e.1) kept.portfolio.subs)) are ∙ both_put (λ e. was_read those e.1) (λ e. more e.1) kept.portfolio.subs rises
       ∙ ap (λ (p : ℕ × Sub → Bool). filter p kept.portfolio.subs) (λ i e. sym (same e.1) i)
-
--- ---- and those that may hear of a change are there
-
-pub nobody_more : (those : Listeners) → ReadsMore (hears Nobody) those those
-nobody_more those sub = sym (or_false (was_read those sub))
-
--- where all were read, no more can be
-pub no_more : (those : Listeners) (more : Sub → Bool) → those.all ≡ true → ReadsMore more those those
-no_more those more all sub = rw all refl
-
-pub everyone_more : (those later : Listeners) → later.all ≡ true → ReadsMore (hears Everyone) those later
-everyone_more those later all sub = rw all (sym (or_true (was_read those sub)))
-
-same_turned : (n m : ℕ) → (n == m) ≡ true → (m == n) ≡ true
-same_turned n m h = subst (λ k. (k == n) ≡ true) (eqb-true n m h) (subst (λ k. (n == k) ≡ true) (sym (eqb-true n m h)) h)
-
-any_turned : (n : ℕ) (vens : List ℕ) → list_any (λ v. v == n) vens ≡ true → list_any (λ v. n == v) vens ≡ true
-any_turned n [] h = h
-any_turned n (v ∷ vens) h = by (v == n) refl h (any_turned n vens)
-  where
-    by : (b : Bool) → (v == n) ≡ b → (b || list_any (λ v. v == n) vens) ≡ true → (list_any (λ v. v == n) vens ≡ true → list_any (λ v. n == v) vens ≡ true) → ((n == v) || list_any (λ v. n == v) vens) ≡ true
-    by true is among rest = rw (same_turned v n is) refl
-    by false is among rest = ap (λ b. (n == v) || b) (rest among) ∙ or_true (n == v)
-
--- with those of the operator, where those of the ven were read before
-pub ven_there : (those later : Listeners) (ven : ℕ) → ReadsMore is_operators those later → list_any (λ v. v == ven) later.vens ≡ true → ReadsMore (hears (Of ven)) those later
-ven_there those later ven reads among sub = by sub.owner (reads sub)
-  where
-    seen : Option ℕ → Bool
-    seen owner = later.all || option_map_or (λ o. list_any (λ v. o == v) later.vens) owner later.operator
-
-    before : Option ℕ → Bool
-    before owner = those.all || option_map_or (λ o. list_any (λ v. o == v) those.vens) owner those.operator
-
-    by : (owner : Option ℕ) → seen owner ≡ (before owner || option_map_or (λ o. false) owner true) → seen owner ≡ (before owner || option_map_or (λ o. o == ven) owner true)
-    by None is = is
-    by (Some o) is = of (o == ven) refl
-      where
-        there : o ≡ ven → seen (Some o) ≡ true
-        there same = subst (λ k. (later.all || list_any (λ v. k == v) later.vens) ≡ true) (sym same) (rw (any_turned ven later.vens among) (or_true later.all))
-
-        of : (b : Bool) → (o == ven) ≡ b → seen (Some o) ≡ (before (Some o) || b)
-        of true same = there (eqb-true o ven same) ∙ sym (or_true (before (Some o)))
-        of false other = is
-
--- and where they are read after them
-pub ven_more : (those then later : Listeners) (ven : ℕ) → ReadsMore is_operators those then → ReadsMore (is_sub_of ven) then later → ReadsMore (hears (Of ven)) those later
-ven_more those then later ven operators vens sub = vens sub ∙ ap (λ b. b || is_sub_of ven sub) (operators sub) ∙ by (was_read those sub) sub.owner
-  where
-    by : (b : Bool) (owner : Option ℕ) → ((b || option_map_or (λ o. false) owner true) || option_map_or (λ o. o == ven) owner false) ≡ (b || option_map_or (λ o. o == ven) owner true)
-    by b None = or_false (b || true)
-    by b (Some o) = ap (λ c. c || (o == ven)) (or_false b)

@@ -1,5 +1,5 @@
 //! The subscriptions that were read.
-ghost use Rattle.std.specs.Prelude.{◌≡◌, List, ℕ, map, OnOk, IfErr};
+ghost use Rattle.std.specs.Prelude.{◌≡◌, OnOk, IfErr};
 ghost use Rattle.std.specs.Ordering.{nat_cmp};
 ghost use Rattle.adr_sql.specs.Calls.{LeavesLent};
 ghost use Rattle.adr_state.specs.Keys.{with_rows};

@@ -1,5 +1,5 @@
 //! The table `sub`: the subscriptions of the operator, and those of a ven.
-ghost use Rattle.std.specs.Prelude.{◌≡◌, [], ◌∷◌, filter, IfErr};
+ghost use Rattle.std.specs.Prelude.{◌≡◌, [], filter, IfErr};
 ghost use Rattle.adr_state.specs.Portfolios.{is_sub_of};
 ghost use Rattle.adr_sql.specs.Calls.{LeavesLent};
 ghost use Rattle.adr_db.specs.Rows.{number_row};

@@ -1,5 +1,5 @@
 //! What a line says.
-ghost use Rattle.std.specs.Prelude.{◌≡◌, ◌≤◌, [], IsTrue, length};
+ghost use Rattle.std.specs.Prelude.{◌≡◌, ◌≤◌, [], length};
 ghost use Rattle.adr_log.specs.Shown.{is_shown, AreShown};
 
 use arrayvec::ArrayString;

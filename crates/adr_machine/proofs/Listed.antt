@@ -248,10 +248,6 @@ module _ {A B : Type 0} (Q : A → Type 0) where
   made_with P (Ok x) f first h = h x first
   made_with P (Err e) f first h = tt
 
-then_with : {A B : Type 0} (P : Refusal → Type 0) (Q : B → Type 0) (r : Result B Refusal) (f : B → Result A Refusal) → Refuses P r → IfOk r Q → ((x : B) → Q x → Refuses P (f x)) → Refuses P (r >>= f)
-then_with P Q (Ok x) f first is others = others x is
-then_with P Q (Err e) f first is others = record { so = first.so }
-
 -- whatever is told of the portfolio
 portfolio_answered : {A : Type 0} (c : Command) (comes : A → Outcome) → ((x : A) → IsAnswered c (comes x)) → (r : Result (A × PortfolioChange) Refusal) → IfOk (of_portfolio comes r) (λ d. IsAnswered c d.outcome)
 portfolio_answered c comes each r = made (λ d. IsAnswered c d.outcome) r (λ d. record { outcome = comes d.0; change = ChangePortfolio d.1 }) (λ d. each d.0)

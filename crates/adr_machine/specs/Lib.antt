@@ -4,3 +4,5 @@ pub mod Deliveries
 pub mod Listed
 pub mod Steps
 pub mod Runs
+pub mod Named
+pub mod Within

@@ -1,17 +1,15 @@
 -- From what is kept to the base that it is kept of.
-use Rattle.std.proofs.Common.{◌≡◌, Bool, true, false, cond, ◌&&◌, ◌+◌, List, [], ◌++◌, ◌∷◌, length, ℕ, Option, Some, None, Result, Ok, Err, refl, sym, ap, ap₂, subst, ◌∙◌, arith}
+use Rattle.std.proofs.Common.{◌≡◌, Bool, true, false, cond, ◌&&◌, ◌+◌, List, [], ◌++◌, ◌∷◌, length, ℕ, Option, Some, None, Ok, Err, refl, sym, ap, ap₂, subst, ◌∙◌, arith}
 use Rattle.std.specs.Prelude.{is_some, nat_lt}
-use Rattle.adr_db.proofs.Common.{insert_entry, insert_key, State, IsRefusalOf, Refusal, OutOfMemory, Store, LimitReached, NoScan, Base, Mark, MirrorKey, Limits, mirror_cmp, at, key_of, joined, keys_found, probes, BaseChange, JoinMarks, SetScan, joining, scan_with, open_scan, scan_end}
+use Rattle.adr_db.proofs.Common.{insert_entry, insert_key, State, LimitReached, Base, Mark, MirrorKey, Limits, mirror_cmp, at, key_of, joined, keys_found, JoinMarks, joining, scan_with}
 use Rattle.std.proofs.lemmas.Bool.Decides.{nat_tests}
 use Rattle.std.proofs.lemmas.List.Sums.{fold-append}
-use Rattle.adr_text.specs.Refusals.{unless, ◌>>=◌}
 use Rattle.adr_objects.specs.declared.body.Found.{Found}
 use Rattle.adr_state.specs.Marks.{is_below}
 use Rattle.adr_db.specs.declared.meta.Meta.{Meta}
-use Rattle.adr_db.specs.Kept.{Kept, Keeps, at_most, with_mark}
-use Rattle.adr_db.specs.Bases.{Beside, keys_polled, with_sizes, with_base, kept_beside}
+use Rattle.adr_db.specs.Kept.{Kept, Keeps, with_mark}
+use Rattle.adr_db.specs.Bases.{Beside, with_sizes, with_base, kept_beside}
 use Rattle.adr_mirror.specs.Raises.{are_beyond, with_raised, with_polled_if}
-use Rattle.adr_mirror.specs.Missed.{missed, closing}
 
 -- ---- the mirror
 
@@ -65,51 +63,3 @@ still_open None founds true = refl
 still_open None founds false = refl
 still_open (Some keys) founds true = refl
 still_open (Some keys) founds false = refl
-
--- whether one is open, by what the test of it tells
-pub told_open : (scan : Bool) (u : Unit {0}) → unless NoScan scan ≡ Ok u → scan ≡ true
-told_open true u h = refl
-told_open false u h = absurd cc
-
-pub told_shut : (scan : Bool) (e : Refusal) → unless NoScan scan ≡ Err e → (scan ≡ false) × (e ≡ NoScan)
-told_shut true e h = absurd cc
-told_shut false e h = (refl, let it : NoScan ≡ e = cc in sym it)
-
--- none is missed where no scan is open
-pub none_open : (limit : Option ℕ) (base : Base) → is_some base.scan ≡ false → missed limit base ≡ Err NoScan
-none_open limit base h = by base.scan h
-  where
-    by : (scan : Option (List MirrorKey)) → is_some scan ≡ false → (open_scan scan >>= λ polled. Ok (at_most limit (probes base.mirror polled))) ≡ Err NoScan
-    by None h = refl
-    by (Some keys) h = absurd cc
-
-pub missed_open : (limit : Option ℕ) (base : Base) (keys : List MirrorKey) → is_some base.scan ≡ true → keys ≡ at_most limit (probes base.mirror (keys_polled base.scan)) → missed limit base ≡ Ok keys
-missed_open limit base keys h is = by base.scan h is
-  where
-    by : (scan : Option (List MirrorKey)) → is_some scan ≡ true → keys ≡ at_most limit (probes base.mirror (keys_polled scan)) → (open_scan scan >>= λ polled. Ok (at_most limit (probes base.mirror polled))) ≡ Ok keys
-    by None h is = absurd cc
-    by (Some polled) h is = ap Ok (sym is)
-
--- the end of a scan closes it, with what it missed
-abbrev ended : Base → Option (List MirrorKey) → Result (List MirrorKey × BaseChange) Refusal
-ended base scan = open_scan scan >>= λ polled. Ok (probes base.mirror polled, SetScan None)
-
-pub scan_closes : (base : Base) (keys : List MirrorKey) → missed None base ≡ Ok keys → scan_end base ≡ Ok (keys, SetScan None)
-scan_closes base keys h = by base.scan h
-  where
-    by : (scan : Option (List MirrorKey)) → (open_scan scan >>= λ polled. Ok (at_most None (probes base.mirror polled))) ≡ Ok keys → ended base scan ≡ Ok (keys, SetScan None)
-    by None h = absurd cc
-    by (Some polled) h = cc
-
--- and is refused as what it missed is
-pub end_refused : (base : Base) (e : Refusal) → IsRefusalOf e (missed None base) → IsRefusalOf e (closing base)
-end_refused base e h = by e base.scan h
-  where
-    by : (e : Refusal) (scan : Option (List MirrorKey)) → IsRefusalOf e (open_scan scan >>= λ polled. Ok (at_most None (probes base.mirror polled))) → IsRefusalOf e (ended base scan >>= λ d. Ok d.1)
-    by OutOfMemory scan h = tt
-    by Store scan h = tt
-    by e None h = cc
-    by e (Some polled) h = absurd cc
-
-pub closing_is : (base : Base) (keys : List MirrorKey) → scan_end base ≡ Ok (keys, SetScan None) → closing base ≡ Ok (SetScan None)
-closing_is base keys is = ap (λ (r : Result (List MirrorKey × BaseChange) Refusal). r >>= λ d. Ok d.1) is

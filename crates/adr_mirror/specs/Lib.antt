@@ -1,2 +1,1 @@
 pub mod Raises
-pub mod Missed

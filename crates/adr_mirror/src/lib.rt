@@ -8,4 +8,4 @@ mod risen;
 mod scan;
 
 pub use evidence::{gone, put_evidence};
-pub use scan::{probes, scan_begin, scan_end};
+pub use scan::scan_begin;

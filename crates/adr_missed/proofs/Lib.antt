@@ -2,3 +2,4 @@ pub mod Limits
 pub mod Queries
 pub mod Keys
 pub mod Told
+pub mod Closing

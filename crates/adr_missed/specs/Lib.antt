@@ -1,3 +1,4 @@
+pub mod Missed
 pub mod Taken
 pub mod Unseen
 pub mod Shut

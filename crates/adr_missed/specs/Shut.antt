@@ -11,7 +11,7 @@ use Rattle.adr_state.specs.Evidence.{scan_end}
 use Rattle.adr_db.specs.declared.meta.Meta.{Meta}
 use Rattle.adr_db.specs.Bases.{Beside, with_base, HoldsBeside}
 use Rattle.adr_db.specs.BaseCalls.{IsMade}
-use Rattle.adr_mirror.specs.Missed.{missed, closing}
+use Rattle.adr_missed.specs.Missed.{missed, closing}
 
 -- after Ok, the end of the scan is made of each base that the tables held whose scan missed these keys, and answers them, where the caller's numbers were
 -- those of the base; these are then those of the base after

@@ -9,7 +9,7 @@ ghost use Rattle.adr_state.specs.declared.base.Base.{Base};
 ghost use Rattle.adr_db.specs.Bases.{with_base};
 ghost use Rattle.adr_db.specs.Calls.{IsOfStore};
 ghost use Rattle.adr_lent.specs.Lent.{Stands};
-ghost use Rattle.adr_mirror.specs.Missed.{missed, TellsOn};
+ghost use Rattle.adr_missed.specs.Missed.{missed, TellsOn};
 ghost use Rattle.adr_missed.specs.Shut.{ShutsWith};
 
 use crate::unseen::unseen_keys;

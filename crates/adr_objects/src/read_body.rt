@@ -1,10 +1,10 @@
 //! Canonical texts, read back.
-ghost use Rattle.std.specs.Prelude.{◌≡◌, map, codes};
+ghost use Rattle.std.specs.Prelude.{◌≡◌, codes};
 ghost use Rattle.serde_json.specs.View.{view};
 ghost use Rattle.adr_text.specs.Faults.{Finds};
 ghost use Rattle.adr_text.specs.Fields.{member_of, required};
 ghost use Rattle.adr_text.specs.Refusals.{Gives};
-ghost use Rattle.adr_objects.specs.ReadBack.{reason_at, reason_in, names_in, canonical_interval_in, canonical_intervals_in, canonical_event_in, body_from, canonical_in, value_of_text, body_of_text, canonical_of};
+ghost use Rattle.adr_objects.specs.ReadBack.{reason_at, reason_in, names_in, canonical_interval_in, canonical_intervals_in, canonical_event_in, canonical_in, value_of_text, body_of_text, canonical_of};
 
 use crate::body::{Body, EventBody, Reason};
 use crate::interval::{Interval, Intervals};

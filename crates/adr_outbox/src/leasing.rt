@@ -1,6 +1,5 @@
 //! The next entry is leased.
 ghost use Rattle.std.specs.Prelude.{◌≡◌, ◌⊎◌, IfErr};
-ghost use Rattle.std.specs.Option.{option_copied};
 ghost use Rattle.adr_text.specs.declared.refusal.Refusal.TheVariants.{Exhausted};
 ghost use Rattle.adr_text.specs.Refusals.{IsRefusalOf};
 ghost use Rattle.adr_delivery.specs.Deliveries.{leased};

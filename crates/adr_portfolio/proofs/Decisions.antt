@@ -1,8 +1,8 @@
 -- What is decided, where its tests were made.
-use Rattle.std.proofs.Common.{◌≡◌, ◌==◌, ◌&&◌, ℕ, Bool, true, false, cond, not, nat_le, List, length, map, filter, Option, None, Some, Result, Ok, Err, refl, sym, ap, ap₂, subst, ◌∙◌}
+use Rattle.std.proofs.Common.{◌≡◌, ◌==◌, ◌&&◌, ℕ, Bool, true, false, cond, not, nat_le, List, length, map, filter, Option, None, Some, Result, Ok, refl, sym, ap, ap₂, subst, ◌∙◌}
 use Rattle.std.specs.Prelude.{bytes_eq, is_none, is_some, option_and_then, if◌then◌else◌}
 use Rattle.adr_db.proofs.Common.{list_any, at, nat_cmp, share_cmp, number_in, Refusal, Limits, Resource, ShareKey, is_taken, is_taken_by_another, is_full, if_new, if_free}
-use Rattle.adr_text.specs.Refusals.{unless, ◌>>=◌}
+use Rattle.adr_text.specs.Refusals.{◌>>=◌}
 use Rattle.adr_state.specs.declared.portfolio.Portfolio.{Portfolio}
 use Rattle.adr_state.specs.Resources.{resource_with_id, resource_under, is_under}
 use Rattle.adr_state.specs.Shares.{is_beyond}
@@ -33,15 +33,6 @@ module _ {A : Type 0} (made : A) where
     free_tested n shown another is same tested =
         free_made (is_taken_by_another name_of n name rows)
         ∙ ap (λ (r : Result Unit Refusal). r >>= λ u. Ok made) (ap (λ taken. if_free {A = Unit {0}} taken tt) (sym (another_is name_of name rows numbers found n shown another is same)) ∙ sym tested ∙ ends)
-
--- a test passes where what was tested holds, and tells its own refusal where it does not
-pub passed : (own : Refusal) (holds : Bool) (u : Unit {0}) → unless own holds ≡ Ok u → holds ≡ true
-passed own true u h = refl
-passed own false u h = absurd cc
-
-pub stopped : (own : Refusal) (holds : Bool) (e : Refusal) → unless own holds ≡ Err e → (holds ≡ false) × (e ≡ own)
-stopped own true e h = absurd cc
-stopped own false e h = (refl, let it : own ≡ e = cc in sym it)
 
 -- a resource that was found under a ven is there
 pub resource_known : (ven id : List ℕ) (p : Portfolio) (e : ℕ × Resource) → resource_under ven id p ≡ Some e → is_some (at nat_cmp e.0 p.resources) ≡ true

@@ -11,4 +11,4 @@ mod ven;
 pub use participant::participants;
 pub use resource::{resource_add, resource_put, resource_remove};
 pub use share::share_set;
-pub use ven::{ven_add, ven_at, ven_put, ven_remove};
+pub use ven::{ven_add, ven_put, ven_remove};

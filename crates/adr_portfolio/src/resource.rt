@@ -1,5 +1,5 @@
 //! Resources are added to a ven, renamed and removed.
-ghost use Rattle.std.specs.Prelude.{◌≡◌, ◌==◌, ◌&&◌, Some, IfOk, IfErr, [], ◌∷◌, is_some, option_and_then, if◌then◌else◌};
+ghost use Rattle.std.specs.Prelude.{◌≡◌, Some, IfOk, IfErr, [], ◌∷◌, is_some};
 ghost use Rattle.adr_text.specs.declared.refusal.Refusal.TheVariants.{NotFound, Conflict, LimitReached};
 ghost use Rattle.adr_state.specs.Stamping.{modified_at};
 ghost use Rattle.adr_state.specs.Resources.{resource_under, resource_object, resource_add, resource_put, resource_remove};
@@ -10,10 +10,9 @@ ghost use Rattle.adr_portfolio.specs.Found.{found_under};
 
 use crate::found::there;
 use crate::names::is_another_there;
-use crate::ven::ven_at;
 use adr_counted::{add_resource, put_resource, remove_resource};
 use adr_db::Meta;
-use adr_db_portfolio::{read_resource, read_resources_named, read_ven};
+use adr_db_portfolio::{read_resource, read_resources_named, read_ven, ven_at};
 use adr_objects::{Number, ResourceName, ResourceObject};
 use adr_state::{Limits, Resource, check_free, check_new, fresh, modified_at, number_in};
 use adr_text::{Moment, ObjectId, Refusal};

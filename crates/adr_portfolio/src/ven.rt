@@ -1,19 +1,19 @@
 //! Vens are enrolled, renamed and removed.
-ghost use Rattle.std.specs.Prelude.{◌≡◌, [], ◌∷◌, option_map, IfOk, IfErr};
+ghost use Rattle.std.specs.Prelude.{◌≡◌, [], ◌∷◌, IfOk, IfErr};
 ghost use Rattle.adr_text.specs.declared.refusal.Refusal.TheVariants.{NotFound, Conflict, LimitReached};
 ghost use Rattle.adr_state.specs.Stamping.{modified_at};
-ghost use Rattle.adr_state.specs.Vens.{ven_with_id, ven_at, ven_object, ven_add, ven_put, ven_remove};
+ghost use Rattle.adr_state.specs.Vens.{ven_with_id, ven_object, ven_add, ven_put, ven_remove};
 ghost use Rattle.adr_sql.specs.Calls.{LeavesLent};
 ghost use Rattle.adr_db.specs.BaseCalls.{Carries, RefusesOn};
-ghost use Rattle.adr_db.specs.Calls.{Finds, IsOfStore, IsOneOf};
+ghost use Rattle.adr_db.specs.Calls.{IsOneOf};
 
 use crate::found::there;
 use crate::names::is_another_there;
 use adr_counted::{add_ven, put_ven, remove_ven};
 use adr_db::Meta;
-use adr_db_portfolio::{read_ven, read_vens_named};
+use adr_db_portfolio::{read_vens_named, ven_with_id};
 use adr_objects::{Number, VenObject};
-use adr_state::{Limits, Ven, check_free, check_new, fresh, modified_at, number_in};
+use adr_state::{Limits, Ven, check_free, check_new, fresh, modified_at};
 use adr_text::{Moment, Name, ObjectId, Refusal};
 use sqlite::{Alter, Transaction};
 use std::alloc::{AllocError, Global};
@@ -52,50 +52,6 @@ pub fn ven_add<S: Alter>(
     };
     add_ven(alloc, tx, meta, number, &ven)?;
     Ok(shown(number, ven))
-}
-
-// With its number, where it is there.
-fn numbered(number: Number, found: Option<Ven>) -> Option<(Number, Ven)>
-    ensures { result ≡ option_map (λ ven. (number, ven)) found }
-{
-    match found {
-        Some(ven) => Some((number, ven)),
-        None => None,
-    }
-}
-
-// The ven of an id with its number, where it is there.
-fn ven_with_id<S: Alter>(
-    alloc: Global,
-    tx: &mut Transaction<'_, S>,
-    id: &ObjectId,
-) -> Result<Option<(Number, Ven)>, Refusal>
-    ensures lent { LeavesLent S.Store tx.old.conn tx.new.conn result }
-    ensures finds { Finds S.Store tx.old.conn.now tx.new.conn.now (λ kept found. found ≡ ven_with_id id.now kept.portfolio) result }
-    ensures refused { IfErr result IsOfStore }
-{
-    let Some(number) = number_in(b'v', id) else {
-        return Ok(None);
-    };
-    let found = read_ven(alloc, tx, number)?;
-    Ok(numbered(number, found))
-}
-
-/// The number of the ven of an id, where it is there.
-pub fn ven_at<S: Alter>(
-    alloc: Global,
-    tx: &mut Transaction<'_, S>,
-    id: &ObjectId,
-) -> Result<Option<Number>, Refusal>
-    ensures lent { LeavesLent S.Store tx.old.conn tx.new.conn result }
-    ensures finds { Finds S.Store tx.old.conn.now tx.new.conn.now (λ kept ven. ven ≡ ven_at id.now kept.portfolio) result }
-    ensures refused { IfErr result IsOfStore }
-{
-    let Some(number) = number_in(b'v', id) else {
-        return Ok(None);
-    };
-    let ven = read_ven(alloc, tx, number)?;
-    Ok(ven.map(|_| number))
 }
 
 fn renamed(alloc: Global, now: Moment, name: &Name, ven: &Ven) -> Result<Ven, AllocError>

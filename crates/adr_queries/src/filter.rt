@@ -77,7 +77,7 @@ fn has_id(ids: &Rows<ObjectId>, id: &ObjectId) -> bool
 }
 
 /// Whether it is one of the programs, where there are any.
-fn is_of(programs: &Option<Rows<ObjectId>>, program: &ObjectId) -> bool
+pub fn is_of(programs: &Option<Rows<ObjectId>>, program: &ObjectId) -> bool
     ensures { result ≡ is_among_all programs.now program.now }
 {
     match programs {
@@ -139,7 +139,7 @@ pub fn wanted_of(
 }
 
 /// Whether it is one of the clients, where there are any.
-fn is_from(clients: &Option<Rows<Name>>, client: &Name) -> bool
+pub fn is_from(clients: &Option<Rows<Name>>, client: &Name) -> bool
     ensures { result ≡ is_among_all clients.now client.now }
 {
     match clients {
@@ -174,7 +174,7 @@ pub fn wanted_reports(
 }
 
 /// Whether it names one of the programs, where there are any. What is about all programs names none.
-fn is_about(programs: &Option<Rows<ObjectId>>, program: &Option<ObjectId>) -> bool
+pub fn is_about(programs: &Option<Rows<ObjectId>>, program: &Option<ObjectId>) -> bool
     ensures { result ≡ is_about programs.now program.now }
 {
     match (programs, program) {

@@ -21,7 +21,8 @@ mod ven;
 
 pub use answer::{Answer, Object};
 pub use filter::{
-    EventFilter, ReportFilter, TargetFilter, wanted_of, wanted_reports, wanted_subs, wants,
+    EventFilter, ReportFilter, TargetFilter, is_about, is_from, is_of, wanted_of, wanted_reports,
+    wanted_subs, wants,
 };
 pub use frozen::frozen_object;
 pub use page::page_of;

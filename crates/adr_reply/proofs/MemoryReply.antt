@@ -1,5 +1,5 @@
 -- The reply where memory ran out, as bytes.
-use Rattle.std.proofs.Common.{◌≡◌, ℕ, List, codes, refl}
+use Rattle.std.proofs.Common.{◌≡◌, codes, refl}
 use Rattle.std.specs.Fmt.{digits}
 use Rattle.json.specs.Print.{escape_byte}
 use Rattle.adr_text.specs.declared.refusal.Refusal.TheVariants.{OutOfMemory}

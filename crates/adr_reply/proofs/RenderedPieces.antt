@@ -1,5 +1,5 @@
 -- Pieces put one after another.
-use Rattle.std.proofs.Common.{◌≡◌, ℕ, List, [], ◌++◌, sym, ap, ◌∙◌, Some, None, Option, append_assoc, unwrap_or, length, codes, decimal, subst}
+use Rattle.std.proofs.Common.{◌≡◌, ℕ, List, [], ◌++◌, sym, ap, ◌∙◌, Some, None, append_assoc, unwrap_or, length, codes, decimal, subst}
 use Rattle.http.specs.StatusCode.{reason_phrase}
 use Rattle.adr_wire.specs.Written.{line}
 use Rattle.adr_reply.specs.Replies.{phrase}

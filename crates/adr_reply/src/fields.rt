@@ -1,5 +1,5 @@
 //! The fields of a reply, one after another.
-ghost use Rattle.std.specs.Prelude.{◌≡◌, ◌++◌, ◌≤◌, ◌<◌, decimal, IfOk, OnOk, codes};
+ghost use Rattle.std.specs.Prelude.{◌≡◌, ◌++◌, ◌≤◌, ◌<◌, IfOk, OnOk};
 ghost use Rattle.std.specs.List.{flat_map};
 ghost use Rattle.adr_wire.specs.Written.{line};
 ghost use Rattle.adr_reply.specs.Replies.{phrase, start_line, with_method, allow_text, extra_fields};

@@ -22,7 +22,6 @@ use Rattle.adr_db.proofs.Rows.{number_kept, report_columns_kept}
 use Rattle.adr_db.proofs.Tables.{report}
 use Rattle.adr_db_portfolio.proofs.Numbers.{number_passes, numbers_read}
 use Rattle.adr_lent.specs.Selections.{Selects}
-use Rattle.adr_lent.proofs.Queries.{selects}
 use Rattle.adr_report_pages.specs.declared.by_key.TheConstants.{READ_ON}
 use Rattle.adr_lent.specs.Whole.{rows_of_reports}
 use Rattle.adr_report_pages.specs.Columns.{Entry, columns_in_sight, columns_of}

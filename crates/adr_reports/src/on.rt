@@ -1,5 +1,5 @@
 //! The shown event that a report is on, from the tables.
-ghost use Rattle.std.specs.Prelude.{◌≡◌, is_some, option_map, IfOk, IfErr};
+ghost use Rattle.std.specs.Prelude.{◌≡◌, is_some, IfOk, IfErr};
 ghost use Rattle.adr_state.specs.Resources.{resource_with_id};
 ghost use Rattle.adr_state.specs.ShownIds.{resource_named};
 ghost use Rattle.adr_state.specs.Frozen.{frozen_key, frozen_weight};
@@ -10,40 +10,13 @@ ghost use Rattle.adr_db.specs.Calls.{Finds, IsOfStore};
 
 use crate::frozen_share::read_frozen_share;
 use adr_db_mirror::read_known;
-use adr_db_portfolio::{is_frozen, read_resource, read_share, read_ven};
+use adr_db_portfolio::{is_frozen, read_share, read_ven, resource_with_id};
 use adr_objects::{EventBody, Number};
-use adr_state::{FrozenKey, Resource, ShareKey, id_in, id_parts, is_for, number_in};
+use adr_state::{FrozenKey, Resource, ShareKey, id_in, id_parts, is_for};
 use adr_text::{ObjectId, Refusal};
 use adr_view::{Reported, carries, event_body, event_key};
 use sqlite::{Alter, Transaction};
 use std::alloc::{AllocError, Global};
-
-// With its number, where it is there.
-fn numbered(number: Number, found: Option<Resource>) -> Option<(Number, Resource)>
-    ensures { result ≡ option_map (λ resource. (number, resource)) found }
-{
-    match found {
-        Some(resource) => Some((number, resource)),
-        None => None,
-    }
-}
-
-/// The resource of an id with its number, where it is there.
-pub fn resource_with_id<S: Alter>(
-    alloc: Global,
-    tx: &mut Transaction<'_, S>,
-    id: &ObjectId,
-) -> Result<Option<(Number, Resource)>, Refusal>
-    ensures lent { LeavesLent S.Store tx.old.conn tx.new.conn result }
-    ensures finds { Finds S.Store tx.old.conn.now tx.new.conn.now (λ kept found. found ≡ resource_with_id id.now kept.portfolio) result }
-    ensures refused { IfErr result IsOfStore }
-{
-    let Some(number) = number_in(b'r', id) else {
-        return Ok(None);
-    };
-    let found = read_resource(alloc, tx, number)?;
-    Ok(numbered(number, found))
-}
 
 /// The resource whose id the text is, with its number.
 pub fn resource_named<S: Alter>(

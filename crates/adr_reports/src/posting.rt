@@ -1,12 +1,12 @@
 //! Reports are posted, replaced and removed.
-ghost use Rattle.std.specs.Prelude.{◌≡◌, true, is_some, [], ◌∷◌, option_map, Ok, IfErr};
+ghost use Rattle.std.specs.Prelude.{◌≡◌, true, is_some, [], ◌∷◌, Ok, IfErr};
 ghost use Rattle.std.specs.Ordering.{nat_cmp};
 ghost use Rattle.adr_text.specs.Refusals.{or_else};
 ghost use Rattle.adr_text.specs.declared.refusal.Refusal.TheVariants.{Forbidden, NotFound, ResourceNotOfEvent, LimitReached};
 ghost use Rattle.adr_state.specs.Keys.{at};
 ghost use Rattle.adr_view.specs.Reports.{kept_report, report_on, putting_report, report_with_id, report_made, report_post, report_put, report_delete};
 ghost use Rattle.adr_sql.specs.Calls.{LeavesLent};
-ghost use Rattle.adr_db.specs.Calls.{Finds, IsOfStore, IsOneOf};
+ghost use Rattle.adr_db.specs.Calls.{IsOfStore, IsOneOf};
 ghost use Rattle.adr_db.specs.BaseCalls.{Carries, CarriesWhere, Refuses, RefusesOn};
 ghost use Rattle.adr_counted.specs.There.{IsThere};
 ghost use Rattle.adr_reports.specs.Decided.{fitting, FindsOr, put_again, replaced, removed};
@@ -15,9 +15,9 @@ use crate::on::reported;
 use crate::sight::{may_change, may_put, may_report};
 use adr_counted::{add_report, put_report, remove_report};
 use adr_db::Meta;
-use adr_db_portfolio::read_report;
+use adr_db_portfolio::report_with_id;
 use adr_objects::{Number, ReportIn};
-use adr_state::{Limits, Report, number_in};
+use adr_state::{Limits, Report};
 use adr_text::{ObjectId, Refusal};
 use adr_view::{Reported, Sight, fits, kept_report};
 use sqlite::{Alter, Transaction};
@@ -138,33 +138,6 @@ pub fn post<S: Alter>(
     let may = may_report(alloc, tx, sight, report)?;
     Refusal::Forbidden.unless(may)?;
     make(alloc, tx, limits, meta, number, report)
-}
-
-// With its number, where it is there.
-fn numbered(number: Number, found: Option<Report>) -> Option<(Number, Report)>
-    ensures { result ≡ option_map (λ report. (number, report)) found }
-{
-    match found {
-        Some(report) => Some((number, report)),
-        None => None,
-    }
-}
-
-/// The report of an id with its number, where it is there.
-fn report_with_id<S: Alter>(
-    alloc: Global,
-    tx: &mut Transaction<'_, S>,
-    id: &ObjectId,
-) -> Result<Option<(Number, Report)>, Refusal>
-    ensures lent { LeavesLent S.Store tx.old.conn tx.new.conn result }
-    ensures finds { Finds S.Store tx.old.conn.now tx.new.conn.now (λ kept found. found ≡ report_with_id id.now kept.portfolio) result }
-    ensures refused { IfErr result IsOfStore }
-{
-    let Some(number) = number_in(b'p', id) else {
-        return Ok(None);
-    };
-    let found = read_report(alloc, tx, number)?;
-    Ok(numbered(number, found))
 }
 
 /// Puts a report in the place of that of a number.

@@ -1,5 +1,5 @@
 -- The head of a request within the limits.
-use Rattle.std.specs.Prelude.{◌≡◌, ◌⊎◌, ℕ, ◌≤◌, ◌==◌, Bool, List, length, map, drop, codes, option_map, Option, Result, Ok, Err, if◌then◌else◌}
+use Rattle.std.specs.Prelude.{◌≡◌, ◌⊎◌, ℕ, ◌≤◌, ◌==◌, Bool, List, length, map, codes, option_map, Option, Result, Ok, Err, if◌then◌else◌}
 use Rattle.httparse.specs.Spans.{name_and_value, IsRequestWithin, IsRequestOf}
 use Rattle.httparse.specs.Grammar.{RequestHead, print_request, ReadsRequest}
 use Rattle.httparse.specs.declared.spans.HeaderSpan.{HeaderSpan}

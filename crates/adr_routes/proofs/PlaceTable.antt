@@ -8,7 +8,7 @@ use Rattle.matchit.specs.Router.{RouteOf, InsertsRead, nearest, Refused}
 use Rattle.matchit.specs.declared.error.InsertError.{InsertError}
 use Rattle.matchit.specs.declared.error.InsertError.TheVariants.{Conflict, InvalidParam, InvalidParamSegment, InvalidCatchAll, OutOfMemory}
 use Rattle.adr_routes.specs.Paths.{place_in}
-use Rattle.adr_routes.specs.Tables.{row_added, row_of, rows_of_table, route_of, is_free, is_free_of, all_free}
+use Rattle.adr_routes.specs.Tables.{row_of, rows_of_table, route_of, is_free, is_free_of, all_free}
 use Rattle.adr_routes.specs.Places.{entry_of, entries_of, text_of, table}
 use Rattle.adr_routes.specs.declared.place.Place.{Place}
 use Rattle.adr_routes.proofs.Shapes.{both}
@@ -52,11 +52,6 @@ pub one_put : (ps : List Place) (i : ℕ) (d : Place) (old new : RowsOf (RouteOf
 one_put ps i d old new below is put = put ∙ ap (λ rows. row_of rows (entry_of (get_or ps i d))) is ∙ sym (one_more ps i d below)
 
 -- ---- an entry that is free
-
-pub inserted : (s : Result Scan InsertError) (place : Place) (old new : RowsOf (RouteOf Place)) (u : Unit {0})
-    → InsertsRead s place old new (Ok u) → new ≡ row_added old place s
-inserted (Ok s) place old new u h = h.1
-inserted (Err e) place old new u h = h.0
 
 none_near : (p : List ℕ) (rows : RowsOf (RouteOf Place)) (e : InsertError) → is_none (nearest p rows) ≡ true → Refused p rows e → e ≡ OutOfMemory
 none_near p rows OutOfMemory free h = refl

@@ -3,7 +3,7 @@ ghost use Rattle.std.specs.Prelude.{map, Ok};
 ghost use Rattle.serde_json.specs.View.{view};
 ghost use Rattle.adr_text.specs.Faults.{Finds};
 ghost use Rattle.adr_text.specs.Refusals.{Gives};
-ghost use Rattle.adr_schema.specs.Pages.{found_in, founds_and_skipped, page_in, page_of, version_of};
+ghost use Rattle.adr_schema.specs.Pages.{founds_and_skipped, page_in, page_of, version_of};
 
 use crate::read_site::told;
 use crate::read_version::found;

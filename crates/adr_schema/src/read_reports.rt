@@ -1,11 +1,9 @@
 //! Reports of sites, read from JSON: first the shape of all of it, then its numbers.
-ghost use Rattle.std.specs.Prelude.{◌≡◌, ◌≤◌, IfOk, IsTrue, codes, length, map};
+ghost use Rattle.std.specs.Prelude.{◌≡◌, IfOk, codes, map};
 ghost use Rattle.serde_json.specs.View.{view};
 ghost use Rattle.adr_text.specs.Faults.{Finds};
 ghost use Rattle.adr_text.specs.Fields.{member_of, required};
 ghost use Rattle.adr_text.specs.Refusals.{Gives};
-ghost use Rattle.adr_objects.specs.Limits.{most_intervals};
-ghost use Rattle.adr_objects.specs.Intervals.{differ};
 ghost use Rattle.adr_objects.specs.ReadBack.{as_bad_shape};
 ghost use Rattle.adr_schema.specs.Bytes.{bytes_as};
 ghost use Rattle.adr_schema.specs.Reports.{number_in, usage_in, posted_interval_in, posted_intervals_in, resource_of_report, posted_report_in, usage_at, usage_intervals, report_from, report_of};

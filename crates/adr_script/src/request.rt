@@ -1,6 +1,5 @@
 //! What the words of a line ask of the machine.
 ghost use Rattle.std.specs.Prelude.{◌≡◌, unwrap_or};
-ghost use Rattle.std.specs.Option.{option_copied};
 ghost use Rattle.adr_reply.specs.Problems.{Tells};
 ghost use Rattle.adr_script.specs.Requests.{is_method, line_asked, request_of};
 

@@ -1,5 +1,5 @@
 //! One line's turn: it is read, taken as a step on a desk, and answered.
-ghost use Rattle.std.specs.Prelude.{◌≡◌, Ok, Some, ℕ, List, IfOk, OnErr, string_bytes};
+ghost use Rattle.std.specs.Prelude.{◌≡◌, Ok, Some, IfOk, OnErr, string_bytes};
 ghost use Rattle.adr_reply.specs.Problems.{Tells};
 ghost use Rattle.adr_text.specs.declared.refusal.Refusal.TheVariants.{OutOfMemory};
 ghost use Rattle.adr_script.specs.Bodies.{want_by};

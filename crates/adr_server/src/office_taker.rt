@@ -1,5 +1,5 @@
 //! An office that takes what is asked, under its lock.
-ghost use Rattle.std.specs.Prelude.{◌≡◌, ◌≢◌, ◌⊎◌, Ok, Err, IfSome, OnOk};
+ghost use Rattle.std.specs.Prelude.{◌≡◌, Ok, Err, IfSome, OnOk};
 ghost use Rattle.adr_lock.specs.Outcomes.{StepsInOffice, LooksInOffice, TakesOneAtMost};
 ghost use Rattle.adr_http.specs.Takers.{TakesOnce, ServesBy, ServesPartBy};
 ghost use Rattle.adr_http.specs.declared.fault.ServeFault.TheVariants.{Read, Write};
@@ -68,7 +68,7 @@ fn look<D: Desk + Drop, T: Trail<D>, L: Ledger, C: Clock, R: Wait + Log>(
 }
 
 /// Takes what is asked, under the lock. Nothing is asked without it.
-fn take_asked<D: Desk + Drop, T: Trail<D>, L: Ledger, C: Clock, R: Wait + Log>(
+fn ask_office<D: Desk + Drop, T: Trail<D>, L: Ledger, C: Clock, R: Wait + Log>(
     rt: &R,
     office: &Office<D, T, L>,
     clock: &C,
@@ -99,7 +99,7 @@ impl<'a, D: Desk + Drop, T: Trail<D>, L: Ledger, C: Clock, R: Wait + Log> Taker
 
     fn take(&mut self, asked: &Asked) -> Result<Answer, Refusal> {
         tell_asked(self.rt, asked);
-        let outcome = take_asked(self.rt, self.office, self.clock, self.pass, asked);
+        let outcome = ask_office(self.rt, self.office, self.clock, self.pass, asked);
         let _ = halts(self.shared.halt(), &outcome);
         outcome
     }

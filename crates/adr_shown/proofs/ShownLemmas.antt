@@ -1,12 +1,11 @@
 -- The text of a shown event reads back as that event.
-use Rattle.std.proofs.Common.{◌≡◌, ℕ, ℤ, true, false, List, [], ◌∷◌, map, codes, Option, Some, None, option_map, Ok, refl, sym, ap, ◌∙◌, arith, IsTrue}
+use Rattle.std.proofs.Common.{◌≡◌, ℕ, ℤ, true, List, [], ◌∷◌, map, codes, Option, Some, None, option_map, Ok, refl, sym, ap, ◌∙◌, arith, IsTrue}
 use Rattle.std.specs.Prelude.{IfSome, ⊤}
 use Rattle.std.specs.Result.{result_ok}
 use Rattle.std.proofs.lemmas.Option.{same_Some}
 use Rattle.std.proofs.lemmas.List.Elements.{recursion_from_All}
 use Rattle.serde_json.specs.Data.{Data, string}
 use Rattle.serde_json.specs.Find.{get}
-use Rattle.serde_json.specs.Written.{has_float}
 use Rattle.adr_text.specs.Fields.{is_i64, present}
 use Rattle.adr_text.specs.Names.{is_name}
 use Rattle.adr_text.specs.Objects.{array_of, whole_data}
@@ -95,9 +94,6 @@ event_written e h =
     (text_written 5 256 e.name h.name, (maybe_period_written 4 e.period h.period, (intervals_written e h, (string_written 5 (codes "EVENT"), (priority_written 5 e.priority h.priority, (string_written 5 e.program, (targets_written e.ven_name e.resource_name, tt)))))))
 
 -- ---- both
-
-pub shown_whole : (e : ShownEvent) → IsShown e → has_float (shown_data e) ≡ false
-shown_whole e h = (event_written e h).no_float
 
 pub shown_text_reads_back : (e : ShownEvent) → IsShown e → shown_of (shown_text e) ≡ Ok e
 unfolding shown_of shown_text

@@ -1,6 +1,6 @@
 //! Shown events, written token behind token.
-ghost use Rattle.std.specs.Prelude.{◌≡◌, ◌≤◌, ◌∷◌, ◌++◌, [], length, codes, decimal, All, OnOk, IfSome, IsTrue};
-ghost use Rattle.json.specs.Token.{key, number};
+ghost use Rattle.std.specs.Prelude.{◌≡◌, ◌≤◌, length, All, OnOk, IfSome, IsTrue};
+ghost use Rattle.json.specs.Token.{key};
 ghost use Rattle.adr_text.specs.Fields.{is_i64};
 ghost use Rattle.adr_text.specs.Ids.{is_id};
 ghost use Rattle.adr_text.specs.Names.{is_name};

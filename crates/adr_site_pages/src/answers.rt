@@ -16,7 +16,8 @@ ghost use Rattle.adr_site_pages.specs.Sites.{ven_in_sight};
 
 use crate::objects::objects_of;
 use crate::own::{own_subs_page, own_vens_page, resources_page};
-use adr_answers::{sight_in, ven_at};
+use adr_answers::sight_in;
+use adr_db_portfolio::ven_at;
 use adr_objects::Number;
 use adr_queries::{Answer, Page, ReportFilter, Role};
 use adr_text::{ObjectId, Refusal};

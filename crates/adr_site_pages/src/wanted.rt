@@ -1,13 +1,11 @@
 //! Which vens, resources and subscriptions are wanted.
 ghost use Rattle.std.specs.Prelude.{◌≡◌, true};
-ghost use Rattle.adr_queries.specs.Filters.{is_about, is_among, is_among_all};
 ghost use Rattle.adr_site_pages.specs.Sites.{wants_sub};
 
 use adr_lent::Wanting;
 use adr_objects::Number;
-use adr_queries::ReportFilter;
+use adr_queries::{ReportFilter, is_about, is_from};
 use adr_subscription::Sub;
-use adr_text::{Name, ObjectId, Rows};
 
 /// Each is wanted.
 #[derive(Drop)]
@@ -18,39 +16,6 @@ impl<T> Wanting<T> for Every {
 
     fn is_wanted(&self, _value: &T) -> bool {
         true
-    }
-}
-
-fn has_id(ids: &Rows<ObjectId>, id: &ObjectId) -> bool
-    ensures { result ≡ is_among ids.now id.now }
-{
-    ids.as_slice().iter().any(|i| *i == *id)
-}
-
-fn is_named(names: &Rows<Name>, name: &Name) -> bool
-    ensures { result ≡ is_among names.now name.now }
-{
-    names.as_slice().iter().any(|n| *n == *name)
-}
-
-// Whether it names one of the programs, where there are any. What is about all programs names none.
-fn is_about(programs: &Option<Rows<ObjectId>>, program: &Option<ObjectId>) -> bool
-    ensures { result ≡ is_about programs.now program.now }
-{
-    match (programs, program) {
-        (None, _) => true,
-        (Some(programs), Some(program)) => has_id(programs, program),
-        (Some(_), None) => false,
-    }
-}
-
-// Whether it is one of the clients, where there are any.
-fn is_from(clients: &Option<Rows<Name>>, client: &Name) -> bool
-    ensures { result ≡ is_among_all clients.now client.now }
-{
-    match clients {
-        Some(clients) => is_named(clients, client),
-        None => true,
     }
 }
 

@@ -1,10 +1,10 @@
 //! The resources' claims to the units that the quotas leave over, and their order.
-ghost use Rattle.std.specs.Prelude.{◌≡◌, ℕ, ◌+◌, ◌*◌, ◌<◌, ◌≤◌, ◌==◌, length, vec_len, count_by, IfOk};
+ghost use Rattle.std.specs.Prelude.{◌≡◌, ℕ, ◌*◌, ◌<◌, ◌≤◌, ◌==◌, length, vec_len, count_by, IfOk};
 ghost use Rattle.std.specs.Cmp.{partial_order_from_own_ties};
 ghost use Rattle.std.specs.Cmp.Rules.{comparing};
 ghost use Rattle.std.specs.Ordering.{as_partial_cmp};
 ghost use Rattle.std.proofs.Common.{rules};
-ghost use Rattle.adr_split.specs.Limits.{max_setpoint, max_share, max_shares, AreShares};
+ghost use Rattle.adr_split.specs.Limits.{max_setpoint, max_share, AreShares};
 ghost use Rattle.adr_split.specs.Claims.{claim_order, claim_of, claims_of, rank_among};
 
 use std::alloc::{AllocError, Global};

@@ -1,9 +1,9 @@
 -- DELETE in a table to which references point, each ON DELETE CASCADE: the rows that go take along those that point to them, through
 -- any chain of tables, and no other row goes.
-use Rattle.std.proofs.Common.{◌≡◌, ◌≢◌, ◌⊎◌, inl, inr, ℕ, zero, suc, ◌<◌, ℤ, Bool, true, false, not, ◌&&◌, ◌||◌, ◌==◌, cond, List, [], ◌∷◌, ◌++◌, map, filter, drop, length, slice_get, Option, Some, None, Ok, Result, MatchBool, IsTrue, true≢false, refl, sym, ap, ap₂, subst, ◌∙◌, Equal, is_eq, arith, length-append, eqb-true, IsPermutation, fold, ◌+◌}
+use Rattle.std.proofs.Common.{◌≡◌, ◌⊎◌, inl, inr, ℕ, zero, suc, ◌<◌, ℤ, Bool, true, false, not, ◌&&◌, ◌||◌, ◌==◌, cond, List, [], ◌∷◌, ◌++◌, map, filter, drop, length, Option, Some, None, Ok, MatchBool, IsTrue, refl, sym, ap, ap₂, subst, ◌∙◌, Equal, is_eq, arith, eqb-true, ◌+◌}
 use Rattle.std.specs.Prelude.{nat_lt, is_some}
 use Rattle.std.specs.Option.{option_map_or}
-use Rattle.adr_sql.proofs.Common.{AllByRecursion, list_all, list_any, flat_map, filter_map, cons_option, eq-eqb, cases_Bool, both_ways, not-true, and_parts, or_parts, tied_back, tied_itself, Value, Null, Int, Real, Text, Blob, Row, column, value_cmp, Binary, plain, first_key, value_cmp_total, Trees, rowid, has_rowid, IsTable, is_int, filter_same, filter_all, all_of, all-flat_map, all-append, binary, is_null, end as no_join, Enforced, Table, Schema, ParentKey, parent_key, agree, equal, has_null, is_held, Keeps, Has, Given, Work, works, work_for, work_by, deed_for, pairs, loses, is_child_of, AreChildren, action_edit, Acts, ActsOn, Goes, Leads, Writes, max_depth, edit_of, taken_by, row_at, without_all, Applies, all_has, all_from, test_has, some_has, some_from, has_kept, has_filtered, has_got, has_either, has_left, has_right, tied_same, row_at_is, named_parent, without_all_has, int_is, ids_of, Database, IsDatabase, IsSound, State, Executes}
+use Rattle.adr_sql.proofs.Common.{AllByRecursion, list_all, list_any, filter_map, cons_option, eq-eqb, cases_Bool, both_ways, not-true, and_parts, or_parts, tied_itself, Null, Int, Row, column, value_cmp, Binary, plain, first_key, value_cmp_total, Trees, rowid, has_rowid, IsTable, is_int, filter_all, all_of, all-flat_map, all-append, is_null, end as no_join, Enforced, Table, Schema, ParentKey, parent_key, agree, equal, has_null, is_held, Keeps, Has, Given, Work, works, work_for, work_by, deed_for, pairs, loses, is_child_of, AreChildren, ActsOn, Goes, Leads, Writes, max_depth, edit_of, taken_by, row_at, without_all, Applies, all_has, all_from, test_has, some_has, some_from, has_kept, has_filtered, has_got, has_either, has_left, has_right, row_at_is, named_parent, without_all_has, ids_of, Database, IsDatabase, IsSound, State, Executes}
 use Rattle.sqlite_value.proofs.KeyLemmas.{first_key-plain}
 use Rattle.sqlite_schema.specs.declared.schema.Action.{Action}
 use Rattle.sqlite_schema.specs.declared.schema.Action.TheVariants.{Cascade}
@@ -13,7 +13,7 @@ use Rattle.sqlite_rules.specs.declared.action.Deed.TheVariants.{Delete}
 use Rattle.sqlite_rules.proofs.ProbeLemmas.{mapped_has, has_mapped}
 use Rattle.adr_sql.specs.Keys.{has_key}
 use Rattle.adr_sql.specs.Contents.{Contents, Stores, StoresEach, Holds}
-use Rattle.adr_sql.proofs.Keys.{same_bool, equal_is, column_drop, are_full, ties}
+use Rattle.adr_sql.proofs.Keys.{equal_is, column_drop, are_full, ties}
 use Rattle.adr_sql.proofs.Rows.{without_all_is, stores_filter}
 use Rattle.adr_sql.proofs.Places.{IsFound, by_tree, is_tree, bare, stored_is_seen, stores_at}
 use Rattle.adr_sql.proofs.Selections.{equalities, passes_is}

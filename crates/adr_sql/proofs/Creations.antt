@@ -1,6 +1,6 @@
 -- CREATE TABLE, one text after another.
-use Rattle.std.proofs.Common.{◌≡◌, ℕ, false, List, [], ◌∷◌, ◌++◌, fold, None, Ok, Err, inl, inr, sym, ap, subst, ◌∙◌, refl, append_assoc, append-nil}
-use Rattle.adr_sql.proofs.Common.{AllByRecursion, Table, Schema, Database, IsSound, Tally, lacks_sequence, Ghosts, Held, state, State, Executes, ExecutesInside, Error, CreateTable, runs_as, zip_more, map-append}
+use Rattle.std.proofs.Common.{◌≡◌, ℕ, false, List, [], ◌∷◌, ◌++◌, fold, None, Ok, Err, inl, inr, sym, ap, subst, ◌∙◌, append_assoc, append-nil}
+use Rattle.adr_sql.proofs.Common.{AllByRecursion, Table, Schema, Database, IsSound, Tally, lacks_sequence, Ghosts, Held, state, State, Executes, ExecutesInside, Error, CreateTable, runs_as, zip_more}
 use Rattle.sqlite.specs.Change.{created, next_tree}
 use Rattle.sqlite.specs.State.{Writes}
 use Rattle.adr_sql.specs.Contents.{Contents, empty_tables, StoresEach, Holds}

@@ -1,14 +1,13 @@
 -- What a query over known tables answers: for each row of the first, in the order of its key, what is found with it in the others. Its tests may ask
 -- whether another table has a row. A row that names another by its key finds that one at most.
-use Rattle.std.proofs.Common.{◌≡◌, ℕ, zero, suc, min, pos, negsuc, ◌^◌, ◌-◌, Bool, true, false, not, ◌&&◌, ◌||◌, cond, List, [], ◌∷◌, ◌++◌, map, drop, filter, flat_map, length, slice_get, slice_index_or, None, unwrap_or, refl, sym, ap, ap₂, subst, ◌∙◌, Less, IsPermutation, length-append, arith, is_eq, ◌≤◌, Some, append-nil, Ordering, Equal, Greater}
+use Rattle.std.proofs.Common.{◌≡◌, ℕ, zero, suc, min, pos, ◌^◌, ◌-◌, Bool, true, false, not, ◌&&◌, cond, List, [], ◌∷◌, ◌++◌, map, filter, flat_map, length, slice_get, slice_index_or, None, unwrap_or, refl, sym, ap, ap₂, subst, ◌∙◌, Less, IsPermutation, length-append, arith, is_eq, ◌≤◌, Some, append-nil, Ordering, Equal, Greater}
 use Rattle.std.proofs.Math.Dec.{leb}
-use Rattle.adr_sql.proofs.Common.{ordering_then, AllByRecursion, list_all, list_any, and_parts, not-true, length-map, IsPermutation-sym, IsPermutation-trans, length_permutation, Value, Null, Int, Binary, Row, column, value_cmp, rising, ascending, by_key, Trees, IsAscending, map-map, map-flat_map, flat_map-map, ascending-filter, ascending-map, ascending_weaker, all-filter, all_weaker, IsPermutation-same, IsPermutation-flat_map, IsPermutation-flat_map_each, ascending-append, all_of, all-flat_map, all-map, map_back, unary, binary, is_true, Compare, Eq, Term, Env, lit, col, op1, op2, case, eval, eval_all, holds, Query, Join, inner, counted, end, matches, Output, output, output_cmp, key_cmp, IsAnswer, IsSureAnswer, page, overlay, output_cmp_total, key_cmp_shift, Table, Schema, equal, State, Shown, understood, reads_listing, IsPlain as IsPlainText, Select, command_of, reads_as, lookup, is_at}
+use Rattle.adr_sql.proofs.Common.{ordering_then, AllByRecursion, list_all, and_parts, not-true, length-map, IsPermutation-sym, IsPermutation-trans, length_permutation, Value, Null, Int, Binary, Row, column, rising, ascending, by_key, Trees, IsAscending, map-map, map-flat_map, flat_map-map, all_weaker, IsPermutation-same, IsPermutation-flat_map, IsPermutation-flat_map_each, ascending-append, all_of, all-flat_map, all-map, map_back, unary, binary, is_true, Term, Env, lit, col, op1, op2, case, eval, eval_all, holds, Query, Join, inner, counted, end, matches, Output, output, output_cmp, key_cmp, IsAnswer, page, overlay, output_cmp_total, key_cmp_shift, Table, Schema, State, Shown, understood, reads_listing, IsPlain as IsPlainText, Select, command_of, reads_as, lookup, is_at}
 use Rattle.sqlite_value.specs.declared.keys.Key.{Key}
 use Rattle.sqlite_keyed.proofs.SortLemmas.{sorted_unique}
-use Rattle.sqlite_sql.specs.declared.ops.UnaryOp.TheVariants.{Not}
-use Rattle.adr_sql.specs.Keys.{cells, key_order, has_key, rows_at}
+use Rattle.adr_sql.specs.Keys.{cells, key_order}
 use Rattle.adr_sql.specs.Contents.{Contents, rows_of_table, Holds}
-use Rattle.adr_sql.proofs.Keys.{then_eq, equal_is, column_drop, are_full}
+use Rattle.adr_sql.proofs.Keys.{column_drop}
 use Rattle.adr_sql.proofs.Places.{by_tree, is_tree, bare, seen, stored_is_seen, by_tree_is, stores_at, IsFound}
 use Rattle.std.specs.Option.{option_map_or}
 

@@ -1,6 +1,6 @@
 -- The tests that SQL makes of keys are those of `has_key`.
-use Rattle.std.proofs.Common.{◌≡◌, inl, inr, ℕ, zero, suc, Bool, true, false, not, ◌&&◌, List, [], ◌∷◌, map, drop, Some, refl, sym, ap, ap₂, ◌∙◌, Ordering, Less, Equal, Greater, is_eq}
-use Rattle.adr_sql.proofs.Common.{ordering_reverse, ordering_then, both_ways, false_from_ne_true, and_parts, not-true, Value, Null, Int, Real, Text, Blob, Binary, Row, column, value_cmp, rising, plain, first_key, value_cmp_total, binary, is_null, is_true, from_truth, key_cmp, equal, agree, Has}
+use Rattle.std.proofs.Common.{◌≡◌, ℕ, zero, suc, Bool, true, false, not, ◌&&◌, List, [], ◌∷◌, drop, Some, refl, sym, ap, ap₂, ◌∙◌, Ordering, Less, Equal, Greater, is_eq}
+use Rattle.adr_sql.proofs.Common.{ordering_reverse, ordering_then, both_ways, false_from_ne_true, and_parts, not-true, Value, Null, Int, Real, Text, Blob, Binary, Row, column, value_cmp, rising, plain, first_key, value_cmp_total, binary, is_null, is_true, from_truth, key_cmp, equal, agree}
 use Rattle.sqlite_value.proofs.KeyLemmas.{first_key-plain}
 use Rattle.adr_sql.specs.Keys.{has_key}
 

@@ -1,5 +1,5 @@
 -- One table among the others.
-use Rattle.std.proofs.Common.{◌≡◌, ◌≢◌, ℕ, zero, suc, Bool, true, false, not, ◌&&◌, ◌||◌, ◌==◌, cond, List, [], ◌∷◌, ◌++◌, map, drop, length, slice_get, Some, refl, sym, ap, subst, ◌∙◌, eqb-true, IsPermutation}
+use Rattle.std.proofs.Common.{◌≡◌, ◌≢◌, ℕ, zero, suc, Bool, true, false, not, ◌&&◌, ◌||◌, ◌==◌, cond, List, [], ◌∷◌, map, drop, length, slice_get, Some, refl, sym, ap, subst, ◌∙◌, eqb-true, IsPermutation}
 use Rattle.adr_sql.proofs.Common.{AllByRecursion, list_all, list_any, and_parts, both_ways, eq-eqb, not-true, IsPermutation-refl, IsPermutation-sym, IsPermutation-map, IsPermutation-trans, Null, Row, Trees, map-map, all_both, IsPermutation-same, all_from_test, Table, Schema}
 use Rattle.adr_sql.specs.Contents.{Contents, rows_of_table, with_table, Stores, StoresEach}
 

@@ -1,6 +1,6 @@
 -- DELETE of the rows that pass, in a table to which no reference points. Its tests may ask whether another table has a row.
-use Rattle.std.proofs.Common.{◌≡◌, ℕ, zero, ℤ, pos, negsuc, min, Bool, true, false, not, List, [], ◌∷◌, ◌++◌, map, filter, flat_map, drop, length, None, Ok, IsTrue, refl, sym, ap, subst, ◌∙◌, Equal, is_eq, IsPermutation}
-use Rattle.adr_sql.proofs.Common.{AllByRecursion, list_all, list_any, and_parts, tied_itself, length-map, IsPermutation-map, IsPermutation-sym, Contains-permutation, length_permutation, Null, Int, Row, column, value_cmp, value_cmp_total, Trees, rowid, has_rowid, IsTable, is_int, filter_same, map-map, Enforced, Table, Schema, Given, Has, ids_of, Edit, edit_of, taken_by, id_in, without_all, Writes, all_from, all_has, has_filtered, has_kept, has_contained, contains_had, some_has, some_from, int_is, tied_same, Term, Env, col, holds, Query, Join, counted, end, matches, Output, output, IsAnswer, IsSureAnswer, overlay, Database, IsDatabase, IsSound, Tally, Does, AtPlace, OnRows, State, mode_of, Executes, understood, IsPlain as IsPlainText, Delete, one_step, runs_as, command_of, statement_of}
+use Rattle.std.proofs.Common.{◌≡◌, ℕ, zero, ℤ, pos, min, Bool, true, false, not, List, [], ◌∷◌, ◌++◌, map, filter, drop, length, None, Ok, IsTrue, refl, sym, ap, subst, ◌∙◌, is_eq, IsPermutation}
+use Rattle.adr_sql.proofs.Common.{AllByRecursion, list_all, list_any, and_parts, tied_itself, length-map, IsPermutation-map, IsPermutation-sym, Contains-permutation, length_permutation, Null, Int, Row, column, value_cmp, value_cmp_total, Trees, rowid, has_rowid, IsTable, is_int, filter_same, map-map, Enforced, Table, Schema, Given, Has, ids_of, Edit, edit_of, taken_by, id_in, without_all, Writes, all_from, all_has, has_filtered, has_kept, has_contained, contains_had, some_has, some_from, int_is, tied_same, Term, Env, col, holds, Query, Join, counted, end, matches, Output, output, IsSureAnswer, overlay, Database, IsDatabase, IsSound, Tally, Does, AtPlace, OnRows, State, mode_of, Executes, understood, IsPlain as IsPlainText, Delete, one_step, runs_as, command_of, statement_of}
 use Rattle.sqlite_rules.proofs.ProbeLemmas.{mapped_has, has_mapped}
 use Rattle.sqlite.specs.Rows.{Task, Written}
 use Rattle.adr_sql.specs.Keys.{rows_without}

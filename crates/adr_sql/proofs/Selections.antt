@@ -1,15 +1,13 @@
 -- What a query over one table answers: the rows that pass, in the order of the key. Its tests may ask whether another table has a row.
-use Rattle.std.proofs.Common.{◌≡◌, ℕ, zero, suc, min, pos, negsuc, ◌^◌, ◌-◌, Bool, true, false, not, ◌&&◌, ◌||◌, cond, List, [], ◌∷◌, ◌++◌, map, drop, filter, flat_map, length, slice_get, slice_index_or, None, unwrap_or, refl, sym, ap, ap₂, subst, ◌∙◌, Less, IsPermutation, length-append, arith, is_eq, ◌≤◌, ◌==◌}
-use Rattle.std.proofs.Math.Dec.{leb}
-use Rattle.adr_sql.proofs.Common.{ordering_then, AllByRecursion, list_all, list_any, and_parts, not-true, ne_eqb, length-map, IsPermutation-sym, IsPermutation-trans, length_permutation, Value, Null, Int, Binary, Row, column, value_cmp, rising, ascending, by_key, Trees, IsAscending, map-map, map-flat_map, flat_map-map, ascending-filter, ascending-map, ascending_weaker, all-filter, all_weaker, IsPermutation-same, IsPermutation-flat_map, IsPermutation-flat_map_each, all_of, unary, binary, is_true, Compare, Eq, Term, Env, lit, col, op1, op2, case, eval, eval_all, holds, Query, Join, inner, counted, end, matches, Output, output, output_cmp, key_cmp, IsAnswer, IsSureAnswer, page, overlay, output_cmp_total, key_cmp_shift, Table, Schema, equal, State, Shown, understood, reads_listing, IsPlain as IsPlainText, Select, command_of, reads_as, none_counted}
+use Rattle.std.proofs.Common.{◌≡◌, ℕ, zero, suc, min, pos, negsuc, ◌-◌, Bool, true, false, not, ◌&&◌, cond, List, [], ◌∷◌, ◌++◌, map, drop, filter, flat_map, length, slice_index_or, None, refl, sym, ap, ap₂, subst, ◌∙◌, IsPermutation, arith, is_eq, ◌≤◌, ◌==◌}
+use Rattle.adr_sql.proofs.Common.{AllByRecursion, list_all, list_any, and_parts, not-true, ne_eqb, length-map, Null, Int, Binary, Row, column, value_cmp, rising, Trees, map-map, map-flat_map, flat_map-map, all-filter, all_weaker, all_of, unary, is_true, Compare, Eq, Term, Env, lit, col, op2, eval, eval_all, holds, Query, Join, inner, counted, end, matches, Output, output, key_cmp, IsAnswer, IsSureAnswer, page, overlay, Table, Schema, equal, State, Shown, none_counted}
 use Rattle.sqlite_value.specs.declared.keys.Key.{Key}
-use Rattle.sqlite_keyed.proofs.SortLemmas.{sorted_unique}
 use Rattle.sqlite_sql.specs.declared.ops.UnaryOp.TheVariants.{Not}
-use Rattle.adr_sql.specs.Keys.{cells, key_order, has_key, rows_at}
+use Rattle.adr_sql.specs.Keys.{cells, has_key, rows_at}
 use Rattle.adr_sql.specs.Contents.{Contents, rows_of_table, Holds}
 use Rattle.adr_sql.proofs.Keys.{then_eq, equal_is, column_drop, are_full}
-use Rattle.adr_sql.proofs.Places.{by_tree, is_tree, bare, seen, stored_is_seen, by_tree_is, stores_at, IsFound}
-use Rattle.adr_sql.proofs.Joins.{columns_from, order_from, shown_cells, cells_whole, fair, IsSelectText, with_row, join_runs, overlay_none}
+use Rattle.adr_sql.proofs.Places.{by_tree, seen, stores_at, IsFound}
+use Rattle.adr_sql.proofs.Joins.{columns_from, order_from, shown_cells, cells_whole, IsSelectText, with_row, join_runs, overlay_none}
 
 -- ---- one table, and what its tests count of others
 

@@ -1,7 +1,7 @@
 -- INSERT .. ON CONFLICT (key) DO UPDATE SET of every column: the row that has the key is written anew where it stands, and no row goes.
 -- The table may have other unique keys, and references may point to it, where none of them is ON UPDATE something.
-use Rattle.std.proofs.Common.{◌≡◌, ◌≤◌, inl, inr, ℕ, suc, ℤ, Bool, true, false, not, ◌&&◌, ◌||◌, cond, List, [], ◌∷◌, ◌++◌, map, filter, flat_map, drop, length, Some, None, Option, Ok, Result, MatchBool, is_lt, int_cmp, ◌/◌, refl, sym, ap, ap₂, subst, ◌∙◌, arith, is_eq, IsPermutation, Less}
-use Rattle.adr_sql.proofs.Common.{AllByRecursion, list_any, and_parts, not-true, false_from_ne_true, tied_itself, tied_back, length-map, length_permutation, Null, Int, Binary, Row, value_cmp, plain, value_cmp_total, Trees, rowid, put_row, IsAscending, filter_all, filter_same, filter-map, ascending-filter, IsPermutation-filter, map-map, Compare, Eq, Term, col, op2, eval_all, holds, Query, Output, output, inner, end, matches, IsAnswer, IsSureAnswer, overlay, Enforced, Table, Schema, guards, agree, equal, Chosen, Above, Given, Has, ids_of, cast_row, Edit, edit_of, taken_by, id_in, with_rowid, next_rowid, without_all, is_taken, all_from, all_has, has_kept, has_filtered, int_is, tied_same, Database, IsSound, value_rows, Tally, Does, AtPlace, OnRows, State, mode_of, Executes, understood, IsPlain as IsPlainText, InsertOr, Error, one_step, runs_as, command_of, statement_of, one_permutation}
+use Rattle.std.proofs.Common.{◌≡◌, ◌≤◌, inl, inr, ℕ, suc, ℤ, Bool, true, false, not, ◌&&◌, ◌||◌, cond, List, [], ◌∷◌, ◌++◌, map, filter, drop, length, Some, None, Option, Ok, Result, MatchBool, is_lt, int_cmp, ◌/◌, refl, sym, ap, ap₂, subst, ◌∙◌, arith, is_eq, IsPermutation, Less}
+use Rattle.adr_sql.proofs.Common.{AllByRecursion, list_any, and_parts, not-true, false_from_ne_true, tied_itself, tied_back, length-map, length_permutation, Null, Int, Binary, Row, value_cmp, plain, value_cmp_total, Trees, rowid, put_row, IsAscending, filter_all, filter_same, filter-map, ascending-filter, IsPermutation-filter, Compare, Eq, Term, col, op2, eval_all, holds, Query, Output, end, Enforced, Table, Schema, guards, agree, equal, Chosen, Above, Given, Has, ids_of, cast_row, Edit, edit_of, taken_by, id_in, with_rowid, next_rowid, without_all, is_taken, all_from, all_has, has_kept, has_filtered, int_is, tied_same, Database, IsSound, value_rows, Tally, Does, AtPlace, OnRows, State, mode_of, Executes, understood, IsPlain as IsPlainText, InsertOr, Error, one_step, runs_as, command_of, statement_of, one_permutation}
 use Rattle.std.specs.Prelude.{bytes_eq}
 use Rattle.sqlite_schema.specs.declared.schema.Index.{Index}
 use Rattle.sqlite_schema.specs.declared.command.Conflict.TheVariants.{Abort}

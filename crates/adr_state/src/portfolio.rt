@@ -5,7 +5,7 @@ ghost use Rattle.std.specs.Ordering.{nat_cmp};
 ghost use Rattle.std.specs.Option.{option_copied};
 ghost use Rattle.std.specs.Map.{remove_entry};
 ghost use Rattle.std.specs.BTreeMap.{is_at, insert_entry};
-ghost use Rattle.adr_state.specs.Weights.{is_weight, weight_of, most_weight, most_resources};
+ghost use Rattle.adr_state.specs.Weights.{is_weight, weight_of, most_resources};
 ghost use Rattle.adr_state.specs.Keys.{at};
 ghost use Rattle.adr_state.specs.Portfolios.{nobody, is_of_ven, is_sub_of, without_ven, without_resource};
 

@@ -4,5 +4,5 @@
 mod found;
 mod posting;
 
-pub use found::{in_sight, sub_with_id};
+pub use found::in_sight;
 pub use posting::{delete, post, put};

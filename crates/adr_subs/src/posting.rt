@@ -12,9 +12,10 @@ ghost use Rattle.adr_db.specs.BaseCalls.{Carries, CarriesWhere, RefusesOn};
 ghost use Rattle.adr_counted.specs.There.{IsThere};
 ghost use Rattle.adr_subs.specs.Found.{made, replaced, removed};
 
-use crate::found::{in_sight, sub_with_id};
+use crate::found::in_sight;
 use adr_counted::{add_sub, put_sub, remove_sub};
 use adr_db::Meta;
+use adr_db_portfolio::sub_with_id;
 use adr_objects::Number;
 use adr_state::{Limits, fresh, modified_at};
 use adr_subscription::{Sub, SubIn, SubObject};

@@ -1,6 +1,6 @@
 //! The items of a subscription, each of which says of what it wants to be told, and where.
 ghost use Rattle.std.specs.Prelude.{◌≡◌, option_map, IfOk};
-ghost use Rattle.std.specs.List.{find, list_any};
+ghost use Rattle.std.specs.List.{find};
 ghost use Rattle.adr_subscription.specs.Matching.{has_kind, has_operation, asks_for, item_for};
 
 use crate::bounded::Bounded;

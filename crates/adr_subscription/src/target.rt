@@ -1,6 +1,5 @@
 //! The targets of a subscription, which narrow the events that it is told of.
 ghost use Rattle.std.specs.Prelude.{◌≡◌, IfOk};
-ghost use Rattle.std.specs.List.{list_any};
 ghost use Rattle.adr_subscription.specs.Matching.{has_value, names, one_names, none_or_one_names, is_targeted};
 
 use crate::bounded::Bounded;

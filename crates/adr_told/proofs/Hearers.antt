@@ -1,16 +1,13 @@
 -- Of what is of one ven no other ven hears.
-use Rattle.std.proofs.Common.{◌≡◌, ℕ, Bool, true, false, cond, List, [], ◌∷◌, map, filter, Option, None, Some, refl, sym, ap, subst, ◌∙◌, arith}
-use Rattle.std.specs.Prelude.{◌==◌, ◌&&◌, ◌||◌}
+use Rattle.std.proofs.Common.{◌≡◌, ℕ, Bool, true, false, cond, List, [], ◌∷◌, filter, Option, None, Some, refl, sym, ap, subst, ◌∙◌, arith}
+use Rattle.std.specs.Prelude.{◌==◌, ◌&&◌}
 use Rattle.std.specs.List.{cons_option, filter_map}
 use Rattle.std.specs.Option.{option_map_or}
 use Rattle.std.proofs.lemmas.Bool.{eqb-true}
 use Rattle.adr_subscription.specs.declared.kept_sub.Sub.{Sub}
-use Rattle.adr_subscription.specs.Matching.{item_for}
-use Rattle.adr_delivery.specs.declared.entry.Entry.{Entry}
-use Rattle.adr_view.specs.declared.view.Content.{Content}
 use Rattle.adr_view.specs.declared.view.Content.TheVariants as content
 use Rattle.adr_notices.specs.declared.notice.Notice.{Notice}
-use Rattle.adr_notices.specs.Matching.{is_about, is_for_all, is_in_sight, is_meant, entry_by, entry_for, entries_of}
+use Rattle.adr_notices.specs.Matching.{is_about, is_for_all, is_in_sight, entry_for, entries_of}
 use Rattle.adr_kept_view.specs.declared.object.ObjectChange.{ObjectChange}
 use Rattle.adr_kept_view.specs.declared.object.ObjectKey.{ObjectKey}
 use Rattle.adr_kept_view.specs.declared.object.ObjectKey.TheVariants as object

@@ -1,16 +1,13 @@
 -- The events and reports that are touched, from the programs and the resources that were found.
-use Rattle.std.proofs.Common.{◌≡◌, ℕ, true, false, List, filter, Option, None, Some, refl, ap, ◌∙◌, eq-eqb}
-use Rattle.std.specs.Prelude.{◌==◌, bytes_eq, is_some, option_map, option_to_list}
+use Rattle.std.proofs.Common.{◌≡◌, ℕ, true, false, List, filter, Option, None, Some, refl, ◌∙◌, eq-eqb}
+use Rattle.std.specs.Prelude.{◌==◌, bytes_eq, is_some}
 use Rattle.adr_state.specs.declared.keys.ShareKey.{ShareKey}
 use Rattle.adr_state.specs.declared.portfolio.Portfolio.{Portfolio}
-use Rattle.adr_state.specs.declared.portfolio.Report.{Report}
 use Rattle.adr_state.specs.declared.portfolio.Resource.{Resource}
 use Rattle.adr_state.specs.Portfolios.{is_of_ven}
-use Rattle.adr_refresh.specs.Touched.{shares_in, one_shares, event_reported}
+use Rattle.adr_refresh.specs.Touched.{shares_in, one_shares}
 use Rattle.adr_refresh.proofs.Common.{Contains-from_lookup, at, bytes_eq-Decides, exact_unsigned, list_any, nat_cmp, option_map_or, share_cmp, share_exact, tells_apart}
 use Rattle.adr_view.proofs.ListLemmas.{in_filter, in_map}
-use Rattle.adr_db.specs.declared.report_columns.ReportColumns.{ReportColumns}
-use Rattle.adr_db.proofs.Reports.{columns_of}
 use Rattle.adr_touched.specs.Answers.{programs_of, resources_of}
 use Rattle.adr_touched.proofs.Gathered.{any_passing, any_there}
 
@@ -44,11 +41,3 @@ module _ (p : Portfolio) where
           let there = Contains-from_lookup (tells_apart exact_unsigned) m r p.resources found in
           let mine = in_filter (λ r. r.1.ven == ven) p.resources (m, r) h there in
           any_there (λ n. m == n) (resources_of ven p) m (in_map (λ r. r.0) (filter (λ r. r.1.ven == ven) p.resources) (m, r) mine) (eq-eqb m m refl)
-
-  -- the event of a report is that of the columns that were found
-  pub event_there : (n : ℕ) (found : Option ReportColumns) → found ≡ option_map (λ report. (columns_of (n, report)).1) (at nat_cmp n p.reports) → option_to_list (option_map (λ (columns : ReportColumns). columns.head.event) found) ≡ event_reported p n
-  event_there n found is = ap (λ (o : Option ReportColumns). option_to_list (option_map (λ (columns : ReportColumns). columns.head.event) o)) is ∙ by (at nat_cmp n p.reports)
-    where
-      by : (there : Option Report) → option_to_list (option_map (λ (columns : ReportColumns). columns.head.event) (option_map (λ report. (columns_of (n, report)).1) there)) ≡ option_to_list (option_map (λ (r : Report). r.body.head.event) there)
-      by None = refl
-      by (Some r) = refl

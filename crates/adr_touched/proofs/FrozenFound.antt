@@ -1,5 +1,5 @@
 -- The events in which shares are frozen, as they are gathered from answers.
-use Rattle.std.proofs.Common.{◌≡◌, inl, inr, ℕ, Bool, true, false, not, cond, List, [], ◌∷◌, ◌++◌, map, filter, Option, None, Some, refl, sym, ap, subst, ◌∙◌}
+use Rattle.std.proofs.Common.{◌≡◌, inl, inr, ℕ, Bool, true, false, not, cond, List, [], ◌∷◌, ◌++◌, map, filter, None, Some, refl, sym, ap, subst, ◌∙◌}
 use Rattle.std.specs.Prelude.{◌==◌, ◌&&◌}
 use Rattle.std.proofs.lemmas.List.Elements.{Contains-append_cases, All-contains, All-contains_itself, All-filter, filter_passes}
 use Rattle.std.proofs.Common.{eq-eqb, eqb-true}
@@ -10,7 +10,7 @@ use Rattle.adr_state.specs.declared.portfolio.Resource.{Resource}
 use Rattle.adr_state.specs.Frozen.{is_frozen}
 use Rattle.adr_view.specs.Rollups.{event_key}
 use Rattle.adr_view.proofs.ListLemmas.{in_map, in_filter}
-use Rattle.adr_refresh.specs.Touched.{has_resource, not_frozen, events_frozen_in}
+use Rattle.adr_refresh.specs.Touched.{has_resource, not_frozen}
 use Rattle.adr_refresh.proofs.Common.{Contains, Contains-append_left, Contains-append_right, filter_map, cons_option, list_any}
 use Rattle.adr_db.proofs.Common.{map-map, same_bool}
 use Rattle.adr_touched.specs.Answers.{HasEvents, resources_of, frozen_by}

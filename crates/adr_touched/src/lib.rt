@@ -24,5 +24,5 @@ pub use by_share::touched_by_share;
 pub use by_ven::{touched_as_ven_goes, touched_by_ven};
 pub use events::{events_by_share, events_of_program, events_of_resource, events_of_ven};
 pub use programs::programs_of_resource;
-pub use reports::{event_of_report, reports_of_ven};
+pub use reports::reports_of_ven;
 pub use touched::Touched;

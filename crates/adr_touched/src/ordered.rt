@@ -1,5 +1,5 @@
 //! Items in their order, each once.
-ghost use Rattle.std.specs.Prelude.{◌≡◌, option_to_list, IfOk};
+ghost use Rattle.std.specs.Prelude.{◌≡◌, IfOk};
 ghost use Rattle.std.specs.List.{filter_map};
 ghost use Rattle.std.specs.Ordering.{is_eq};
 ghost use Rattle.adr_state.specs.Keys.{kind_cmp};

@@ -1,15 +1,15 @@
-//! The reports that go with a ven, and the event of a report.
-ghost use Rattle.std.specs.Prelude.{◌≡◌, ◌==◌, option_to_list, IfErr};
+//! The reports that go with a ven.
+ghost use Rattle.std.specs.Prelude.{◌==◌, IfErr};
 ghost use Rattle.std.specs.List.{list_any};
 ghost use Rattle.adr_sql.specs.Calls.{LeavesLent};
 ghost use Rattle.adr_state.specs.Portfolios.{is_of_ven};
-ghost use Rattle.adr_refresh.specs.Touched.{reports_by, event_reported};
+ghost use Rattle.adr_refresh.specs.Touched.{reports_by};
 ghost use Rattle.adr_db.specs.Calls.{Finds, IsOfStore};
 ghost use Rattle.adr_touched.specs.Answers.{HasEach};
 
-use adr_db_portfolio::{read_columns, read_reports_on, read_resources_of};
+use adr_db_portfolio::{read_reports_on, read_resources_of};
 use adr_objects::Number;
-use adr_text::{ObjectId, Refusal, Rows};
+use adr_text::{Refusal, Rows};
 use sqlite::{Alter, Transaction};
 use std::alloc::Global;
 
@@ -43,21 +43,4 @@ pub fn reports_of_ven<S: Alter>(
 {
     let resources = read_resources_of(alloc, tx, ven)?;
     reports_of_resources(alloc, tx, resources)
-}
-
-/// The event that the report of a number is on, where there is one. Its intervals are not read.
-pub fn event_of_report<S: Alter>(
-    alloc: Global,
-    tx: &mut Transaction<'_, S>,
-    report: Number,
-) -> Result<Option<ObjectId>, Refusal>
-    ensures lent { LeavesLent S.Store tx.old.conn tx.new.conn result }
-    ensures finds { Finds S.Store tx.old.conn.now tx.new.conn.now (λ kept found. option_to_list found ≡ event_reported kept.portfolio report) result }
-    ensures refused { IfErr result IsOfStore }
-{
-    let found = read_columns(alloc, tx, report)?;
-    match found {
-        Some(columns) => Ok(Some(columns.head.event.copy(alloc)?)),
-        None => Ok(None),
-    }
 }

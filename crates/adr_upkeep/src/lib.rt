@@ -14,6 +14,7 @@ mod stamps;
 mod turn;
 
 pub use events::{refresh, refresh_sharing};
-pub use objects::refresh_object;
+pub use objects::{content_now, refresh_object, ven_now};
+pub use rolled_up::rollup;
 pub use rollups::{refresh_rollup, refresh_rollup_sharing};
 pub use shown_rows::shown;

@@ -73,7 +73,7 @@ fn report_now<S: Alter>(
 }
 
 /// What is shown of a program or of a report.
-pub(crate) fn content_now<S: Alter>(
+pub fn content_now<S: Alter>(
     alloc: Global,
     tx: &mut Transaction<'_, S>,
     key: &ObjectKey,
@@ -89,7 +89,7 @@ pub(crate) fn content_now<S: Alter>(
 }
 
 /// The ven that owns the resource of a report, where the resource is there.
-pub(crate) fn ven_now<S: Alter>(
+pub fn ven_now<S: Alter>(
     alloc: Global,
     tx: &mut Transaction<'_, S>,
     content: &Content,

@@ -1,9 +1,9 @@
 //! The roll-up of an upstream event, of whose program those who share may be known.
 ghost use Rattle.std.specs.Prelude.{◌≡◌, map, IfOk, IfErr};
 ghost use Rattle.adr_sql.specs.Calls.{LeavesLent};
-ghost use Rattle.adr_db.specs.Calls.{IsOfStore};
+ghost use Rattle.adr_db.specs.Calls.{Finds, IsOfStore};
+ghost use Rattle.adr_db_portfolio.specs.KnownSharers.{FindsOf};
 ghost use Rattle.adr_view.specs.Rollups.{rollup_of, rollup_at};
-ghost use Rattle.adr_upkeep.specs.Sharing.{FindsSharing};
 
 use adr_db_mirror::read_known;
 use adr_db_portfolio::{Sharers, read_reports_of};
@@ -34,7 +34,7 @@ fn event_rollup<S: Alter>(
     event: &EventBody,
 ) -> Result<Option<Rollup>, Refusal>
     ensures lent { LeavesLent S.Store tx.old.conn tx.new.conn result }
-    ensures finds { FindsSharing S.Store tx.old.conn.now tx.new.conn.now sharers.old sharers.new (λ base rollup. rollup ≡ rollup_of base.portfolio id.now event.now) result }
+    ensures finds { FindsOf S.Store tx.old.conn.now tx.new.conn.now sharers.old sharers.new (λ kept rollup. rollup ≡ rollup_of kept.portfolio id.now event.now) result }
     ensures refused { IfErr result IsOfStore }
 {
     let ps = sharers.participants(alloc, tx, id, event)?;
@@ -52,7 +52,7 @@ pub(crate) fn rollup_by<S: Alter>(
     event: &ObjectId,
 ) -> Result<Option<Rollup>, Refusal>
     ensures lent { LeavesLent S.Store tx.old.conn tx.new.conn result }
-    ensures finds { FindsSharing S.Store tx.old.conn.now tx.new.conn.now sharers.old sharers.new (λ base rollup. rollup ≡ rollup_at base.mirror base.portfolio event.now) result }
+    ensures finds { FindsOf S.Store tx.old.conn.now tx.new.conn.now sharers.old sharers.new (λ kept rollup. rollup ≡ rollup_at kept.mirror kept.portfolio event.now) result }
     ensures refused { IfErr result IsOfStore }
 {
     let key = event_key(event)?;
@@ -61,4 +61,23 @@ pub(crate) fn rollup_by<S: Alter>(
         Some(body) => event_rollup(alloc, tx, sharers, event, body),
         None => Ok(None),
     }
+}
+
+/// The roll-up of an upstream event over its participants: for each interval that carries a setpoint the
+/// sum of the latest values, in the utility's unit, and the names of those that have none. There is one
+/// where the event is live, its body was read, and a participant has a value in such an interval. It costs
+/// a look-up of a resource and a ven for each share in the event's program, or for each that is kept for
+/// the event where it is frozen, and one of its intervals for each report on the event; no report on
+/// another event is read.
+pub fn rollup<S: Alter>(
+    alloc: Global,
+    tx: &mut Transaction<'_, S>,
+    event: &ObjectId,
+) -> Result<Option<Rollup>, Refusal>
+    ensures lent { LeavesLent S.Store tx.old.conn tx.new.conn result }
+    ensures finds { Finds S.Store tx.old.conn.now tx.new.conn.now (λ kept rollup. rollup ≡ rollup_at kept.mirror kept.portfolio event.now) result }
+    ensures refused { IfErr result IsOfStore }
+{
+    let mut sharers = Sharers::none(alloc);
+    rollup_by(alloc, tx, &mut sharers, event)
 }

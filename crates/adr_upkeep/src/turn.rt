@@ -4,8 +4,8 @@ ghost use Rattle.std.specs.Prelude.{◌≡◌, Ok, None, Some, IfOk, IfErr, IfSo
 ghost use Rattle.std.specs.Option.{option_copied};
 ghost use Rattle.adr_state.specs.declared.keys.ViewKey.TheVariants as key;
 ghost use Rattle.adr_sql.specs.Calls.{LeavesLent};
-ghost use Rattle.adr_db.specs.Kept.{with_shown, without_shown, with_stamps, without_stamps};
-ghost use Rattle.adr_db.specs.Calls.{LeavesKept, Turns, IsOfStore};
+ghost use Rattle.adr_db.specs.Kept.{with_shown, with_stamps};
+ghost use Rattle.adr_db.specs.Calls.{Turns, IsOfStore};
 ghost use Rattle.adr_shown.specs.ShownTexts.{shown_text};
 ghost use Rattle.adr_shown.specs.ReadShown.{shown_of};
 ghost use Rattle.adr_kept_view.specs.Columns.{columns_of};

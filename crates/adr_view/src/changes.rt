@@ -1,8 +1,7 @@
 //! The changes between two views, and the stamps after them.
 ghost use Rattle.std.specs.Prelude.{◌≡◌, IfOk};
 ghost use Rattle.std.specs.Option.{option_copied};
-ghost use Rattle.adr_state.specs.Keys.{view_cmp, at};
-ghost use Rattle.adr_view.specs.Changes.{both_keys, is_change_to_go, change_by, changes, stamps_by, stamps_for, restamped};
+ghost use Rattle.adr_view.specs.Changes.{both_keys, is_change_to_go, change_by, changes, stamps_by, restamped};
 
 use crate::same::is_same_content;
 use crate::view::{Content, View};

@@ -1,9 +1,9 @@
 //! What is shown of an upstream key.
-ghost use Rattle.std.specs.Prelude.{◌≡◌, ◌≤◌, [], ◌∷◌, map, length, slice_get, option_and_then, IfOk, OnOk};
+ghost use Rattle.std.specs.Prelude.{◌≡◌, ◌≤◌, map, length, slice_get, option_and_then, IfOk, OnOk};
 ghost use Rattle.std.specs.List.{enumerate_from};
 ghost use Rattle.adr_state.specs.Weights.{most_resources};
 ghost use Rattle.adr_state.specs.Keys.{view_cmp, with_rows};
-ghost use Rattle.adr_view.specs.Views.{interval_at, event_row, rows_for, carries, event_rows, program_rows, body_rows, mark_rows};
+ghost use Rattle.adr_view.specs.Views.{interval_at, event_row, rows_for, carries, event_rows, program_rows, mark_rows};
 
 use crate::parts::{SplitInterval, split_intervals, weights_of};
 use crate::view_map::put_row;

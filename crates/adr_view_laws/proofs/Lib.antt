@@ -1,4 +1,3 @@
-mod Rooms
 mod LimitLemmas
 mod IdLemmas
 mod KeptIdLemmas

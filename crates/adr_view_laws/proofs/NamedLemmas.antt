@@ -12,8 +12,8 @@ use Rattle.adr_machine.specs.Steps.{answered_by, committed, delivery_step, edit_
 use Rattle.adr_machine.specs.Steps.{changed as restamped_by}
 use Rattle.adr_machine.proofs.EditLemmas.{first_then, whatever}
 use Rattle.adr_laws.proofs.Common.{Base, BaseChange, Command, Refusal, SetScan, Settings, State, changed, step_at}
-use Rattle.adr_view_laws.specs.KeptReports.{NamesReport}
-use Rattle.adr_view_laws.proofs.Rooms.{ChangesAsNamed, IsFit, decided_room}
+use Rattle.adr_machine.specs.Named.{NamesReport}
+use Rattle.adr_machine.proofs.Rooms.{ChangesAsNamed, IsFit, decided_room}
 
 -- the portfolio after a command is that after such a change
 abbrev pub IsChangedAsNamed : State → Command → Base → Type 0

@@ -23,9 +23,10 @@ use Rattle.adr_laws.specs.Entries.{reached}
 use Rattle.adr_laws.proofs.Common.{Base, BaseChange, ChangePortfolio, Command, Contains, Contains-from_lookup, IsDistinct-from_sorted, JoinMarks, SetScan, State, at, changed, empty, eq_by_cmp_equiv, exact_unsigned, false_from_ne_true, false≢true, insert_entry, is_at, keys_of, nat_cmp, nat_cmp_total, state_after, step_at, tells_apart, unsigned_tied}
 use Rattle.adr_laws.proofs.PortfolioLemmas.{rows_in_order, whole_after}
 use Rattle.adr_laws.proofs.RunLemmas.{state_of-push}
-use Rattle.adr_view_laws.specs.KeptReports.{NamesReport, ReportsStay}
+use Rattle.adr_machine.specs.Named.{NamesReport}
+use Rattle.adr_view_laws.specs.KeptReports.{ReportsStay}
 use Rattle.adr_view_laws.proofs.NamedLemmas.{IsChangedAsNamed, step_named}
-use Rattle.adr_view_laws.proofs.Rooms.{ChangesAsNamed, PutsAsNamed}
+use Rattle.adr_machine.proofs.Rooms.{ChangesAsNamed, PutsAsNamed}
 
 -- ---- rows of numbers
 

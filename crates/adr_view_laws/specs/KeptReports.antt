@@ -3,19 +3,12 @@ use Rattle.std.specs.Prelude.{◌≡◌, ℕ, List, [], ◌∷◌, ◌++◌, Som
 use Rattle.std.specs.Ordering.{nat_cmp}
 use Rattle.adr_state.specs.declared.limits.Settings.{Settings}
 use Rattle.adr_state.specs.declared.portfolio.Report.{Report}
-use Rattle.adr_state.specs.Digits.{number_in}
 use Rattle.adr_state.specs.Keys.{at}
 use Rattle.adr_state.specs.Portfolios.{reported_on}
 use Rattle.adr_machine.specs.declared.command.Command.{Command}
-use Rattle.adr_machine.specs.declared.command.Command.TheVariants.{ReportPut, ReportDelete}
+use Rattle.adr_machine.specs.Named.{NamesReport}
 use Rattle.adr_laws.specs.Entries.{reached}
 use Rattle.adr_laws.specs.Reported.{reports_after}
-
--- a command names the report of a number: it replaces or removes the one of an id that is read as that number
-abbrev pub NamesReport : Command → ℕ → Type 0
-NamesReport (ReportPut role id report) n = number_in 112 id ≡ Some n
-NamesReport (ReportDelete role id) n = number_in 112 id ≡ Some n
-NamesReport _ n = ⊥
 
 -- after a run the resource that a report is on is there
 abbrev pub HasItsResource : Settings → List (ℕ × Command) → ℕ × Report → Type 0

@@ -1,5 +1,5 @@
 -- Subscriptions are read where a visit is, and further entries come.
-use Rattle.std.proofs.Common.{◌≡◌, inl, inr, ℕ, List, ◌++◌}
+use Rattle.std.proofs.Common.{inl, inr, ℕ, List, ◌++◌}
 use Rattle.sqlite.specs.State.{State}
 use Rattle.adr_delivery.specs.declared.entry.Entry.{Entry}
 use Rattle.adr_delivery.specs.declared.outbox.Outbox.{Outbox}

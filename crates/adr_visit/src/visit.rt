@@ -1,5 +1,5 @@
 //! Where a visit is.
-ghost use Rattle.std.specs.Prelude.{◌≡◌, ◌⊎◌, ◌+◌, [], IfOk, IfErr};
+ghost use Rattle.std.specs.Prelude.{◌≡◌, ◌⊎◌, ◌+◌, IfOk, IfErr};
 ghost use Rattle.adr_text.specs.declared.refusal.Refusal.TheVariants.{Exhausted, OutboxFull};
 ghost use Rattle.adr_db.specs.Kept.{Kept};
 ghost use Rattle.adr_db.specs.Calls.{IsOfStore};

@@ -1,10 +1,9 @@
 -- What stands at the front of bytes.
-use Rattle.std.proofs.Common.{◌≡◌, ℕ, ◌≤◌, List, [], ◌∷◌, ◌++◌, length, map, take, refl, sym, ◌∙◌, ap, subst, arith, Option, None, Some, length-take}
+use Rattle.std.proofs.Common.{◌≡◌, ℕ, ◌≤◌, List, [], ◌∷◌, ◌++◌, length, map, take, refl, sym, ◌∙◌, ap, arith, length-take}
 use Rattle.std.proofs.lemmas.List.{length-map}
 use Rattle.httparse.specs.Grammar.{Field}
 use Rattle.httparse.specs.Spans.{AreFieldsAt, header_bytes, name_and_value}
 use Rattle.httparse.specs.declared.spans.HeaderSpan.{HeaderSpan}
-use Rattle.adr_wire.specs.Pieces.{Holds}
 
 -- a shorter front of the same bytes is a front of the longer one
 pub front_of : (p a x y : List ℕ) → a ++ x ≡ p ++ y → length p ≤ length a → (m : List ℕ) × (a ≡ p ++ m)
@@ -26,8 +25,3 @@ few_fields bytes headers count fields room are =
     let same = same_length (header_bytes bytes) name_and_value (take count headers) fields are in
     let taken = length-take count headers in
     omega (arith, same, taken)
-
--- what holds whatever follows the bytes ahead holds of all the bytes
-pub whatever_follows : (P : List ℕ → Type 0) (left : Option (List ℕ)) (ahead bytes : List ℕ) → ((more : List ℕ) → P (ahead ++ more)) → Holds left ahead bytes → P bytes
-whatever_follows P None ahead bytes always holds = elim holds [ ]
-whatever_follows P (Some left) ahead bytes always holds = subst P (sym holds) (always left)

@@ -1,5 +1,5 @@
 -- Codings, the last one first.
-use Rattle.std.proofs.Common.{◌≡◌, ℕ, ◌+◌, ◌<◌, List, [], ◌∷◌, ◌++◌, length, map, reverse, refl, sym, ap, ◌∙◌, arith, Bool, true, false, length-append}
+use Rattle.std.proofs.Common.{◌≡◌, ℕ, ◌+◌, ◌<◌, List, [], ◌∷◌, ◌++◌, length, map, reverse, refl, sym, ap, ◌∙◌, arith, true, false}
 use Rattle.std.proofs.lemmas.List.{map_push, reverse-append, length-reverse, length-map}
 use Rattle.std.specs.Borrow.{Bor}
 use Rattle.adr_wire.specs.Codings.{is_chunked}

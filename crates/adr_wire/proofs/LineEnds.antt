@@ -3,7 +3,7 @@ use Rattle.std.proofs.Common.{◌≡◌, ◌⊎◌, inl, inr, ℕ, ◌+◌, ◌-
 use Rattle.std.specs.List.{flat_map, list_any}
 use Rattle.std.proofs.lemmas.Bool.Decides.{nat_tests, leb_tells}
 use Rattle.std.proofs.lemmas.List.{get_or-append-add, drop-append-le, take-append-drop, length-take}
-use Rattle.httparse.specs.Grammar.{LineEnd, crlf, lf, print_end, Field, print_field, print_section, ChunkLine, print_chunk_line, print_extension, ReadsChunkLine}
+use Rattle.httparse.specs.Grammar.{LineEnd, crlf, lf, print_end, Field, print_field, print_section, ChunkLine, print_chunk_line, print_extension}
 use Rattle.adr_wire.specs.Lines.{has_line_end, begins_line, before_return, is_empty_line_at}
 use Rattle.adr_wire.specs.Chunks.{LineAt, HasNoLine, TrailersAt, HasNoTrailers}
 use Rattle.adr_wire.proofs.Fronts.{front_of}

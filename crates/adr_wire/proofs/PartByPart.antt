@@ -1,10 +1,10 @@
 -- The parts of bytes, part by part.
-use Rattle.std.proofs.Common.{◌≡◌, ℕ, suc, ◌+◌, ◌<◌, ◌≤◌, ◌==◌, Bool, true, false, not, cond, refl, List, [], ◌∷◌, ◌++◌, length, take, drop, sym, ap, ◌∙◌, arith, nat_lt, Option, Some, None}
+use Rattle.std.proofs.Common.{◌≡◌, ℕ, suc, ◌+◌, ◌<◌, ◌≤◌, ◌==◌, Bool, true, false, cond, refl, List, [], ◌∷◌, ◌++◌, length, take, drop, sym, ap, ◌∙◌, arith, nat_lt, Option, Some, None}
 use Rattle.std.proofs.lemmas.Bool.Decides.{nat_tests}
 use Rattle.std.proofs.Common.{map, append_assoc}
 use Rattle.std.proofs.lemmas.List.{map_push}
 use Rattle.std.specs.Borrow.{Bor}
-use Rattle.std.specs.List.{prefix_len, position, position_or_len, slice_split, onto_first}
+use Rattle.std.specs.List.{position_or_len}
 use Rattle.adr_wire.specs.Cuts.{cut_at, cut, parts}
 
 -- the first part, and those behind it

@@ -2,7 +2,7 @@
 use Rattle.std.proofs.Common.{◌≡◌, ℕ, ◌≤◌, List, ◌++◌, length, drop, refl, sym, subst, arith, Option, None, Some}
 use Rattle.httparse.specs.Grammar.{Field, LineEnd, print_section, ReadsSection, HasNoSection}
 use Rattle.httparse.specs.declared.spans.HeaderSpan.{HeaderSpan}
-use Rattle.httparse.specs.Spans.{IsSectionAt, IsSectionWithin, IsSectionOf, SectionOverflows}
+use Rattle.httparse.specs.Spans.{IsSectionWithin, IsSectionOf, SectionOverflows}
 use Rattle.httparse.proofs.GrammarLemmas.{ReadsSection-append}
 use Rattle.adr_wire.specs.Pieces.{Holds}
 use Rattle.adr_wire.specs.Chunks.{TrailersAt, HasNoTrailers, TrailersFound}

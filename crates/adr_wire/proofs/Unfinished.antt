@@ -2,7 +2,7 @@
 use Rattle.std.proofs.Common.{◌≡◌, ℕ, ◌+◌, ◌<◌, ◌≤◌, List, [], ◌++◌, length, take, drop, refl, sym, ◌∙◌, ap, subst, arith, Option, None, Some, Result, Ok, Err, append_assoc, drop_of_length-le}
 use Rattle.std.proofs.lemmas.Bool.Decides.{nat_tests}
 use Rattle.std.proofs.lemmas.List.{take-append-drop, drop-append-le}
-use Rattle.httparse.specs.Grammar.{ChunkLine, print_chunk_line, chunk_size, Field, LineEnd}
+use Rattle.httparse.specs.Grammar.{ChunkLine, print_chunk_line, chunk_size}
 use Rattle.adr_wire.specs.declared.end.MessageFault.{MessageFault}
 use Rattle.adr_wire.specs.declared.end.MessageFault.TheVariants.{Malformed}
 use Rattle.adr_wire.specs.Pieces.{Holds}
@@ -19,9 +19,6 @@ came_behind (Some left) bytes front now came all held = all ∙ ap (λ z. front 
 -- a whole body behind such a front has what remains of it whole
 abbrev pub Remains : ℕ → ℕ → List ℕ → Type 0
 Remains limit got front = (tail content : List ℕ) → IsChunks limit 0 (front ++ tail) (Ok content) → (rest : List ℕ) × IsChunks limit got tail (Ok rest)
-
-pub all_remains : (limit : ℕ) → Remains limit 0 []
-all_remains limit = λ tail content is. (content, is)
 
 no_ok : {A : Type 0} {X : Type 0} (f : MessageFault) (x : X) → ◌≡◌ {A = Result X MessageFault} (Err f) (Ok x) → A
 no_ok f x e = absurd cc

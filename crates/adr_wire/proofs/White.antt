@@ -1,6 +1,6 @@
 -- White space at the ends of bytes.
-use Rattle.std.proofs.Common.{◌≡◌, ℕ, suc, ◌+◌, ◌-◌, ◌<◌, ◌≤◌, Bool, true, false, refl, List, [], ◌∷◌, ◌++◌, length, get_or, take, drop, reverse, sym, ap, ◌∙◌, arith, drop-cons}
-use Rattle.std.proofs.lemmas.List.{take_more, take_all, drop_all, reverse-append, reverse-reverse}
+use Rattle.std.proofs.Common.{◌≡◌, ℕ, suc, ◌+◌, ◌-◌, ◌<◌, ◌≤◌, true, false, refl, List, [], ◌∷◌, length, get_or, take, drop, reverse, sym, ap, ◌∙◌, arith, drop-cons}
+use Rattle.std.proofs.lemmas.List.{take_more, drop_all, reverse-append, reverse-reverse}
 use Rattle.httparse.specs.Grammar.{is_ows, skip_ows}
 
 -- the first byte that is none ends the white space in front

@@ -1,5 +1,5 @@
 -- The codings of a body.
-use Rattle.std.specs.Prelude.{ℕ, Bool, List, [], ◌∷◌, ◌==◌, length, codes, if◌then◌else◌}
+use Rattle.std.specs.Prelude.{ℕ, Bool, List, [], ◌∷◌, codes}
 use Rattle.std.specs.List.{flat_map}
 use Rattle.httparse.specs.Grammar.{trim_ows}
 use Rattle.adr_wire.specs.Cuts.{parts}

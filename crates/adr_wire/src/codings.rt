@@ -2,7 +2,7 @@
 ghost use Rattle.std.specs.Prelude.{◌≡◌, ◌++◌, map, reverse, IfOk, OnOk};
 ghost use Rattle.std.specs.List.{flat_map};
 ghost use Rattle.httparse.specs.Grammar.{is_ows, skip_ows, trim_ows};
-ghost use Rattle.adr_wire.specs.Codings.{codings, codings_of, coding_in_part};
+ghost use Rattle.adr_wire.specs.Codings.{codings, coding_in_part};
 
 use crate::cuts::parts;
 use std::alloc::{AllocError, Global};

@@ -85,16 +85,6 @@ probed_cut u before after after' was is is' keys key rest all refusal r p are g 
       };
     }
 
-pub probed_all : (u : UpstreamParts) (before after : List Exchange) (was is : Memory) (keys all : List MirrorKey)
-    → Probed u before after was is keys → keys ≡ all → Goes before after was is (IsProbing u all (Ok tt))
-probed_all u before after was is keys all p are = record {
-  asked = probes_asked u p.probes;
-  told = p.told;
-  exchanges = p.exchanges;
-  memory = p.memory;
-  holds = record { probes = p.probes; asked_is = refl; tells = (p.commands, p.keys_are ∙ are) };
-}
-
 -- ---- one request
 
 -- nothing was told

@@ -10,9 +10,9 @@ use Rattle.adr_work.specs.declared.page.PollEnd.{PollEnd}
 use Rattle.adr_work.specs.declared.page.PollEnd.TheVariants.{Whole, Broken}
 use Rattle.adr_work.specs.Exchanges.{Came, Exchange}
 use Rattle.adr_work.specs.Pages.{most_pages, pages_asked, pages_told, pages_end}
-use Rattle.adr_work.specs.Probes.{Probe, probes_asked, keys_in}
+use Rattle.adr_work.specs.Probes.{Probe, probes_asked}
 use Rattle.adr_work.specs.Tellings.{Memory, Told, commands_of, with_told}
-use Rattle.adr_work.specs.Rounds.{Goes, TellsPages, IsPaging, TellsBoth, IsListing, IsProbing, IsEnding, IsRound, both_asked}
+use Rattle.adr_work.specs.Rounds.{Goes, TellsPages, IsPaging, TellsBoth, IsListing, IsEnding, IsRound, both_asked}
 use Rattle.adr_work.proofs.Behind.{behind}
 use Rattle.adr_work.proofs.Memories.{when_err, with_none, heard}
 
@@ -91,33 +91,6 @@ ended_cut u before was is r same err = record {
   holds = when_err (λ x. IsEnding u x [] []) r err (λ e. record { probes = []; asked_is = refl; tells = (ScanEnd ∷ [], refl) });
 }
 
-end_tells : (u : UpstreamParts) (asked : List Exchange) (missed : Answer) (ended : List Told) (r : Result (Unit {0}) Refusal)
-    → IsProbing u (keys_in missed) r asked ended → IsEnding u r asked ((ScanEnd, missed) ∷ ended)
-end_tells u asked missed ended (Ok ok) p = record {
-  missed = missed;
-  probes = p.probes;
-  ended = ended;
-  asked_is = p.asked_is;
-  told_is = refl;
-  keys_are = p.tells.1;
-  ended_is = p.tells.0;
-}
-end_tells u asked missed ended (Err refusal) p = record {
-  probes = p.probes;
-  asked_is = p.asked_is;
-  tells = (p.tells.0.0, ap (λ xs. ScanEnd ∷ xs) p.tells.0.1);
-}
-
-pub ended_next : (u : UpstreamParts) (before after : List Exchange) (was is is' : Memory) (missed : Answer) (r : Result (Unit {0}) Refusal)
-    → is ≡ with_told was ((ScanEnd, missed) ∷ []) → Goes before after is is' (IsProbing u (keys_in missed) r) → Goes before after was is' (IsEnding u r)
-ended_next u before after was is is' missed r first g = record {
-  asked = g.asked;
-  told = (ScanEnd, missed) ∷ g.told;
-  exchanges = g.exchanges;
-  memory = heard was is is' ((ScanEnd, missed) ∷ []) g.told first g.memory;
-  holds = end_tells u g.asked missed g.told r g.holds;
-}
-
 -- ---- the round
 
 pub round_cut : (u : UpstreamParts) (before : List Exchange) (was is : Memory) (r : Result PollEnd Refusal) → is ≡ was → IsErr r → Goes before before was is (IsRound u r)
@@ -127,8 +100,7 @@ round_cut u before was is r same err = record {
   exchanges = sym (append-nil before);
   memory = same ∙ sym (with_none was);
   holds =
-      when_err (λ x. IsRound u x [] []) r err
-      (λ e. record { programs = []; events = []; probes = []; asked_is = refl; told_is = (ScanBegin ∷ ScanEnd ∷ [], refl) });
+      when_err (λ x. IsRound u x [] []) r err (λ e. inl (record { programs = []; events = []; asked_is = refl; told_is = (ScanBegin ∷ [], refl) }));
 }
 
 module _ (u : UpstreamParts) (before after : List Exchange) (was is is' : Memory) (begun : Answer) (first : is ≡ with_told was ((ScanBegin, begun) ∷ [])) where
@@ -144,16 +116,8 @@ module _ (u : UpstreamParts) (before after : List Exchange) (was is is' : Memory
         told = opening ++ g.told;
         exchanges = g.exchanges;
         memory = heard was is is' opening g.told first g.memory;
-        holds = when_err (λ x. IsRound u x g.asked (opening ++ g.told)) r err (λ e. record {
-          programs = programs;
-          events = events;
-          probes = [];
-          asked_is = g.holds.asked_is ∙ sym (append-nil (both_asked u programs events));
-          told_is = (
-            rest.0 ++ ScanEnd ∷ [],
-            ap (λ xs. (ScanBegin ∷ xs) ++ ScanEnd ∷ []) rest.1 ∙ append_assoc (ScanBegin ∷ commands_of g.told) rest.0 (ScanEnd ∷ []),
-          );
-        });
+        holds = when_err (λ x. IsRound u x g.asked (opening ++ g.told)) r err (λ e.
+            inl (record { programs = programs; events = events; asked_is = g.holds.asked_is; told_is = (rest.0, ap (λ xs. ScanBegin ∷ xs) rest.1) }));
       }
 
   pub round_broken : Goes before after is is' (IsListing u (Ok Broken)) → Goes before after was is' (IsRound u (Ok Broken))
@@ -188,17 +152,18 @@ module _ (u : UpstreamParts) (before after : List Exchange) (was is is' : Memory
           told = scanned ++ e.told;
           exchanges = behind before g.asked e.asked g.exchanges e.exchanges refl;
           memory = heard_all e.told e.memory;
-          holds = when_err (λ x. IsRound u x (g.asked ++ e.asked) (scanned ++ e.told)) r err (λ _. record {
+          holds = when_err (λ x. IsRound u x (g.asked ++ e.asked) (scanned ++ e.told)) r err (λ _. inr (record {
             programs = g.holds.programs;
             events = g.holds.events;
             probes = e.holds.probes;
             asked_is = asked_all e.asked e.holds.probes e.holds.asked_is;
+            pages_are = g.holds.tells.1;
             told_is = (
               rest.0,
               ap₂ (λ xs ys. (ScanBegin ∷ xs) ++ ys) (sym g.holds.tells.0) rest.1
                   ∙ sym (append_assoc (commands_of scanned) (commands_of e.told) rest.0) ∙ ap (λ xs. xs ++ rest.0) (sym (told_both scanned e.told)),
             );
-          });
+          }));
         }
 
     pub round_whole : Goes after after' is' is'' (IsEnding u (Ok tt)) → Goes before after' was is'' (IsRound u (Ok Whole))

@@ -54,8 +54,3 @@ rounds_more u before between after first some last r s t =
       exchanges = behind before _ t.asked s.exchanges t.exchanges (one_more asked_in s.rounds round);
       steps = behind (accepted first) _ t.told s.steps t.steps (one_more told_in s.rounds round);
     }
-
--- the same, by other names
-pub rounds_same : (u : UpstreamParts) (before after other : List Exchange) (first last more : List Step) → TakesRounds u before after first last → other ≡ after → more ≡ last → TakesRounds u before other first more
-rounds_same u before after other first last more s is are =
-    record { rounds = s.rounds; each = s.each; exchanges = is ∙ s.exchanges; steps = ap accepted are ∙ s.steps }

@@ -1,5 +1,5 @@
 -- How long the poller rests behind a round, in seconds.
-use Rattle.std.specs.Prelude.{◌≡◌, ◌+◌, ℕ, nat_le, Result, Ok, Err, if◌then◌else◌}
+use Rattle.std.specs.Prelude.{◌+◌, ℕ, nat_le, Result, Ok, Err, if◌then◌else◌}
 use Rattle.adr_text.specs.declared.refusal.Refusal.{Refusal}
 use Rattle.adr_work.specs.declared.page.PollEnd.{PollEnd}
 use Rattle.adr_work.specs.declared.page.PollEnd.TheVariants.{Whole, Broken}

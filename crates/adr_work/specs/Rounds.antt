@@ -154,16 +154,24 @@ pub record IsBrokenRound (u : UpstreamParts) (asked : List Exchange) (told : Lis
   pub told_is : commands_of told ≡ ScanBegin ∷ both_told programs events
   pub pages_are : BothEnd programs events Broken
 
--- a round that a refusal ended: the first of what came stands for was told
-pub record IsRefusedRound (u : UpstreamParts) (asked : List Exchange) (told : List Told) : Type 0 where
+-- a round that a refusal ended among the pages: the first of what these stand for was told, and the scan was not ended
+pub record IsCutListing (u : UpstreamParts) (asked : List Exchange) (told : List Told) : Type 0 where
+  pub programs : List Came
+  pub events : List Came
+  pub asked_is : asked ≡ both_asked u programs events
+  pub told_is : AreFirstOf (commands_of told) (ScanBegin ∷ both_told programs events)
+
+-- a round that a refusal ended behind all pages: the first of what a whole round tells was told
+pub record IsCutRound (u : UpstreamParts) (asked : List Exchange) (told : List Told) : Type 0 where
   pub programs : List Came
   pub events : List Came
   pub probes : List Probe
   pub asked_is : asked ≡ both_asked u programs events ++ probes_asked u probes
+  pub pages_are : BothEnd programs events Whole
   pub told_is : AreFirstOf (commands_of told) (ScanBegin ∷ both_told programs events ++ ScanEnd ∷ probes_told probes)
 
--- a round by how it ended: it saw all pages, or it did not, or a refusal ended it
+-- a round by how it ended: it saw all pages, or it did not, or a refusal ended it; the scan is ended behind all pages alone
 abbrev pub IsRound : UpstreamParts → Result PollEnd Refusal → List Exchange → List Told → Type 0
 IsRound u (Ok Whole) asked told = IsWholeRound u asked told
 IsRound u (Ok Broken) asked told = IsBrokenRound u asked told
-IsRound u (Err refusal) asked told = IsRefusedRound u asked told
+IsRound u (Err refusal) asked told = IsCutListing u asked told ⊎ IsCutRound u asked told

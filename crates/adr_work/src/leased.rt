@@ -1,6 +1,5 @@
 //! The job that a lease was answered with.
 ghost use Rattle.std.specs.Prelude.{◌≡◌, IfOk};
-ghost use Rattle.std.specs.Option.{option_copied};
 ghost use Rattle.adr_work.specs.Leased.{job_in};
 
 use adr_delivery::Job;

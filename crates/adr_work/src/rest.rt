@@ -1,5 +1,5 @@
 //! How long the poller rests behind a round.
-ghost use Rattle.std.specs.Prelude.{◌≡◌, ◌+◌, ◌≤◌};
+ghost use Rattle.std.specs.Prelude.{◌≡◌, ◌+◌};
 ghost use Rattle.adr_work.specs.Rests.{up_to, first, rest_behind, rests_after};
 
 use crate::page::PollEnd;

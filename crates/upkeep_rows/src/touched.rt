@@ -1,12 +1,10 @@
 //! What an edit touches, asked before it.
 use crate::edit::Edit;
-use adr_db_portfolio::read_reports_on;
+use adr_db_portfolio::{read_columns, read_reports_on};
 use adr_objects::{Kind, Number, ReportIn};
 use adr_state::{MirrorKey, id_parts};
 use adr_text::{ObjectId, Refusal};
-use adr_touched::{
-    event_of_report, events_of_program, events_of_resource, events_of_ven, reports_of_ven,
-};
+use adr_touched::{events_of_program, events_of_resource, events_of_ven, reports_of_ven};
 use sqlite::{Alter, Transaction};
 use std::alloc::{AllocError, Global};
 use std::collections::BTreeSet;
@@ -123,10 +121,10 @@ fn add_old_report<S: Alter>(
     report: Number,
 ) -> Result<(), Refusal> {
     touched.add_report(report)?;
-    let Some(event) = event_of_report(alloc, tx, report)? else {
+    let Some(columns) = read_columns(alloc, tx, report)? else {
         return Ok(());
     };
-    Ok(touched.add_event(event)?)
+    Ok(touched.add_event(columns.head.event.copy(alloc)?)?)
 }
 
 // The upstream event that a new report is on.

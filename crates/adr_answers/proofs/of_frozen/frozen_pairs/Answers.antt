@@ -1,7 +1,6 @@
 use Rattle.std.proofs.Common.{Bool, true, false, cond, Ok, Err, sym, ap, ◌∙◌, arith}
 use Rattle.adr_db.proofs.Common.{state, HasCleanDisk}
 use Rattle.adr_db.proofs.Results.{ok_then}
-use Rattle.adr_text.specs.declared.refusal.Refusal.{Refusal}
 use Rattle.adr_text.specs.declared.refusal.Refusal.TheVariants.{NotFound}
 use Rattle.adr_state.specs.Frozen.{pairs_kept}
 use Rattle.adr_answers.proofs.of_frozen.frozen_pairs.Goals as goal

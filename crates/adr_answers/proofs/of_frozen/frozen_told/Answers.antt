@@ -1,10 +1,9 @@
 use Rattle.std.proofs.Common.{List, ℕ, Result, Ok, sym, ap, ◌∙◌}
 use Rattle.adr_text.specs.Refusals.{◌>>=◌}
 use Rattle.adr_text.specs.declared.refusal.Refusal.{Refusal}
-use Rattle.adr_db.proofs.Results.{handed_on}
+use Rattle.adr_db.proofs.Results.{handed_on, then_refused}
 use Rattle.adr_queries.specs.declared.answer.Answer.TheVariants as answer
 use Rattle.adr_queries.specs.Frozen.{frozen_object}
-use Rattle.adr_answers.proofs.Behind.{then_refused}
 use Rattle.adr_answers.proofs.of_frozen.frozen_told.Goals as goal
 
 pub returns-in_err-pairs-clause-refuses : goal.returns-in_err-pairs-clause-refuses

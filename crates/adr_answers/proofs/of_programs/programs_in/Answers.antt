@@ -1,4 +1,3 @@
-use Rattle.std.proofs.Common.{sym}
 use Rattle.adr_answers.specs.Told.{program_in}
 use Rattle.adr_answers.proofs.KeyLemmas.{pushed}
 use Rattle.adr_answers.proofs.of_programs.programs_in.Goals as goal

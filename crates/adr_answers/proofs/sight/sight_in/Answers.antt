@@ -1,12 +1,11 @@
 use Rattle.std.proofs.Common.{◌≡◌, refl, sym, ap, ◌∙◌}
 use Rattle.adr_state.specs.declared.base.Base.{Base}
 use Rattle.adr_db.specs.Images.{image_kept}
-use Rattle.adr_db.proofs.Results.{refused_so}
+use Rattle.adr_db.proofs.Results.{refused_so, found_so, refused_then}
 use Rattle.adr_queries.specs.declared.role.Role.{Role}
 use Rattle.adr_queries.specs.declared.role.Role.TheVariants.{Operator, Ven, Utility}
 use Rattle.adr_queries.specs.Roles.{sight_of}
 use Rattle.adr_answers.specs.Sights.{ven_of, sight_with}
-use Rattle.adr_answers.proofs.Behind.{found_so, refused_then}
 use Rattle.adr_answers.proofs.sight.sight_in.Goals as goal
 
 -- it goes by its ven alone

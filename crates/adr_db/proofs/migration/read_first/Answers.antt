@@ -1,6 +1,5 @@
-use Rattle.std.proofs.Common.{◌≡◌, List, [], ◌∷◌, take, subst}
+use Rattle.std.proofs.Common.{List, [], ◌∷◌, take, subst}
 use Rattle.adr_db.proofs.Common.{AllZip, Row, state, holds_still}
-use Rattle.adr_db.specs.declared.meta.FirstMeta.{FirstMeta}
 use Rattle.adr_db.specs.declared.meta.TheConstants.{READ}
 use Rattle.adr_db.specs.Tables.{schema}
 use Rattle.adr_db.specs.Admitted.{ReadsFirst}

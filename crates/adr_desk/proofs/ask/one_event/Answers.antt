@@ -7,13 +7,12 @@ use Rattle.adr_state.specs.declared.state.State.{State}
 use Rattle.adr_state.specs.ShownIds.{resource_part, event_part}
 use Rattle.adr_held.specs.Held.{kept_of}
 use Rattle.adr_held.proofs.HeldLemmas.{image_again}
-use Rattle.adr_db.proofs.Results.{handed_on, ok_then}
+use Rattle.adr_db.proofs.Results.{handed_on, ok_then, then_refused}
 use Rattle.adr_queries.specs.Replies.{reply}
 use Rattle.adr_queries.specs.Roles.{sight_of}
 use Rattle.adr_queries.specs.Shown.{event_named}
 use Rattle.adr_pages.proofs.EventLemmas.{event_is_row}
 use Rattle.adr_desk.proofs.AskLemmas.{each_listed}
-use Rattle.adr_desk.proofs.DecisionLemmas.{then_refused}
 use Rattle.adr_desk.proofs.ask.one_event.Goals as goal
 
 pub returns-in_err-sight-clause-refuses : goal.returns-in_err-sight-clause-refuses

@@ -6,11 +6,9 @@ use Rattle.adr_queries.specs.declared.query.Query.TheVariants as query
 use Rattle.adr_queries.specs.Roles.{is_operator}
 use Rattle.adr_queries.specs.Reported.{rollup_told}
 use Rattle.adr_queries.specs.Replies.{reply}
-use Rattle.adr_db.proofs.Results.{handed_on, refused_so}
-use Rattle.adr_reports.proofs.Testing.{passed, stopped}
+use Rattle.adr_db.proofs.Results.{handed_on, refused_so, found_so, passed, refused_then, stopped}
 use Rattle.adr_desk.proofs.ListedLemmas.{Listed, contained_listed, contained_all}
 use Rattle.adr_desk.proofs.ReplyLemmas.{rollup_listed, rollup_replied}
-use Rattle.adr_desk.proofs.StepLemmas.{found_so, refused_then}
 use Rattle.adr_desk.proofs.ask.rolled_up.Goals as goal
 
 -- another may not ask

@@ -1,13 +1,13 @@
 use Rattle.std.proofs.Common.{◌+◌, refl}
 use Rattle.std.proofs.lemmas.Result.{IfErr-weaker}
 use Rattle.adr_db.proofs.Common.{state, HasCleanDisk, scan_end}
-use Rattle.adr_db.proofs.Results.{handed_on, ok_then}
+use Rattle.adr_db.proofs.Results.{handed_on, ok_then, then_refused}
 use Rattle.adr_lent.proofs.Streams.{clean_before}
 use Rattle.adr_machine.specs.declared.command.Command.TheVariants.{ScanEnd}
 use Rattle.adr_machine.specs.Edits.{answered, edit, edit_of}
-use Rattle.adr_mirror.proofs.Keeping.{end_refused}
+use Rattle.adr_missed.proofs.Closing.{end_refused}
 use Rattle.adr_queries.specs.declared.answer.Answer.TheVariants as answer
-use Rattle.adr_desk.proofs.DecisionLemmas.{decision_refused, then_refused, told_refused}
+use Rattle.adr_desk.proofs.DecisionLemmas.{decision_refused, told_refused}
 use Rattle.adr_desk.proofs.DroppedLemmas.{dropped_whole, dropped_unchanged}
 use Rattle.adr_desk.proofs.ended.end_scan.Goals as goal
 

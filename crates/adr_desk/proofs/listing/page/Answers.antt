@@ -3,7 +3,7 @@ use Rattle.adr_db.proofs.Common.{state, HasCleanDisk}
 use Rattle.adr_text.specs.Refusals.{◌>>=◌}
 use Rattle.adr_objects.specs.declared.kind.Kind.TheVariants as kind
 use Rattle.adr_held.specs.Held.{kept_of}
-use Rattle.adr_db.proofs.Results.{handed_on}
+use Rattle.adr_db.proofs.Results.{handed_on, then_refused}
 use Rattle.adr_queries.specs.declared.answer.Answer.TheVariants as answer
 use Rattle.adr_queries.specs.Filters.{wanted_of}
 use Rattle.adr_queries.specs.Listings.{page_of}
@@ -13,7 +13,6 @@ use Rattle.adr_queries.specs.Shown.{objects_in_sight}
 use Rattle.adr_lent.proofs.Streams.{clean_before}
 use Rattle.adr_pages.specs.Objects.{object_kept}
 use Rattle.adr_pages.proofs.EventLemmas.{events_are_rows}
-use Rattle.adr_desk.proofs.DecisionLemmas.{then_refused}
 use Rattle.adr_desk.proofs.Transactions.{held_now}
 use Rattle.adr_desk.proofs.listing.page.Goals as goal
 

@@ -2,12 +2,12 @@ use Rattle.std.proofs.Common.{IsTrue, [], ◌∷◌, Some, Ok, refl, sym, ap, su
 use Rattle.adr_db.proofs.Common.{state, HasCleanDisk, IsRefusalOf, NoScan}
 use Rattle.adr_text.specs.Refusals.{◌>>=◌}
 use Rattle.adr_held.specs.Held.{beside_of, kept_of}
-use Rattle.adr_db.proofs.Results.{handed_on}
+use Rattle.adr_db.proofs.Results.{handed_on, then_refused}
 use Rattle.adr_queries.specs.declared.answer.Answer.TheVariants as answer
 use Rattle.adr_queries.specs.Replies.{reply}
 use Rattle.adr_lent.proofs.Streams.{clean_before}
-use Rattle.adr_mirror.specs.Missed.{missed}
-use Rattle.adr_desk.proofs.DecisionLemmas.{numbers_read, then_refused}
+use Rattle.adr_missed.specs.Missed.{missed}
+use Rattle.adr_desk.proofs.DecisionLemmas.{numbers_read}
 use Rattle.adr_desk.proofs.ListedLemmas.{Listed, either_listed}
 use Rattle.adr_desk.proofs.ReplyLemmas.{missed_told}
 use Rattle.adr_desk.proofs.Transactions.{held_now}

@@ -1,5 +1,6 @@
 use Rattle.std.proofs.Common.{inl, ℕ, List, Result, Ok, arith, refl, sym, ap, subst, ◌∙◌}
 use Rattle.adr_db.proofs.Common.{state, HasCleanDisk, Refusal, OutOfMemory, PortfolioChange}
+use Rattle.adr_db.proofs.Results.{then_refused}
 use Rattle.adr_objects.specs.declared.shown.FrozenObject.{FrozenObject}
 use Rattle.adr_state.specs.declared.base.Base.{Base}
 use Rattle.adr_view.specs.Frozen.{freeze}
@@ -9,7 +10,7 @@ use Rattle.adr_machine.specs.declared.outcome.Outcome.TheVariants as outcome
 use Rattle.adr_machine.specs.Edits.{of_portfolio, frozen_outcome}
 use Rattle.adr_desk.specs.Decisions.{CarriesOut}
 use Rattle.adr_desk.proofs.CoverLemmas.{freeze_covers}
-use Rattle.adr_desk.proofs.DecisionLemmas.{asks_nothing, change_carries, passed_carries, store_carries, then_refused}
+use Rattle.adr_desk.proofs.DecisionLemmas.{asks_nothing, change_carries, passed_carries, store_carries}
 use Rattle.adr_desk.proofs.sites.freeze.Goals as goal
 
 -- a refusal of the decision is handed on

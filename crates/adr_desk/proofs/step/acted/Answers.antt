@@ -1,6 +1,6 @@
 use Rattle.std.proofs.Common.{◌≡◌, Bool, true, false, cond, Err, sym, ap, subst, ◌∙◌}
 use Rattle.adr_db.proofs.Common.{state, Forbidden}
-use Rattle.adr_db.proofs.Results.{handed_on, refused_so}
+use Rattle.adr_db.proofs.Results.{handed_on, refused_so, passed, stopped}
 use Rattle.adr_state.specs.declared.state.State.{State}
 use Rattle.adr_machine.specs.Commands.{traits_of}
 use Rattle.adr_machine.specs.Edits.{is_allowed, is_delivery, edit_of, edit}
@@ -9,7 +9,6 @@ use Rattle.adr_machine.specs.Listed.{listed}
 use Rattle.adr_machine.proofs.Listed.{forbidden_listed}
 use Rattle.adr_desk.specs.Steps.{step_of, CommitsTables, RefusesToCommit}
 use Rattle.adr_desk.proofs.DeliveryLemmas.{delivery_commits, delivery_refused}
-use Rattle.adr_reports.proofs.Testing.{passed, stopped}
 use Rattle.adr_desk.proofs.ListedLemmas.{Listed, contained_listed}
 use Rattle.adr_desk.proofs.step.acted.Goals as goal
 

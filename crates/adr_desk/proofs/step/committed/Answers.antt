@@ -3,16 +3,16 @@ use Rattle.adr_text.specs.declared.refusal.Refusal.{Refusal}
 use Rattle.adr_state.specs.declared.base.Base.{Base}
 use Rattle.adr_db.proofs.Common.{state, HasCleanDisk}
 use Rattle.adr_db.specs.Bases.{kept_beside}
-use Rattle.adr_db.proofs.Results.{handed_on}
+use Rattle.adr_db.proofs.Results.{handed_on, found_so, refused_then, then_refused}
 use Rattle.adr_held.specs.Held.{beside_of}
 use Rattle.adr_outbox.specs.Turned.{with_outbox}
 use Rattle.adr_machine.specs.declared.outcome.Outcome.{Outcome}
 use Rattle.adr_machine.specs.Edits.{edit_of}
 use Rattle.adr_machine.specs.Listed.{listed}
-use Rattle.adr_desk.proofs.DecisionLemmas.{then_refused, numbers_read}
+use Rattle.adr_desk.proofs.DecisionLemmas.{numbers_read}
 use Rattle.adr_desk.proofs.ListedLemmas.{contained_all}
 use Rattle.adr_desk.proofs.MadeLemmas.{numbers_so, is_made}
-use Rattle.adr_desk.proofs.StepLemmas.{found_so, refused_then, telling_refused, is_committed, step_refused}
+use Rattle.adr_desk.proofs.StepLemmas.{telling_refused, is_committed, step_refused}
 use Rattle.adr_desk.proofs.step.committed.Goals as goal
 
 pub returns-in_err-said-clause-refuses : goal.returns-in_err-said-clause-refuses

@@ -1,6 +1,6 @@
 use Rattle.std.proofs.Common.{◌≡◌, true, Ok, Err, refl, sym, ap, subst, ◌∙◌, arith}
 use Rattle.adr_db.proofs.Common.{Forbidden}
-use Rattle.adr_db.proofs.Results.{handed_on, refused_so}
+use Rattle.adr_db.proofs.Results.{handed_on, refused_so, passed, stopped}
 use Rattle.adr_objects.specs.declared.counts.OutboxCounts.{OutboxCounts}
 use Rattle.adr_held.specs.Held.{kept_of}
 use Rattle.adr_queries.specs.Listed.{listed_for}
@@ -8,7 +8,6 @@ use Rattle.adr_queries.specs.declared.query.Query.TheVariants as query
 use Rattle.adr_queries.specs.Roles.{is_operator}
 use Rattle.adr_queries.specs.Replies.{reply}
 use Rattle.adr_queries.specs.declared.answer.Answer.TheVariants as answer
-use Rattle.adr_reports.proofs.Testing.{passed, stopped}
 use Rattle.adr_desk.proofs.ListedLemmas.{Listed, contained_listed}
 use Rattle.adr_desk.proofs.totals.counted.Goals as goal
 

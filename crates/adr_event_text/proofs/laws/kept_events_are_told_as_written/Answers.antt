@@ -1,4 +1,4 @@
-use Rattle.std.proofs.Common.{◌≡◌, ap, ◌∙◌}
+use Rattle.std.proofs.Common.{ap, ◌∙◌}
 use Rattle.adr_event_text.specs.Pieces.{notice_text}
 use Rattle.adr_event_text.proofs.PieceLemmas.{spliced_as_told, notice_as_told}
 use Rattle.adr_event_text.proofs.laws.kept_events_are_told_as_written.Goals as goal

@@ -1,4 +1,4 @@
-use Rattle.std.proofs.Common.{◌≡◌, ◌++◌, List, ℕ, codes, ap, ap₂, ◌∙◌}
+use Rattle.std.proofs.Common.{◌++◌, List, ℕ, codes, ap, ap₂, ◌∙◌}
 use Rattle.adr_event_text.specs.Pieces.{member_text, notice_text}
 use Rattle.adr_event_text.proofs.spliced.notice_bytes.Goals as goal
 

@@ -1,13 +1,11 @@
-use Rattle.std.proofs.Common.{◌≡◌, ℕ, List, Option, None, Some, Result, Ok, Err, refl, sym, ap, ◌∙◌, arith}
+use Rattle.std.proofs.Common.{◌≡◌, Option, None, Some, sym, ap, ◌∙◌, arith}
 use Rattle.std.proofs.lemmas.Result.{IfErr-weaker}
 use Rattle.adr_text.specs.Refusals.{◌>>=◌, or_else}
-use Rattle.adr_text.specs.declared.refusal.Refusal.{Refusal}
 use Rattle.adr_text.specs.declared.refusal.Refusal.TheVariants.{NotFound}
-use Rattle.adr_db.proofs.Common.{state, HasCleanDisk, at, mirror_cmp, PortfolioChange, IsRefusalOf}
+use Rattle.adr_db.proofs.Common.{state, HasCleanDisk, at, mirror_cmp}
 use Rattle.adr_db.specs.Bases.{kept_beside}
 use Rattle.adr_db.proofs.Results.{ok_then, refused_so}
 use Rattle.adr_objects.specs.declared.body.EventBody.{EventBody}
-use Rattle.adr_state.specs.declared.base.Mark.{Mark}
 use Rattle.adr_state.specs.declared.keys.MirrorKey.{MirrorKey}
 use Rattle.adr_view.specs.Frozen.{frozen_as}
 use Rattle.adr_view.specs.Rollups.{event_key, event_body, event_at}

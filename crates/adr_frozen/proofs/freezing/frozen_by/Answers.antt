@@ -1,11 +1,11 @@
 use Rattle.std.proofs.Common.{◌≡◌, true, ℕ, List, [], Ok, refl, sym, ap, subst, ◌∙◌, arith}
 use Rattle.std.proofs.lemmas.Result.{IfErr-weaker}
-use Rattle.adr_db.proofs.Common.{state, HasCleanDisk, IsRefusalOf}
+use Rattle.adr_db.proofs.Common.{state, HasCleanDisk}
 use Rattle.adr_db.specs.Bases.{kept_beside, with_base, HoldsBeside}
 use Rattle.adr_db.proofs.Results.{ok_then}
 use Rattle.adr_state.specs.declared.portfolio.Portfolio.{Portfolio}
 use Rattle.adr_state.specs.Frozen.{is_frozen, with_frozen}
-use Rattle.adr_state.specs.Portfolios.{PortfolioChange, Freeze}
+use Rattle.adr_state.specs.Portfolios.{Freeze}
 use Rattle.adr_view.proofs.FrozenLemmas.{still_frozen}
 use Rattle.adr_counted.proofs.Decided.{carried_as}
 use Rattle.adr_frozen.proofs.freezing.frozen_by.Goals as goal

@@ -1,10 +1,9 @@
-use Rattle.std.proofs.Common.{◌≡◌, ◌+◌, nat_lt, ℕ, List, length, Err, refl, sym, ap, ap₂, ◌∙◌}
+use Rattle.std.proofs.Common.{◌+◌, nat_lt, ℕ, List, length, Err, refl, sym, ap, ap₂, ◌∙◌}
 use Rattle.std.proofs.lemmas.Bool.{not-true, not-false}
 use Rattle.adr_db.proofs.Common.{LimitReached}
 use Rattle.adr_db.specs.declared.meta.Meta.{Meta}
-use Rattle.adr_db.proofs.Results.{handed_on, refused_so}
+use Rattle.adr_db.proofs.Results.{handed_on, refused_so, passed, stopped}
 use Rattle.adr_state.specs.Portfolios.{Freeze}
-use Rattle.adr_frozen.proofs.Deciding.{passed, stopped}
 use Rattle.adr_frozen.proofs.freezing.frozen_within.Goals as goal
 
 pub returns-in_err-unless-clause-refuses : goal.returns-in_err-unless-clause-refuses

@@ -1,5 +1,5 @@
-use Rattle.std.proofs.Common.{◌≡◌, ◌+◌, length, cond, [], ◌∷◌, refl, sym, ap, subst, ◌∙◌, arith}
-use Rattle.adr_db.proofs.Common.{state, HasCleanDisk, LimitReached, Dead, MirrorKey, raised, JoinMarks, gone}
+use Rattle.std.proofs.Common.{◌≡◌, ◌+◌, length, cond, [], ◌∷◌, refl, sym, ap, subst, ◌∙◌}
+use Rattle.adr_db.proofs.Common.{state, LimitReached, Dead, MirrorKey, raised, JoinMarks, gone}
 use Rattle.adr_db.specs.declared.meta.Meta.{Meta}
 use Rattle.adr_db.specs.Bases.{kept_beside}
 use Rattle.adr_db.proofs.Results.{handed_on, own_refuses}

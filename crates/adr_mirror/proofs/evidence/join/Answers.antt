@@ -1,4 +1,4 @@
-use Rattle.std.proofs.Common.{◌≡◌, ◌+◌, ◌++◌, [], ◌∷◌, take, sym, ap, subst, ◌∙◌, arith, refl}
+use Rattle.std.proofs.Common.{◌≡◌, ◌+◌, ◌++◌, [], ◌∷◌, take, sym, ap, subst, ◌∙◌, arith}
 use Rattle.adr_db.proofs.Common.{take_more, take_all, state, HasCleanDisk, key_of, mark_of, evidence_of, joined, lent_itself, lent_then}
 use Rattle.adr_db.specs.Kept.{Keeps}
 use Rattle.adr_mirror.specs.Raises.{HasRisen, with_joined}

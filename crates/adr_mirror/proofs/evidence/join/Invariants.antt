@@ -1,4 +1,4 @@
-use Rattle.std.proofs.Common.{◌≡◌, take, Ok}
+use Rattle.std.proofs.Common.{take, Ok}
 use Rattle.adr_db.proofs.Common.{state, HasCleanDisk, Refusal, LeavesLent, evidence_of, joined}
 use Rattle.adr_db.specs.Kept.{Kept, Keeps}
 use Rattle.adr_mirror.specs.Raises.{HasRisen, with_joined}

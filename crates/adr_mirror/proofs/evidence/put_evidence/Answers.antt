@@ -1,6 +1,6 @@
-use Rattle.std.proofs.Common.{◌≡◌, ◌+◌, ◌&&◌, Bool, length, sym, ap, subst, ◌∙◌, arith}
+use Rattle.std.proofs.Common.{◌≡◌, ◌&&◌, Bool, sym, ap, subst, ◌∙◌, arith}
 use Rattle.std.specs.Prelude.{is_some}
-use Rattle.adr_db.proofs.Common.{state, HasCleanDisk, IsRefusalOf, LimitReached, evidence_of, joined, JoinMarks, evidence, scan_with}
+use Rattle.adr_db.proofs.Common.{state, HasCleanDisk, LimitReached, evidence_of, joined, JoinMarks, evidence, scan_with}
 use Rattle.adr_db.specs.declared.meta.Meta.{Meta}
 use Rattle.adr_db.specs.Kept.{Keeps}
 use Rattle.adr_db.specs.Bases.{kept_beside}

@@ -1,4 +1,4 @@
-use Rattle.std.proofs.Common.{[], Some, true, refl, ap, ◌∙◌}
+use Rattle.std.proofs.Common.{[], Some, true, refl, ap}
 use Rattle.adr_state.specs.BaseChanges.{SetScan}
 use Rattle.adr_db.specs.declared.meta.Meta.{Meta}
 use Rattle.adr_db.specs.Bases.{kept_beside}
@@ -7,10 +7,10 @@ use Rattle.adr_mirror.proofs.scan.scan_begin.Goals as goal
 
 pub returns-clause-makes : goal.returns-clause-makes
 returns-clause-makes g c clean =
-    ok_from c.set_scan.result (λ x leaves beside base was same. record {
+    ok_from c.clear_polled.result (λ x leaves beside base was same. record {
       change = SetScan (Some []);
       decided = refl;
       holds = leaves (kept_beside beside base) was;
-      counted = c.set_scan.ensures.noted ∙ ap (λ (m : Meta). let after : Meta = record m { scan = true } in after) same;
+      counted = ap (λ (m : Meta). let after : Meta = record m { scan = true } in after) same;
       right = tt;
-    }) (c.set_scan.ensures.leaves clean)
+    }) (c.clear_polled.ensures.leaves clean)

@@ -2,7 +2,7 @@ use Rattle.std.proofs.Common.{None, false, ap}
 use Rattle.adr_db.proofs.Common.{SetScan}
 use Rattle.adr_db.specs.declared.meta.Meta.{Meta}
 use Rattle.adr_db.specs.Bases.{kept_beside}
-use Rattle.adr_mirror.proofs.Keeping.{scan_closes, closing_is}
+use Rattle.adr_missed.proofs.Closing.{scan_closes, closing_is}
 use Rattle.adr_missed.proofs.missed.scan_shut.Goals as goal
 
 pub returns-clause-shuts : goal.returns-clause-shuts

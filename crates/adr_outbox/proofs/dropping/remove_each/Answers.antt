@@ -1,4 +1,4 @@
-use Rattle.std.proofs.Common.{[], ◌∷◌, sym, subst, ◌∙◌, arith}
+use Rattle.std.proofs.Common.{[], ◌∷◌, sym, subst, arith}
 use Rattle.std.proofs.lemmas.Grind.{fold-append}
 use Rattle.adr_db.proofs.Common.{state, HasCleanDisk, lent_then}
 use Rattle.adr_db.specs.Kept.{Keeps}

@@ -1,4 +1,4 @@
-use Rattle.std.proofs.Common.{◌≡◌, Ok}
+use Rattle.std.proofs.Common.{Ok}
 use Rattle.adr_db.proofs.Common.{state, HasCleanDisk, Refusal, LeavesLent}
 use Rattle.adr_db.specs.Kept.{Kept, Keeps}
 use Rattle.adr_outbox.specs.Dropped.{without_entries}

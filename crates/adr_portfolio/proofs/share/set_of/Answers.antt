@@ -5,9 +5,7 @@ use Rattle.adr_text.specs.declared.refusal.Refusal.TheVariants.{BadShare}
 use Rattle.adr_state.specs.Shares.{share_object}
 use Rattle.adr_state.specs.Weights.{most_weight}
 use Rattle.adr_db.proofs.Common.{Refusal, PortfolioChange}
-use Rattle.adr_db.proofs.Results.{handed_on, refused_so}
-use Rattle.adr_counted.proofs.Decided.{then_refused}
-use Rattle.adr_portfolio.proofs.Decisions.{passed, stopped}
+use Rattle.adr_db.proofs.Results.{handed_on, refused_so, passed, stopped, then_refused}
 use Rattle.adr_portfolio.proofs.share.set_of.Goals as goal
 
 -- a share that passes is no larger than the largest

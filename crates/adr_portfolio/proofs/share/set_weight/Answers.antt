@@ -5,8 +5,8 @@ use Rattle.adr_db.proofs.Common.{state, HasCleanDisk, LimitReached, PutShare, Dr
 use Rattle.adr_db.specs.declared.meta.Meta.{Meta}
 use Rattle.adr_db.specs.Bases.{kept_beside}
 use Rattle.adr_db.specs.BaseCalls.{IsCounted}
-use Rattle.adr_db.proofs.Results.{handed_on, on_then, refused_so}
-use Rattle.adr_portfolio.proofs.Decisions.{beyond_is, passed, stopped}
+use Rattle.adr_db.proofs.Results.{handed_on, on_then, refused_so, passed, stopped}
+use Rattle.adr_portfolio.proofs.Decisions.{beyond_is}
 use Rattle.adr_portfolio.proofs.share.set_weight.Goals as goal
 
 pub returns-then-share-eq0-clause-sets : goal.returns-then-share-eq0-clause-sets

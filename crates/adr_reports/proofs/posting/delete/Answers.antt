@@ -1,13 +1,13 @@
 use Rattle.std.proofs.Common.{Option, ℕ, Err, sym, ap, subst, ◌∙◌, arith}
 use Rattle.adr_db.proofs.Common.{state, HasCleanDisk, number_in, IsRefusalOf, Forbidden}
 use Rattle.adr_db.specs.Bases.{kept_beside}
-use Rattle.adr_db.proofs.Results.{handed_on, ok_then, refused_so}
+use Rattle.adr_db.proofs.Results.{handed_on, ok_then, refused_so, err_then, passed, stopped}
 use Rattle.adr_state.specs.declared.portfolio.Report.{Report}
 use Rattle.adr_view.specs.Reports.{sees_resource}
 use Rattle.adr_counted.proofs.Decided.{carried_as}
 use Rattle.adr_counted.proofs.Known.{found_there}
 use Rattle.adr_reports.specs.Decided.{resource_of, removed}
-use Rattle.adr_reports.proofs.Testing.{passed, stopped, behind, err_then}
+use Rattle.adr_reports.proofs.Testing.{behind}
 use Rattle.adr_reports.proofs.posting.delete.Goals as goal
 
 pub returns-in_err-unless-clause-refuses : goal.returns-in_err-unless-clause-refuses

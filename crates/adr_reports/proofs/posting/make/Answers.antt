@@ -4,9 +4,8 @@ use Rattle.std.proofs.lemmas.Bool.{not-true, not-false}
 use Rattle.adr_db.proofs.Common.{state, HasCleanDisk, LimitReached}
 use Rattle.adr_db.specs.declared.meta.Meta.{Meta}
 use Rattle.adr_db.specs.Bases.{kept_beside}
-use Rattle.adr_db.proofs.Results.{handed_on, ok_then, refused_so}
-use Rattle.adr_counted.proofs.Decided.{carried_as, then_refused}
-use Rattle.adr_reports.proofs.Testing.{passed, stopped}
+use Rattle.adr_db.proofs.Results.{handed_on, ok_then, refused_so, passed, stopped, then_refused}
+use Rattle.adr_counted.proofs.Decided.{carried_as}
 use Rattle.adr_reports.proofs.posting.make.Goals as goal
 
 pub returns-in_err-on-clause-refuses : goal.returns-in_err-on-clause-refuses

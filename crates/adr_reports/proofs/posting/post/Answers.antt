@@ -1,9 +1,9 @@
 use Rattle.std.proofs.Common.{Err, refl, sym, ap, ◌∙◌, arith}
 use Rattle.adr_db.proofs.Common.{state, HasCleanDisk, Forbidden}
 use Rattle.adr_db.specs.Bases.{kept_beside}
-use Rattle.adr_db.proofs.Results.{handed_on, ok_then, refused_so}
+use Rattle.adr_db.proofs.Results.{handed_on, ok_then, refused_so, err_then, passed, stopped}
 use Rattle.adr_counted.proofs.Decided.{carried_as}
-use Rattle.adr_reports.proofs.Testing.{passed, stopped, behind, err_then}
+use Rattle.adr_reports.proofs.Testing.{behind}
 use Rattle.adr_reports.proofs.posting.post.Goals as goal
 
 pub returns-in_err-unless-clause-refuses : goal.returns-in_err-unless-clause-refuses

@@ -1,11 +1,10 @@
 use Rattle.std.proofs.Common.{ap, sym, subst, arith}
 use Rattle.adr_db.proofs.Common.{state, HasCleanDisk, number_in, IsRefusalOf}
 use Rattle.adr_db.specs.Bases.{kept_beside}
-use Rattle.adr_db.proofs.Results.{ok_then}
+use Rattle.adr_db.proofs.Results.{ok_then, err_then}
 use Rattle.adr_counted.proofs.Decided.{carried_as}
 use Rattle.adr_counted.proofs.Known.{found_there}
 use Rattle.adr_reports.specs.Decided.{replaced}
-use Rattle.adr_reports.proofs.Testing.{err_then}
 use Rattle.adr_reports.proofs.posting.put.Goals as goal
 
 pub returns-clause-carries : goal.returns-clause-carries

@@ -1,8 +1,8 @@
 use Rattle.std.proofs.Common.{refl, arith}
 use Rattle.adr_db.proofs.Common.{state, HasCleanDisk}
 use Rattle.adr_db.specs.Bases.{kept_beside}
-use Rattle.adr_db.proofs.Results.{handed_on, ok_then}
-use Rattle.adr_counted.proofs.Decided.{carried_as, then_refused}
+use Rattle.adr_db.proofs.Results.{handed_on, ok_then, then_refused}
+use Rattle.adr_counted.proofs.Decided.{carried_as}
 use Rattle.adr_reports.proofs.posting.put_at.Goals as goal
 
 pub returns-in_err-on-clause-refuses : goal.returns-in_err-on-clause-refuses

@@ -3,13 +3,13 @@ use Rattle.adr_text.specs.Refusals.{◌>>=◌}
 use Rattle.adr_text.specs.declared.refusal.Refusal.TheVariants.{NotFound}
 use Rattle.adr_db.proofs.Common.{state, HasCleanDisk, Refusal, IsRefusalOf, Forbidden}
 use Rattle.adr_db.specs.Bases.{kept_beside}
-use Rattle.adr_db.proofs.Results.{handed_on, ok_then, refused_so}
+use Rattle.adr_db.proofs.Results.{handed_on, ok_then, refused_so, err_then, passed, stopped}
 use Rattle.adr_state.specs.declared.portfolio.Report.{Report}
 use Rattle.adr_view.specs.Reports.{sees_resource, may_report}
 use Rattle.adr_counted.proofs.Decided.{carried_as}
 use Rattle.adr_counted.proofs.Known.{one_there}
 use Rattle.adr_reports.specs.Decided.{resource_of, put_again}
-use Rattle.adr_reports.proofs.Testing.{passed, stopped, behind, err_then}
+use Rattle.adr_reports.proofs.Testing.{behind}
 use Rattle.adr_reports.proofs.posting.put_found.Goals as goal
 
 pub returns-in_err-unless-clause-refuses : goal.returns-in_err-unless-clause-refuses

@@ -1,6 +1,6 @@
 use Rattle.std.proofs.lemmas.Result.{err_from_is_err_and}
 use Rattle.std.proofs.lemmas.List.{drop_all}
-use Rattle.std.proofs.Common.{map, drop, ap, subst, arith, rules, drop-cons, add-one, suc}
+use Rattle.std.proofs.Common.{map, drop, ap, subst, arith, drop-cons, add-one, suc}
 use Rattle.adr_sql.proofs.Common.{HasCleanDisk, state}
 use Rattle.adr_sql.specs.Creations.{IsUnderWay}
 use Rattle.adr_sql.proofs.Creations.{makes_one, all_made, HaveRun, one_ran, one_failed}

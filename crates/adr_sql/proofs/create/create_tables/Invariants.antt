@@ -1,4 +1,4 @@
-use Rattle.std.proofs.Common.{◌≡◌, List, map, drop, Ok, IsTrue}
+use Rattle.std.proofs.Common.{List, map, drop, Ok, IsTrue}
 use Rattle.sqlite.specs.Table.{Table}
 use Rattle.adr_sql.proofs.Common.{state, HasCleanDisk, Error}
 use Rattle.sqlite.specs.Schema.{Schema}

@@ -1,5 +1,3 @@
-use Rattle.std.proofs.Common.{ap, subst, sym}
-use Rattle.adr_touched.specs.Answers.{HasEvents}
 use Rattle.adr_touched.proofs.FrozenFound.{keys_has}
 use Rattle.adr_touched.proofs.frozen.events_frozen_for.Goals as goal
 

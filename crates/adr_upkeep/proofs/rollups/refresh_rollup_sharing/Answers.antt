@@ -26,7 +26,7 @@ returns-clause-refreshes g c clean owner rows beside before base was keeps right
     let first : HasCleanDisk (state g.S.Store c.read_rollup.new.tx.conn.now) = omega (arith, second, c.read_stamps_of.ensures.lent.stays.crash.clean) in
     let one = c.in_ok-old.ensures.finds first kept was in
     let two = c.in_ok-stamps.ensures.finds second kept one.1 in
-    let three = c.in_ok-new.ensures.finds third beside base two.1 right in
+    let three = c.in_ok-new.ensures.finds third kept two.1 right in
     let four = c.in_ok-operation.ensures.turns clean kept three.2 in
     let old : option_copied c.as_ref.result ≡ at id_cmp id beside.rollups = c.as_ref.ensures.value ∙ one.0 in
     let stamps : option_copied c.as_ref-2.result ≡ at view_cmp (key.Rollup id) beside.stamps = c.as_ref-2.ensures.value ∙ two.0 ∙ ap (λ e. at view_cmp (key.Rollup e) beside.stamps) c.in_ok-copy.ensures in

@@ -1,4 +1,4 @@
-use Rattle.std.proofs.Common.{rules, Some, None}
+use Rattle.std.proofs.Common.{rules}
 use Rattle.adr_wire.proofs.PartByPart.{one_part, last_part}
 use Rattle.adr_wire.proofs.cuts.parts.Goals as goal
 

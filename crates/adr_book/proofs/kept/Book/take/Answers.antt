@@ -1,13 +1,11 @@
-use Rattle.std.proofs.Common.{◌≡◌, ◌≤◌, [], ◌∷◌, ◌++◌, ◌+◌, List, ℕ, Some, length, refl, sym, ap, ap₂, subst, ◌∙◌}
+use Rattle.std.proofs.Common.{[], ◌∷◌, ◌++◌, ◌+◌, length, refl, sym, ap, ◌∙◌}
 use Rattle.adr_text.specs.declared.refusal.Refusal.TheVariants.{TrailFull, Stale}
 use Rattle.adr_queries.specs.Listed.{IsListed}
-use Rattle.adr_machine.specs.declared.command.Command.{Command}
 use Rattle.adr_machine.specs.Listed.{listed}
 use Rattle.adr_machine.proofs.Listed.{listed_of_machine}
 use Rattle.adr_book.specs.Entry.{entry_to_step, IsOfDesk}
 use Rattle.adr_book.specs.Receipts.{receipt_of}
-use Rattle.adr_book.specs.Trail.{led}
-use Rattle.adr_book.proofs.Leading.{led_more, led_same, led_moved}
+use Rattle.adr_book.proofs.Leading.{led_more, led_moved}
 use Rattle.adr_book.proofs.Placed.{step_places, step_confirms, place_moved}
 use Rattle.adr_book.proofs.Listing.{handed_on, listed_behind, of_desk, ends_after, entry_listed}
 use Rattle.adr_book.proofs.kept.Book.take.Goals as goal

@@ -1,4 +1,4 @@
-use Rattle.adr_server.proofs.office_taker.take_asked.Goals as goal
+use Rattle.adr_server.proofs.office_taker.ask_office.Goals as goal
 
 -- a page is a command
 pub returns-in-Page-clause-outcome : goal.returns-in-Page-clause-outcome

@@ -7,7 +7,10 @@ ghost use Rattle.adr_state.specs.Resources.{resource_with_id};
 ghost use Rattle.adr_state.specs.Subs.{sub_with_id};
 ghost use Rattle.adr_view.specs.Reports.{report_with_id};
 
-use adr_db_portfolio::{read_report, read_resource, read_sub, read_ven};
+use crate::report::read_report;
+use crate::resource::read_resource;
+use crate::sub::read_sub;
+use crate::ven::read_ven;
 use adr_objects::Number;
 use adr_state::{Report, Resource, Ven, number_in};
 use adr_subscription::Sub;
@@ -15,8 +18,8 @@ use adr_text::{ObjectId, Refusal};
 use sqlite::{Alter, Transaction};
 use std::alloc::Global;
 
-/// With its number, where it is there.
-pub(crate) fn numbered<T: Drop>(number: Number, found: Option<T>) -> Option<(Number, T)>
+// With its number, where it is there.
+fn numbered<T: Drop>(number: Number, found: Option<T>) -> Option<(Number, T)>
     ensures { result ≡ option_map (λ object. (number, object)) found }
 {
     match found {
@@ -26,7 +29,7 @@ pub(crate) fn numbered<T: Drop>(number: Number, found: Option<T>) -> Option<(Num
 }
 
 /// The ven of an id with its number, where it is there.
-pub(crate) fn ven_with_id<S: Alter>(
+pub fn ven_with_id<S: Alter>(
     alloc: Global,
     tx: &mut Transaction<'_, S>,
     id: &ObjectId,
@@ -60,7 +63,7 @@ pub fn ven_at<S: Alter>(
 }
 
 /// The resource of an id with its number, where it is there.
-pub(crate) fn resource_with_id<S: Alter>(
+pub fn resource_with_id<S: Alter>(
     alloc: Global,
     tx: &mut Transaction<'_, S>,
     id: &ObjectId,
@@ -77,7 +80,7 @@ pub(crate) fn resource_with_id<S: Alter>(
 }
 
 /// The subscription of an id with its number, where it is there.
-pub(crate) fn sub_with_id<S: Alter>(
+pub fn sub_with_id<S: Alter>(
     alloc: Global,
     tx: &mut Transaction<'_, S>,
     id: &ObjectId,
@@ -94,7 +97,7 @@ pub(crate) fn sub_with_id<S: Alter>(
 }
 
 /// The report of an id with its number, where it is there.
-pub(crate) fn report_with_id<S: Alter>(
+pub fn report_with_id<S: Alter>(
     alloc: Global,
     tx: &mut Transaction<'_, S>,
     id: &ObjectId,
