@@ -40,7 +40,7 @@ The switches. All are off at first; absent, `null` and `false` are off.
                    is known of it; a notification of it is taken here, and a line at WARN tells of each version. A
                    DELETE is passed on. What was for the sites before stays as it was: have the utility delete it
 
-Five more are for a node below a node (docs/SCALING.md), where the utility is the node above:
+Five more are for a node below a node (examples/tree/README.md), where the utility is the node above:
 
     stripTargets   {"VEN_NAME": "below", "RESOURCE_NAME": "below-sum"}, one of them or both: the names that this ven and
                    its resource have up there. A target of that type with that name among its values is taken off, of

@@ -570,7 +570,7 @@ function showState(state) {
 
 async function lookAtState() {
   const state = await ask("GET", "state").catch((fault) => {
-    noState = fault.status === 404 ? "The front has no figures (docs/RUNNING.md, \"Figures\")." : `The figures don't come: ${fault.message}.`;
+    noState = fault.status === 404 ? "The front has no figures (docs/operate.md, \"Figures and alerts\")." : `The figures don't come: ${fault.message}.`;
     return null;
   });
   const [kind, words] = state ? linked(state) : ["", ""];
